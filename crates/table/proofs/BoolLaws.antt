@@ -1,0 +1,25 @@
+-- What a test that is an `||`, an `&&` or a negation says of its parts. By cases. Assumes nothing.
+use mathlib.Core.Bool.{Bool, true, false, not, _&&_, _||_}
+use mathlib.Core.Path.{_≡_, refl, sym}
+
+pub or-false-left : (a b : Bool) → (a || b) ≡ false → a ≡ false
+or-false-left true b e = e
+or-false-left false b e = refl
+
+pub or-false-right : (a b : Bool) → (a || b) ≡ false → b ≡ false
+or-false-right true b e = let z : true ≡ false = e in cc
+or-false-right false b e = e
+
+pub or-both-false : (a b : Bool) → a ≡ false → b ≡ false → (a || b) ≡ false
+or-both-false a b p q = cc
+
+pub and-true-left : (a b : Bool) → (a && b) ≡ true → a ≡ true
+and-true-left true b e = refl
+and-true-left false b e = e
+
+pub and-true-right : (a b : Bool) → (a && b) ≡ true → b ≡ true
+and-true-right true b e = e
+and-true-right false b e = let z : false ≡ true = e in cc
+
+pub and-both-true : (a b : Bool) → a ≡ true → b ≡ true → (a && b) ≡ true
+and-both-true a b p q = cc

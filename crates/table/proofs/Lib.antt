@@ -1,0 +1,6 @@
+-- Laws of the definitions, and the steps that the proofs of several functions share.
+pub mod BoolLaws
+pub mod SomeLaws
+pub mod LayoutLaws
+pub mod NodeLaws
+pub mod ConditionLaws

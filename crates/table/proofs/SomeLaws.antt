@@ -1,0 +1,44 @@
+-- `someBelow n p` is true exactly if p holds of some number below n. By induction on n. Assumes nothing.
+use Prim.Native.Nat.{ℕ, zero, suc, _+_, _<_, _≤_}
+use mathlib.Core.Bool.{Bool, true, false, _||_, or-true}
+use mathlib.Core.Path.{_≡_, refl, sym, ap, _∙_}
+use native.Mathlib.Decide.{decLt}
+use native.Mathlib.Numerals.{add-one}
+use native.Mathlib.Omega.{arith}
+use Rattle.table.specs.Some.{someBelow}
+use Rattle.table.proofs.BoolLaws.{or-false-left, or-false-right, or-both-false}
+
+-- found
+pub some-here : (p : ℕ → Bool) (i n : ℕ) → i < n → p i ≡ true → someBelow n p ≡ true
+unfolding someBelow
+some-here p i zero h e = absurd (omega arith)
+some-here p i (suc n) h e = go (λ q. some-here p i n q e) (decLt i n)
+  where
+    go : (i < n → someBelow n p ≡ true) → Dec (i < n) → (someBelow n p || p n) ≡ true
+    go f (yes q) = rw (f q)
+    go f (no q) = let s : i ≡ n = omega arith in let f : p n ≡ true = ap p (sym s) ∙ e in rw f (or-true (someBelow n p))
+
+-- one more is none
+pub some-next : (p : ℕ → Bool) (i : ℕ) → someBelow i p ≡ false → p i ≡ false → someBelow (i + 1) p ≡ false
+unfolding someBelow
+some-next p i a b = rw add-one (or-both-false (someBelow i p) (p i) a b)
+
+-- none at all
+pub some-end : (p : ℕ → Bool) (i n : ℕ) → i ≤ n → n ≤ i → someBelow i p ≡ false → someBelow n p ≡ false
+some-end p i n a b e = let s : n ≡ i = omega arith in rw s e
+
+pub some-none : (p : ℕ → Bool) (n : ℕ) → ((i : ℕ) → i < n → p i ≡ false) → someBelow n p ≡ false
+unfolding someBelow
+some-none p zero h = refl
+some-none p (suc n) h =
+    or-both-false (someBelow n p) (p n) (some-none p n (λ i q. h i (omega arith))) (h n (omega arith))
+
+pub none-some : (p : ℕ → Bool) (n : ℕ) → someBelow n p ≡ false → (i : ℕ) → i < n → p i ≡ false
+unfolding someBelow
+none-some p zero e i h = absurd (omega arith)
+none-some p (suc n) e i h =
+    go (none-some p n (or-false-left (someBelow n p) (p n) e) i) (decLt i n)
+  where
+    go : (i < n → p i ≡ false) → Dec (i < n) → p i ≡ false
+    go f (yes q) = f q
+    go f (no q) = let s : i ≡ n = omega arith in rw s (or-false-right (someBelow n p) (p n) e)

@@ -1,0 +1,83 @@
+-- How a list of words is read as document 01's problem table.
+-- Where a table is refused, what is read past an end is 0 and of no account.
+use Prim.Native.Nat.{ℕ, zero, suc, _+_, _*_, _/_, _≤_, _<_}
+use mathlib.Core.List.{List, _++_}
+use lib.ListN.{length, getD, take, drop}
+use Rattle.table.specs.Limits.{headerWords, sections, nodeWords}
+
+-- The word at a place.
+abbrev pub word : List ℕ → ℕ → ℕ
+word t i = getD t i 0
+
+-- "six pairs of offset and length, both in words, sorted by offset: nodes, arguments, left terms, left labels, right terms, right labels"
+abbrev pub nodes : ℕ
+nodes = 0
+
+abbrev pub arguments : ℕ
+arguments = 1
+
+abbrev pub leftTerms : ℕ
+leftTerms = 2
+
+abbrev pub leftLabels : ℕ
+leftLabels = 3
+
+abbrev pub rightTerms : ℕ
+rightTerms = 4
+
+abbrev pub rightLabels : ℕ
+rightLabels = 5
+
+abbrev pub offset : List ℕ → ℕ → ℕ
+offset t k = word t (2 * k)
+
+abbrev pub size : List ℕ → ℕ → ℕ
+size t k = word t (2 * k + 1)
+
+-- The words of section k.
+abbrev pub section : List ℕ → ℕ → List ℕ
+section t k = take (size t k) (drop (offset t k) t)
+
+-- Pair k stands in the table.
+pub record HasPair (t : List ℕ) (k : ℕ) : Type 0 where
+  pub header : headerWords ≤ length t
+  pub known : k < sections
+
+-- Section k lies inside the table.
+pub record HasSection (t : List ℕ) (k : ℕ) : Type 0 where
+  pub pair : HasPair t k
+  pub inside : offset t k + size t k ≤ length t
+
+-- "A node is four words: kind, name, first, count. Nodes are numbered from 0." Node i of a nodes section.
+abbrev pub kindOf : List ℕ → ℕ → ℕ
+kindOf ns i = word ns (nodeWords * i)
+
+abbrev pub nameOf : List ℕ → ℕ → ℕ
+nameOf ns i = word ns (nodeWords * i + 1)
+
+abbrev pub firstOf : List ℕ → ℕ → ℕ
+firstOf ns i = word ns (nodeWords * i + 2)
+
+abbrev pub countOf : List ℕ → ℕ → ℕ
+countOf ns i = word ns (nodeWords * i + 3)
+
+-- How many nodes a nodes section holds.
+abbrev pub nodeCount : List ℕ → ℕ
+nodeCount ns = length ns / nodeWords
+
+-- "the sum of the earlier counts": of the nodes before node i
+unfoldable pub countsBefore : List ℕ → ℕ → ℕ
+countsBefore ns zero = 0
+countsBefore ns (suc i) = countsBefore ns i + countOf ns i
+
+-- Argument j of node i: its arguments start at its first.
+abbrev pub argumentOf : List ℕ → List ℕ → ℕ → ℕ → ℕ
+argumentOf ns args i j = word args (firstOf ns i + j)
+
+-- The arguments of each node are a run inside the arguments section.
+pub record RunsInside (ns args : List ℕ) : Type 0 where
+  pub run : (i : ℕ) → i < nodeCount ns → firstOf ns i + countOf ns i ≤ length args
+
+-- The labels of the table: the left ones, then the right ones.
+abbrev pub labels : List ℕ → List ℕ
+labels t = section t leftLabels ++ section t rightLabels

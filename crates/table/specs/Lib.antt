@@ -1,0 +1,8 @@
+-- What a reader has to believe of the table, in document 01's order.
+pub mod Limits
+pub mod Some
+pub mod Layout
+pub mod Conditions
+pub mod Refusal
+pub mod Accepted
+pub mod Answer
