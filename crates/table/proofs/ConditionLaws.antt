@@ -1,112 +1,177 @@
--- The steps of the loops that try the conditions, over plain lists and numbers. Assumes nothing.
-use Prim.Native.Nat.{ℕ, zero, suc, _+_, _*_, _<_, _≤_}
-use mathlib.Core.Bool.{Bool, true, false, not, _||_, or-true}
-use mathlib.Core.Path.{_≡_, refl, sym, ap, _∙_}
-use mathlib.Core.List.{List}
+-- What it means that a condition does not hold, and back: each is a test of some of what acceptance means. Assumes nothing.
+use Prim.Native.Nat.{ℕ, zero, suc, _+_, _-_, _*_, _/_, _%_, _<_, _≤_, min}
+use mathlib.Core.Bool.{Bool, true, false, not, _||_}
+use mathlib.Core.Path.{_≡_, refl, sym, ap, subst, _∙_}
+use mathlib.Core.Logic.{_↔_}
+use mathlib.Core.List.{List, [], _∷_, _++_}
 use native.Mathlib.Numerals.{add-one}
 use native.Mathlib.Omega.{arith}
-use borrow.Author.Tests.{eq-eqb, ne-eqb, le-leb, lt-leb}
-use lib.Dec.{eqb, ltb}
-use lib.ListN.{length}
-use Rattle.table.specs.Limits.{sections, maxCount, maxLabel}
+use borrow.Author.Tests.{eq-eqb, ne-eqb, lt-ltb, le-ltb, le-leb, lt-leb, ltb-false, leb-false, eqb-true, eqb-false, not-false, not-true}
+use lib.Dec.{eqb, leb, ltb}
+use lib.ListN.{length, take, drop, length-take, length-drop}
+use Rattle.table.specs.Limits.{headerWords, sections, nodeWords, maxNodes, maxArguments, maxTerms, maxLabels, maxLabel}
 use Rattle.table.specs.Some.{someBelow}
-use Rattle.table.specs.Layout.{word, offset, size, kindOf, nameOf, firstOf, countOf, nodeCount, countsBefore}
-use Rattle.table.specs.Conditions.{endBefore, offsetIsWrong, brokenPair, rightNode, nodeIsWrong, nodesAreWrong, argumentIsWrong, runIsWrong, termIsWrong, labelsAreEqual, labelIsWrong}
-use Rattle.table.proofs.SomeLaws.{some-here, some-next, some-end}
-use Rattle.table.proofs.NodeLaws.{right-node-means, right-count}
+use Rattle.table.specs.Layout.{word, nodes, arguments, leftTerms, leftLabels, rightTerms, rightLabels, offset, size, section, labels, kindOf, nameOf, firstOf, countOf, nodeCount, countsBefore, argumentOf}
+use Rattle.table.specs.Code.Reading.{HasPair, HasSection, Sectioned, RunsInside}
+use Rattle.table.specs.Conditions.{tooFewWords, endBefore, offsetIsWrong, brokenPair, overLimit, rightNode, nodeIsWrong, nodesAreWrong, wrongNode, argumentIsWrong, runIsWrong, wrongArgument, termIsWrong, wrongTerm, labelsAreEqual, labelIsWrong, wrongLabel}
+use Rattle.table.specs.Accepted.{RightNode, variable, constant, application, NodeIsRight}
+use Rattle.table.proofs.BoolLaws.{or-false-left, or-false-right, or-both-false}
+use Rattle.table.proofs.SomeLaws.{some-none, none-some}
+use Rattle.table.proofs.NodeLaws.{right-node-means, right-node-holds}
 
--- Refusal 2, at section k, with its offset and the end of the section before it.
-module _ (t : List ℕ) (k at end : ℕ) (here : at ≡ offset t k) (before : end ≡ endBefore t k) where
-  pub pair-wrong : k < sections → (at ≡ end → ⊥) → true ≡ brokenPair t
-  unfolding brokenPair offsetIsWrong
-  pair-wrong h d =
-      let e : eqb (offset t k) (endBefore t k) ≡ false = ne-eqb _ _ (λ q. d (here ∙ q ∙ sym before)) in
-      rw (some-here (offsetIsWrong t) k sections h (rw e))
+-- Refusal 2.
+pub offsets-right : (t : List ℕ) → brokenPair t ≡ false → (k : ℕ) → k < sections → offset t k ≡ endBefore t k
+unfolding brokenPair offsetIsWrong
+offsets-right t e k h =
+    eqb-true _ _ (not-false _ (none-some (offsetIsWrong t) sections (or-false-left _ (not (eqb (endBefore t sections) (length t))) e) k h))
 
-  pub pair-right : at ≡ end → someBelow k (offsetIsWrong t) ≡ false → someBelow (k + 1) (offsetIsWrong t) ≡ false
-  unfolding offsetIsWrong
-  pair-right q e =
-      let f : eqb (offset t k) (endBefore t k) ≡ true = eq-eqb _ _ (sym here ∙ q ∙ before) in
-      some-next (offsetIsWrong t) k e (rw f)
-
-  pub end-next : (n : ℕ) → n ≡ size t k → at + n ≡ endBefore t (k + 1)
-  unfolding endBefore
-  end-next n e = rw (add-one, here, e)
-
-pub pairs-end : (t : List ℕ) (k end : ℕ) → end ≡ endBefore t k → k ≤ sections → sections ≤ k → someBelow k (offsetIsWrong t) ≡ false → not (eqb end (length t)) ≡ brokenPair t
+pub end-right : (t : List ℕ) → brokenPair t ≡ false → endBefore t sections ≡ length t
 unfolding brokenPair
-pairs-end t k end e a b f =
-    let s : k ≡ sections = omega arith in
-    let d : end ≡ endBefore t sections = e ∙ ap (endBefore t) s in
-    rw (some-end (offsetIsWrong t) k sections a b f, d)
+end-right t e = eqb-true _ _ (not-false _ (or-false-right (someBelow sections (offsetIsWrong t)) _ e))
 
--- Refusal 4, at node i: its words, the sum of the earlier counts, and whether it is right.
-pub record NodeTested (ns : List ℕ) (i count earlier : ℕ) (r : Bool) : Type 0 where
-  pub kind : ℕ
-  pub name : ℕ
-  pub first : ℕ
-  pub the-kind : kind ≡ kindOf ns i
-  pub the-name : name ≡ nameOf ns i
-  pub the-first : first ≡ firstOf ns i
-  pub the-count : count ≡ countOf ns i
-  pub the-sum : earlier ≡ countsBefore ns i
-  pub tested : r ≡ rightNode kind name first count earlier
+pub pairs-right : (t : List ℕ) → ((k : ℕ) → k < sections → offset t k ≡ endBefore t k) → endBefore t sections ≡ length t → brokenPair t ≡ false
+unfolding brokenPair offsetIsWrong
+pairs-right t f e =
+    or-both-false _ _ (some-none (offsetIsWrong t) sections (λ k h. ap not (eq-eqb _ _ (f k h)))) (ap not (eq-eqb _ _ e))
 
-module _ {ns : List ℕ} {i count earlier : ℕ} {r : Bool} (s : NodeTested ns i count earlier r) where
-  whether : nodeIsWrong ns i ≡ not r
-  unfolding nodeIsWrong
-  whether = rw (← s .the-kind, ← s .the-name, ← s .the-first, ← s .the-count, ← s .the-sum, ← s .tested)
+-- A section ends where the next one starts, and the last at the table's end, so each lies inside.
+module _ (t : List ℕ) (follows : (k : ℕ) → k < rightLabels → offset t (k + 1) ≡ offset t k + size t k) (ends : offset t rightLabels + size t rightLabels ≡ length t) where
+  inside-by : (d k : ℕ) → k + d ≡ rightLabels → offset t k + size t k ≤ length t
+  inside-by zero k e = let s : k ≡ rightLabels = omega arith in rw s (let z : offset t rightLabels + size t rightLabels ≤ length t = omega arith in z)
+  inside-by (suc d) k e =
+      let i : offset t (k + 1) + size t (k + 1) ≤ length t = inside-by d (k + 1) (omega arith) in
+      omega (arith, follows k (omega arith))
 
-  pub node-wrong : i < nodeCount ns → r ≡ false → (size : ℕ) → true ≡ nodesAreWrong ns size
-  unfolding nodesAreWrong
-  node-wrong h q size = sym (rw (some-here (nodeIsWrong ns) i (nodeCount ns) h (whether ∙ ap not q)))
+  pub inside : (k : ℕ) → k < sections → offset t k + size t k ≤ length t
+  inside k h = inside-by (rightLabels - k) k (omega arith)
 
-  pub node-right : r ≡ true → someBelow i (nodeIsWrong ns) ≡ false → someBelow (i + 1) (nodeIsWrong ns) ≡ false
-  node-right q b = some-next (nodeIsWrong ns) i b (whether ∙ ap not q)
+pub section-size : (t : List ℕ) (k : ℕ) → offset t k + size t k ≤ length t → length (section t k) ≡ size t k
+section-size t k h = simp (length-take, length-drop) (omega arith)
 
-  pub count-small : r ≡ true → count ≤ maxCount
-  count-small q = right-count (right-node-means (s .kind) (s .name) (s .first) count earlier (sym (s .tested) ∙ q))
+-- Refusal 3.
+pub record WithinLimits (t : List ℕ) : Type 0 where
+  pub whole : size t nodes % nodeWords ≡ 0
+  pub for-nodes : size t nodes ≤ nodeWords * maxNodes
+  pub for-arguments : size t arguments ≤ maxArguments
+  pub for-left-terms : size t leftTerms ≤ maxTerms
+  pub for-left-labels : size t leftLabels ≤ maxLabels
+  pub for-right-terms : size t rightTerms ≤ maxTerms
+  pub for-right-labels : size t rightLabels ≤ maxLabels
 
-  pub earlier-next : earlier + count ≡ countsBefore ns (i + 1)
-  unfolding countsBefore
-  earlier-next = rw (add-one, s .the-sum, s .the-count)
+pub limits-kept : (t : List ℕ) → overLimit t ≡ false → WithinLimits t
+unfolding overLimit
+limits-kept t e₁ =
+    let a = not (eqb (size t nodes % nodeWords) 0) in
+    let b = a || ltb (nodeWords * maxNodes) (size t nodes) in
+    let c = b || ltb maxArguments (size t arguments) in
+    let d = c || ltb maxTerms (size t leftTerms) in
+    let e = d || ltb maxLabels (size t leftLabels) in
+    let f = e || ltb maxTerms (size t rightTerms) in
+    let e₂ = or-false-left f _ e₁ in
+    let e₃ = or-false-left e _ e₂ in
+    let e₄ = or-false-left d _ e₃ in
+    let e₅ = or-false-left c _ e₄ in
+    let e₆ = or-false-left b _ e₅ in
+    record {
+      whole = eqb-true _ _ (not-false _ (or-false-left a _ e₆));
+      for-nodes = ltb-false _ _ (or-false-right a _ e₆);
+      for-arguments = ltb-false _ _ (or-false-right b _ e₅);
+      for-left-terms = ltb-false _ _ (or-false-right c _ e₄);
+      for-left-labels = ltb-false _ _ (or-false-right d _ e₃);
+      for-right-terms = ltb-false _ _ (or-false-right e _ e₂);
+      for-right-labels = ltb-false _ _ (or-false-right f _ e₁);
+    }
 
-pub nodes-end : (ns : List ℕ) (i earlier size : ℕ) → earlier ≡ countsBefore ns i → i ≤ nodeCount ns → nodeCount ns ≤ i → someBelow i (nodeIsWrong ns) ≡ false → not (eqb earlier size) ≡ nodesAreWrong ns size
+pub limits-right : (t : List ℕ) → WithinLimits t → overLimit t ≡ false
+unfolding overLimit
+limits-right t l =
+    rw (
+      eq-eqb _ _ (l .whole),
+      le-ltb _ _ (l .for-nodes),
+      le-ltb _ _ (l .for-arguments),
+      le-ltb _ _ (l .for-left-terms),
+      le-ltb _ _ (l .for-left-labels),
+      le-ltb _ _ (l .for-right-terms),
+      le-ltb _ _ (l .for-right-labels),
+    )
+
+-- Refusal 4.
+pub nodes-kept : (ns : List ℕ) (n : ℕ) → nodesAreWrong ns n ≡ false → (i : ℕ) → i < nodeCount ns → NodeIsRight ns i
+unfolding nodesAreWrong nodeIsWrong
+nodes-kept ns n e i h =
+    right-node-means _ _ _ _ _
+    (not-false _ (none-some (nodeIsWrong ns) (nodeCount ns) (or-false-left _ (not (eqb (countsBefore ns (nodeCount ns)) n)) e) i h))
+
+pub counts-kept : (ns : List ℕ) (n : ℕ) → nodesAreWrong ns n ≡ false → countsBefore ns (nodeCount ns) ≡ n
 unfolding nodesAreWrong
-nodes-end ns i earlier size e a b f =
-    let s : earlier ≡ countsBefore ns (nodeCount ns) = e ∙ ap (countsBefore ns) (let q : i ≡ nodeCount ns = omega arith in q) in
-    rw (some-end (nodeIsWrong ns) i (nodeCount ns) a b f, s)
+counts-kept ns n e = eqb-true _ _ (not-false _ (or-false-right (someBelow (nodeCount ns) (nodeIsWrong ns)) _ e))
 
--- Refusal 5, at node i: its first, its count and one of its arguments.
-module _ (ns args : List ℕ) (i first count j : ℕ) (f : first ≡ firstOf ns i) (n : count ≡ countOf ns i) where
-  pub argument-wrong : j < count → (x : ℕ) → x ≡ word args (first + j) → i ≤ x → true ≡ runIsWrong ns args i
-  unfolding runIsWrong argumentIsWrong
-  argument-wrong h x e l =
-      let s : word args (first + j) ≡ word args (firstOf ns i + j) = ap (λ (k : ℕ). word args (k + j)) f in
-      sym (some-here (argumentIsWrong ns args i) j (countOf ns i) (omega arith) (le-leb i (word args (firstOf ns i + j)) (omega arith)))
+pub nodes-right : (ns : List ℕ) (n : ℕ) → ((i : ℕ) → i < nodeCount ns → NodeIsRight ns i) → countsBefore ns (nodeCount ns) ≡ n → nodesAreWrong ns n ≡ false
+unfolding nodesAreWrong nodeIsWrong
+nodes-right ns n f e =
+    or-both-false _ _
+    (some-none (nodeIsWrong ns) (nodeCount ns) (λ i h. ap not (right-node-holds _ _ _ _ _ (f i h))))
+    (ap not (eq-eqb _ _ e))
 
-  pub argument-right : (x : ℕ) → x ≡ word args (first + j) → x < i → someBelow j (argumentIsWrong ns args i) ≡ false → someBelow (j + 1) (argumentIsWrong ns args i) ≡ false
-  unfolding argumentIsWrong
-  argument-right x e l b =
-      let s : word args (first + j) ≡ word args (firstOf ns i + j) = ap (λ (k : ℕ). word args (k + j)) f in
-      some-next (argumentIsWrong ns args i) j b (lt-leb i (word args (firstOf ns i + j)) (omega arith))
+-- The sum of the earlier counts never falls, so each node's arguments are a run inside the section.
+counts-rise : (ns : List ℕ) (i d : ℕ) → countsBefore ns i ≤ countsBefore ns (i + d)
+unfolding countsBefore
+counts-rise ns i zero = let s : i + 0 ≡ i = omega arith in rw s (let z : countsBefore ns i ≤ countsBefore ns i = omega arith in z)
+counts-rise ns i (suc d) =
+    let s : i + suc d ≡ suc (i + d) = omega arith in
+    rw s (let z : countsBefore ns i ≤ countsBefore ns (i + d) + countOf ns (i + d) = omega (arith, counts-rise ns i d) in z)
 
-  pub arguments-end : j ≤ count → count ≤ j → someBelow j (argumentIsWrong ns args i) ≡ false → false ≡ runIsWrong ns args i
-  unfolding runIsWrong
-  arguments-end a b e = sym (some-end (argumentIsWrong ns args i) j (countOf ns i) (omega arith) (omega arith) e)
+run-inside : {k m f c e : ℕ} → RightNode k m f c e → (n : ℕ) → e + c ≤ n → f + c ≤ n
+run-inside (variable q a b d) n h = omega arith
+run-inside (constant q a b d) n h = omega arith
+run-inside (application q a b d g) n h = omega arith
 
--- Refusal 6, at term i.
-module _ (ts : List ℕ) (n i x : ℕ) (e : x ≡ word ts i) where
-  pub term-wrong : i < length ts → n ≤ x → true ≡ someBelow (length ts) (termIsWrong ts n)
-  unfolding termIsWrong
-  term-wrong h l = sym (some-here (termIsWrong ts n) i (length ts) h (le-leb n (word ts i) (omega arith)))
+pub runs-inside : (ns args : List ℕ) → ((i : ℕ) → i < nodeCount ns → NodeIsRight ns i) → countsBefore ns (nodeCount ns) ≡ length args → RunsInside ns args
+unfolding countsBefore
+runs-inside ns args f e = record { run = go }
+  where
+    go : (i : ℕ) → i < nodeCount ns → firstOf ns i + countOf ns i ≤ length args
+    go i h =
+        let s : suc i + (nodeCount ns - suc i) ≡ nodeCount ns = omega arith in
+        let r : countsBefore ns i + countOf ns i ≤ countsBefore ns (nodeCount ns) = subst (λ (k : ℕ). countsBefore ns i + countOf ns i ≤ countsBefore ns k) s (counts-rise ns (suc i) (nodeCount ns - suc i)) in
+        run-inside (f i h) (length args) (omega arith)
 
-  pub term-right : x < n → someBelow i (termIsWrong ts n) ≡ false → someBelow (i + 1) (termIsWrong ts n) ≡ false
-  unfolding termIsWrong
-  term-right l b = some-next (termIsWrong ts n) i b (lt-leb n (word ts i) (omega arith))
+-- Refusal 5.
+pub arguments-kept : (t : List ℕ) → wrongArgument t ≡ false → (i j : ℕ) → i < nodeCount (section t nodes) → j < countOf (section t nodes) i → argumentOf (section t nodes) (section t arguments) i j < i
+unfolding wrongArgument runIsWrong argumentIsWrong
+arguments-kept t e i j h g =
+    let ns = section t nodes in
+    let args = section t arguments in
+    leb-false _ _ (none-some (argumentIsWrong ns args i) (countOf ns i) (none-some (runIsWrong ns args) (nodeCount ns) e i h) j g)
 
--- Refusal 7, at label i, with whether it is repeated.
-module _ (ls : List ℕ) (i x : ℕ) (e : x ≡ word ls i) (r : Bool) (tested : r ≡ someBelow i (labelsAreEqual ls i)) where
-  pub label-tested : (eqb x 0 || ltb maxLabel x || r) ≡ labelIsWrong ls i
-  unfolding labelIsWrong
-  label-tested = rw (← e, tested)
+pub arguments-right : (t : List ℕ) → ((i j : ℕ) → i < nodeCount (section t nodes) → j < countOf (section t nodes) i → argumentOf (section t nodes) (section t arguments) i j < i) → wrongArgument t ≡ false
+unfolding wrongArgument runIsWrong argumentIsWrong
+arguments-right t f =
+    let ns = section t nodes in
+    let args = section t arguments in
+    some-none (runIsWrong ns args) (nodeCount ns) (λ i h. some-none (argumentIsWrong ns args i) (countOf ns i) (λ j g. lt-leb _ _ (f i j h g)))
+
+-- Refusal 6, on one side.
+pub terms-kept : (ts : List ℕ) (n : ℕ) → someBelow (length ts) (termIsWrong ts n) ≡ false → (i : ℕ) → i < length ts → word ts i < n
+unfolding termIsWrong
+terms-kept ts n e i h = leb-false _ _ (none-some (termIsWrong ts n) (length ts) e i h)
+
+pub terms-right : (ts : List ℕ) (n : ℕ) → ((i : ℕ) → i < length ts → word ts i < n) → someBelow (length ts) (termIsWrong ts n) ≡ false
+unfolding termIsWrong
+terms-right ts n f = some-none (termIsWrong ts n) (length ts) (λ i h. lt-leb _ _ (f i h))
+
+-- Refusal 7.
+pub label-kept : (ls : List ℕ) (i : ℕ) → labelIsWrong ls i ≡ false → ((0 < word ls i) × (word ls i ≤ maxLabel)) × ((j : ℕ) → j < i → word ls j ≡ word ls i → ⊥)
+unfolding labelIsWrong labelsAreEqual
+label-kept ls i e =
+    let a = eqb (word ls i) 0 in
+    let b = a || ltb maxLabel (word ls i) in
+    let l = or-false-left b _ e in
+    let z : word ls i ≡ 0 → ⊥ = eqb-false _ _ (or-false-left a _ l) in
+    ((omega arith, ltb-false _ _ (or-false-right a _ l)), (λ j h. eqb-false _ _ (none-some (labelsAreEqual ls i) i (or-false-right b _ e) j h)))
+
+pub label-right : (ls : List ℕ) (i : ℕ) → (0 < word ls i) × (word ls i ≤ maxLabel) → ((j : ℕ) → j < i → word ls j ≡ word ls i → ⊥) → labelIsWrong ls i ≡ false
+unfolding labelIsWrong labelsAreEqual
+label-right ls i r f =
+    let z : eqb (word ls i) 0 ≡ false = ne-eqb _ _ (λ (q : word ls i ≡ 0). omega arith) in
+    rw (z, le-ltb _ _ (r .1)) (some-none (labelsAreEqual ls i) i (λ j h. ne-eqb _ _ (f j h)))

@@ -4,3 +4,8 @@ pub mod SomeLaws
 pub mod LayoutLaws
 pub mod NodeLaws
 pub mod ConditionLaws
+pub mod SectionLaws
+pub mod RefusalLaws
+pub mod AcceptedLaws
+pub mod AnswerLaws
+pub mod LoopLaws

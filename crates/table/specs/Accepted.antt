@@ -12,30 +12,34 @@ pub data RightNode (kind name first count earlier : ℕ) : Type 0 where
   constant : kind ≡ 1 → name ≤ maxName → first ≡ 0 → count ≡ 0 → RightNode kind name first count earlier
   application : kind ≡ 1 → name ≤ maxName → first ≡ earlier → 0 < count → count ≤ maxCount → RightNode kind name first count earlier
 
+-- Node i of a nodes section.
+abbrev pub NodeIsRight : List ℕ → ℕ → Type 0
+NodeIsRight ns i = RightNode (kindOf ns i) (nameOf ns i) (firstOf ns i) (countOf ns i) (countsBefore ns i)
+
 pub record Accepted (t : List ℕ) : Type 0 where
-  -- "Words 0 to 11 are six pairs"
+  -- "Words 0 to 11 are six pairs of offset and length"
   pub header : headerWords ≤ length t
   -- "The first offset is 12. Each next offset is the end of the section before it. The last section ends at the end of the slice."
   pub begins : offset t nodes ≡ headerWords
   pub follows : (k : ℕ) → k < rightLabels → offset t (k + 1) ≡ offset t k + size t k
   pub ends : offset t rightLabels + size t rightLabels ≡ length t
-  -- "At most 256 nodes, 512 arguments, 8 terms a side, 4 labels a side."
-  pub whole : length (section t nodes) ≡ nodeWords * nodeCount (section t nodes)
+  -- "A node is four words"; "At most 256 nodes, 512 arguments, 8 terms a side, 4 labels a side."
+  pub whole-nodes : length (section t nodes) ≡ nodeWords * nodeCount (section t nodes)
   pub few-nodes : nodeCount (section t nodes) ≤ maxNodes
   pub few-arguments : length (section t arguments) ≤ maxArguments
   pub few-left-terms : length (section t leftTerms) ≤ maxTerms
   pub few-left-labels : length (section t leftLabels) ≤ maxLabels
   pub few-right-terms : length (section t rightTerms) ≤ maxTerms
   pub few-right-labels : length (section t rightLabels) ≤ maxLabels
-  -- "A node is four words: kind, name, first, count."
-  pub right-nodes : (i : ℕ) → i < nodeCount (section t nodes) → RightNode (kindOf (section t nodes) i) (nameOf (section t nodes) i) (firstOf (section t nodes) i) (countOf (section t nodes) i) (countsBefore (section t nodes) i)
+  -- kind, name, first and count of each node
+  pub each-node : (i : ℕ) → i < nodeCount (section t nodes) → NodeIsRight (section t nodes) i
   -- "the sum of all counts is the length of the arguments section"
   pub counts : countsBefore (section t nodes) (nodeCount (section t nodes)) ≡ length (section t arguments)
   -- "An argument is a node number smaller than that of the node it belongs to."
-  pub below : (i j : ℕ) → i < nodeCount (section t nodes) → j < countOf (section t nodes) i → argumentOf (section t nodes) (section t arguments) i j < i
+  pub each-argument : (i j : ℕ) → i < nodeCount (section t nodes) → j < countOf (section t nodes) i → argumentOf (section t nodes) (section t arguments) i j < i
   -- "A term is a node number"
-  pub left-nodes : (i : ℕ) → i < length (section t leftTerms) → word (section t leftTerms) i < nodeCount (section t nodes)
-  pub right-nodes′ : (i : ℕ) → i < length (section t rightTerms) → word (section t rightTerms) i < nodeCount (section t nodes)
+  pub each-left-term : (i : ℕ) → i < length (section t leftTerms) → word (section t leftTerms) i < nodeCount (section t nodes)
+  pub each-right-term : (i : ℕ) → i < length (section t rightTerms) → word (section t rightTerms) i < nodeCount (section t nodes)
   -- "A label is 1 to 65535 and stands once in the whole table."
-  pub label-range : (i : ℕ) → i < length (labels t) → (0 < word (labels t) i) × (word (labels t) i ≤ maxLabel)
-  pub label-once : (i j : ℕ) → i < j → j < length (labels t) → word (labels t) i ≡ word (labels t) j → ⊥
+  pub each-label : (i : ℕ) → i < length (labels t) → (0 < word (labels t) i) × (word (labels t) i ≤ maxLabel)
+  pub once : (i j : ℕ) → i < j → j < length (labels t) → word (labels t) i ≡ word (labels t) j → ⊥

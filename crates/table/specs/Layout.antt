@@ -1,9 +1,9 @@
 -- How a list of words is read as document 01's problem table.
 -- Where a table is refused, what is read past an end is 0 and of no account.
-use Prim.Native.Nat.{ℕ, zero, suc, _+_, _*_, _/_, _≤_, _<_}
+use Prim.Native.Nat.{ℕ, zero, suc, _+_, _*_, _/_}
 use mathlib.Core.List.{List, _++_}
 use lib.ListN.{length, getD, take, drop}
-use Rattle.table.specs.Limits.{headerWords, sections, nodeWords}
+use Rattle.table.specs.Limits.{nodeWords}
 
 -- The word at a place.
 abbrev pub word : List ℕ → ℕ → ℕ
@@ -38,16 +38,6 @@ size t k = word t (2 * k + 1)
 abbrev pub section : List ℕ → ℕ → List ℕ
 section t k = take (size t k) (drop (offset t k) t)
 
--- Pair k stands in the table.
-pub record HasPair (t : List ℕ) (k : ℕ) : Type 0 where
-  pub header : headerWords ≤ length t
-  pub known : k < sections
-
--- Section k lies inside the table.
-pub record HasSection (t : List ℕ) (k : ℕ) : Type 0 where
-  pub pair : HasPair t k
-  pub inside : offset t k + size t k ≤ length t
-
 -- "A node is four words: kind, name, first, count. Nodes are numbered from 0." Node i of a nodes section.
 abbrev pub kindOf : List ℕ → ℕ → ℕ
 kindOf ns i = word ns (nodeWords * i)
@@ -73,10 +63,6 @@ countsBefore ns (suc i) = countsBefore ns i + countOf ns i
 -- Argument j of node i: its arguments start at its first.
 abbrev pub argumentOf : List ℕ → List ℕ → ℕ → ℕ → ℕ
 argumentOf ns args i j = word args (firstOf ns i + j)
-
--- The arguments of each node are a run inside the arguments section.
-pub record RunsInside (ns args : List ℕ) : Type 0 where
-  pub run : (i : ℕ) → i < nodeCount ns → firstOf ns i + countOf ns i ≤ length args
 
 -- The labels of the table: the left ones, then the right ones.
 abbrev pub labels : List ℕ → List ℕ

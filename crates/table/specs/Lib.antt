@@ -6,3 +6,4 @@ pub mod Conditions
 pub mod Refusal
 pub mod Accepted
 pub mod Answer
+pub mod Code

@@ -2,6 +2,7 @@
 use Prim.Native.Nat.{ℕ}
 use mathlib.Core.Bool.{Bool, true, false, cond}
 use mathlib.Core.List.{List, [], _∷_}
+use mathlib.Core.Path.{_≡_}
 use Rattle.table.specs.Conditions.{tooFewWords, brokenPair, overLimit, wrongNode, wrongArgument, wrongTerm, wrongLabel}
 
 -- The conditions in the order in which they are tried, each with its number.
@@ -20,7 +21,8 @@ firstHeld (c ∷ cs) = cond (c .1) (c .0) (firstHeld cs)
 unfoldable pub refusal : List ℕ → ℕ
 refusal t = firstHeld (conditions t)
 
--- Condition n holds and none before it.
+-- Condition n holds and none before it; for n = 0, none holds.
 pub data First (n : ℕ) : List (ℕ × Bool) → Type 0 where
-  here : {cs : List (ℕ × Bool)} → First n ((n, true) ∷ cs)
-  later : {m : ℕ} {cs : List (ℕ × Bool)} → First n cs → First n ((m, false) ∷ cs)
+  here : {c : ℕ × Bool} {cs : List (ℕ × Bool)} → c .0 ≡ n → c .1 ≡ true → First n (c ∷ cs)
+  later : {c : ℕ × Bool} {cs : List (ℕ × Bool)} → c .1 ≡ false → First n cs → First n (c ∷ cs)
+  none : n ≡ 0 → First n []

@@ -5,17 +5,23 @@ ghost use mathlib.Core.List.{_++_};
 ghost use Prim.Native.Nat.{_+_, _*_, _≤_, _<_, _^_};
 ghost use lib.ListN.{length};
 ghost use Rattle.table.specs.Limits.{nodeWords, maxNodes};
-ghost use Rattle.table.specs.Layout.{HasPair, HasSection, word, offset as offsetOf, size as sizeOf, section as sectionOf, kindOf, nameOf, firstOf, countOf, nodeCount, argumentOf};
+ghost use Rattle.table.specs.Layout.{word, offset as offsetOf, size as sizeOf, section as sectionOf, kindOf, nameOf, firstOf, countOf, nodeCount};
+ghost use Rattle.table.specs.Code.Reading.{HasPair, HasSection};
 use crate::Label;
 use crate::Node;
 use crate::limits::NODE_WORDS;
 
 // The sections, by their place in document 01's order.
 pub const NODES: usize = 0;
+
 pub const ARGUMENTS: usize = 1;
+
 pub const LEFT_TERMS: usize = 2;
+
 pub const LEFT_LABELS: usize = 3;
+
 pub const RIGHT_TERMS: usize = 4;
+
 pub const RIGHT_LABELS: usize = 5;
 
 // A word as a number of words or an index.

@@ -2,6 +2,7 @@
 ghost use mathlib.Core.Path.{_≡_};
 ghost use Rattle.table.specs.Refusal.{refusal};
 ghost use Rattle.table.specs.Answer.{told, numberOf};
+use limits::HEADER_WORDS;
 
 // The numbers that document 01 fixes for a table.
 pub mod limits;
@@ -9,8 +10,10 @@ pub mod limits;
 // How sections, nodes and arguments are read.
 pub mod layout;
 
-// The conditions of the refusals.
+// The conditions of the refusals, and the tests of the sections that they are made of.
 mod conditions;
+mod nodes;
+mod sides;
 
 // The number of a node.
 pub struct Node(pub u32);
@@ -53,4 +56,32 @@ impl Refusal {
             Refusal::WrongLabel => 7,
         }
     }
+}
+
+// Checks a table: accepted, or the first refusal whose condition holds.
+pub fn check(table: &[u32]) -> Checked
+    ensures { λ r. ⌜ told r ≡ refusal (now (table .entry)) ⌝ }
+{
+    if table.len() < HEADER_WORDS {
+        return Checked::Refused(Refusal::TooFewWords);
+    }
+    if conditions::broken_pair(table) {
+        return Checked::Refused(Refusal::BrokenPair);
+    }
+    if conditions::over_limit(table) {
+        return Checked::Refused(Refusal::OverLimit);
+    }
+    if conditions::wrong_node(table) {
+        return Checked::Refused(Refusal::WrongNode);
+    }
+    if conditions::wrong_argument(table) {
+        return Checked::Refused(Refusal::WrongArgument);
+    }
+    if conditions::wrong_term(table) {
+        return Checked::Refused(Refusal::WrongTerm);
+    }
+    if conditions::wrong_label(table) {
+        return Checked::Refused(Refusal::WrongLabel);
+    }
+    Checked::Accepted
 }

@@ -9,7 +9,7 @@ use lib.Dec.{eqb}
 use Rattle.table.specs.Limits.{sections}
 use Rattle.table.specs.Some.{someBelow}
 use Rattle.table.specs.Conditions.{endBefore, offsetIsWrong, brokenPair}
-use Rattle.table.proofs.ConditionLaws.{pair-wrong, pair-right, end-next, pairs-end}
+use Rattle.table.proofs.LoopLaws.{pair-wrong, pair-right, end-next, pairs-end}
 use Rattle.table.proofs.conditions.broken_pair.Statement.{statement}
 use Rattle.table.proofs.conditions.broken_pair.Tie as tie
 use Rattle.table.proofs.conditions.broken_pair.Reads as reads

@@ -1,77 +1,32 @@
--- `table::conditions::wrong_label` meets its contract: no label so far is wrong. Assumes nothing.
-use Prim.Native.Nat.{_≤_, _<_, _-_}
-use mathlib.Core.Path.{_≡_, refl, sym, _∙_}
-use mathlib.Core.Bool.{false}
-use mathlib.Core.List.{_++_}
+-- `table::conditions::wrong_label` meets its contract: both sections are what the table says. Assumes nothing.
 use native.Mathlib.Omega.{arith}
-use borrow.Author.Needs.{needs}
-use lib.ListN.{length, length-append}
-use Rattle.table.specs.Some.{someBelow}
-use Rattle.table.specs.Conditions.{labelIsWrong}
-use Rattle.table.proofs.SomeLaws.{some-here, some-next, some-end}
-use Rattle.table.proofs.ConditionLaws.{label-tested}
+use Rattle.table.specs.Layout.{leftLabels, rightLabels}
+use Rattle.table.specs.Conditions.{wrongLabel}
+use Rattle.table.proofs.SectionLaws.{has-section, few-left-labels, few-right-labels}
 use Rattle.table.proofs.conditions.wrong_label.Statement.{statement}
 use Rattle.table.proofs.conditions.wrong_label.Tie as tie
 use Rattle.table.proofs.conditions.wrong_label.Reads as reads
 use Rattle.table.proofs.conditions.wrong_label.Lts as lts
-use Rattle.table.proofs.conditions.repeated_label.Reads as repeated-label-reads
-use Rattle.table.proofs.layout.label.Reads as label-reads
+use Rattle.table.proofs.layout.section.Reads as section-reads
+use Rattle.table.proofs.sides.wrong_labels.Reads as wrong-labels-reads
 
-abbrev Inv-loop : tie.InvT-loop
-Inv-loop left right n i₀ i = (i ≤ length (left ++ right)) × (someBelow i (labelIsWrong (left ++ right)) ≡ false)
+-- src/conditions.rt:98:9
+section-requires : tie.Need-section-requires
+section-requires c κs = has-section _ (c .before .pre) leftLabels (omega arith)
 
-abbrev μ-loop : tie.MeasureT-loop
-μ-loop left right n i₀ i = n - i
+-- src/conditions.rt:99:9
+section-requires-2 : tie.Need-section-requires-2
+section-requires-2 c κs = has-section _ (c .before .before .pre) rightLabels (omega arith)
 
--- src/conditions.rt:186:13
-add-n : tie.Need-add-n Inv-loop μ-loop
-add-n c = search needs
+-- src/conditions.rt:100:5
+wrong-labels-requires : tie.Need-wrong-labels-requires
+wrong-labels-requires c κs = let p = c .before .before .before .pre in rw (c .before .section .ensures, c .section2 .ensures) (few-left-labels _ p, few-right-labels _ p)
 
--- src/conditions.rt:188:5
-loop-holds : tie.Need-loop-holds Inv-loop μ-loop
-unfolding someBelow
-loop-holds c = (search needs, refl)
-
--- src/conditions.rt:189:13
-label-requires : tie.Need-label-requires Inv-loop μ-loop
-label-requires c κs = search needs
-
--- src/conditions.rt:190:53
-repeated-label-requires : tie.Need-repeated-label-requires Inv-loop μ-loop
-repeated-label-requires c κs = search needs
-
--- src/conditions.rt:191:13
-returns : tie.Need-returns Inv-loop μ-loop
-returns c = let l = c .before .before .before .before in let i = l .before .before .loop .i in let a = l .before .before .before .before .before .args in let ls = a .left .now ++ a .right .now in let h : i < length ls = simp length-append (omega arith) in sym (some-here (labelIsWrong ls) i _ h (sym (label-tested ls i _ (l .label .ensures) _ (c .before .repeated-label .ensures)) ∙ c .if1 .taken))
-
--- src/conditions.rt:193:9
-add-i : tie.Need-add-i Inv-loop μ-loop
-add-i c = search needs
-
--- src/conditions.rt:188:5
-loop-less : tie.Need-loop-less Inv-loop μ-loop
-loop-less c = search needs
-
--- src/conditions.rt:188:5
-loop-again : tie.Need-loop-again Inv-loop μ-loop
-loop-again c = let l = c .before .before .before .before in let i = l .before .before .loop .i in let a = l .before .before .before .before .before .args in let ls = a .left .now ++ a .right .now in (simp length-append (omega arith), some-next (labelIsWrong ls) i (l .before .before .loop .inv .1) (sym (label-tested ls i _ (l .label .ensures) _ (c .before .repeated-label .ensures)) ∙ c .if1 .left))
-
--- src/conditions.rt:182:1
-returns-2 : tie.Need-returns-2 Inv-loop μ-loop
-returns-2 c = let l = c .before .loop in sym (some-end _ (l .i) _ (l .inv .0) (simp length-append (omega arith)) (l .inv .1))
+-- src/conditions.rt:94:1
+returns : tie.Need-returns
+unfolding wrongLabel
+returns c = cc
 
 pub wrong-label-spec : {M : Type 1} → statement M
 wrong-label-spec =
-    tie.close
-    (tie.spec
-    Inv-loop
-    μ-loop
-    add-n
-    loop-holds
-    label-requires
-    repeated-label-requires
-    returns
-    add-i
-    loop-less
-    loop-again
-    returns-2)
+    tie.close (tie.spec section-requires section-requires-2 wrong-labels-requires returns)

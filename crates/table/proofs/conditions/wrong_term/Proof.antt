@@ -1,64 +1,54 @@
--- `table::conditions::wrong_term` meets its contract: no term so far is wrong. Assumes nothing.
-use Prim.Native.Nat.{_≤_, _-_}
-use mathlib.Core.Path.{_≡_, refl, sym}
-use mathlib.Core.Bool.{false}
+-- `table::conditions::wrong_term` meets its contract: both sections are what the table says. Assumes nothing.
+use native.Mathlib.Omega.{arith}
 use borrow.Author.Needs.{needs}
-use lib.ListN.{length}
-use Rattle.table.specs.Some.{someBelow}
-use Rattle.table.specs.Conditions.{termIsWrong}
-use Rattle.table.proofs.SomeLaws.{some-end}
-use Rattle.table.proofs.ConditionLaws.{term-wrong, term-right}
+use Rattle.table.specs.Layout.{nodes, leftTerms, rightTerms}
+use Rattle.table.specs.Conditions.{wrongTerm}
+use Rattle.table.proofs.SectionLaws.{has-section, few-node-words}
 use Rattle.table.proofs.conditions.wrong_term.Statement.{statement}
 use Rattle.table.proofs.conditions.wrong_term.Tie as tie
 use Rattle.table.proofs.conditions.wrong_term.Reads as reads
 use Rattle.table.proofs.conditions.wrong_term.Lts as lts
-use Rattle.table.proofs.layout.node_at.Reads as node-at-reads
+use Rattle.table.proofs.layout.node_count.Reads as node-count-reads
+use Rattle.table.proofs.layout.section.Reads as section-reads
+use Rattle.table.proofs.sides.wrong_terms.Reads as wrong-terms-reads
 
-abbrev Inv-loop : tie.InvT-loop
-Inv-loop terms n i₀ i = (i ≤ length terms) × (someBelow i (termIsWrong terms n) ≡ false)
+-- src/conditions.rt:87:32
+section-requires : tie.Need-section-requires
+section-requires c κs = has-section _ (c .before .pre) nodes (omega arith)
 
-abbrev μ-loop : tie.MeasureT-loop
-μ-loop terms n i₀ i = length terms - i
+-- src/conditions.rt:87:9
+node-count-requires : tie.Need-node-count-requires
+node-count-requires c κs = rw (c .section .ensures) (few-node-words _ (c .before .before .pre))
 
--- src/conditions.rt:154:5
-loop-holds : tie.Need-loop-holds Inv-loop μ-loop
-unfolding someBelow
-loop-holds c = (search needs, refl)
+-- src/conditions.rt:88:9
+section-requires-2 : tie.Need-section-requires-2
+section-requires-2 c κs = has-section _ (c .before .before .before .pre) leftTerms (omega arith)
 
--- src/conditions.rt:155:13
-node-at-requires : tie.Need-node-at-requires Inv-loop μ-loop
-node-at-requires c κs = search needs
+-- src/conditions.rt:89:9
+section-requires-3 : tie.Need-section-requires-3
+section-requires-3 c κs = has-section _ (c .before .before .before .before .pre) rightTerms (omega arith)
 
--- src/conditions.rt:157:13
-returns : tie.Need-returns Inv-loop μ-loop
-returns c = let b = c .before .before in term-wrong (b .before .before .before .before .args .terms .now) _ (b .before .before .loop .i) _ (b .node-at .ensures) (b .before .loop-test .taken) (c .if1 .taken)
+-- src/conditions.rt:90:5
+wrong-terms-requires : tie.Need-wrong-terms-requires
+wrong-terms-requires c κs = search needs
 
--- src/conditions.rt:159:9
-add-i : tie.Need-add-i Inv-loop μ-loop
-add-i c = search needs
+-- src/conditions.rt:90:28
+wrong-terms-requires-2 : tie.Need-wrong-terms-requires-2
+wrong-terms-requires-2 c κs = search needs
 
--- src/conditions.rt:154:5
-loop-less : tie.Need-loop-less Inv-loop μ-loop
-loop-less c = search needs
-
--- src/conditions.rt:154:5
-loop-again : tie.Need-loop-again Inv-loop μ-loop
-loop-again c = let b = c .before .before in (search needs, term-right _ _ (b .before .before .loop .i) _ (b .node-at .ensures) (c .if1 .left) (b .before .before .loop .inv .1))
-
--- src/conditions.rt:150:1
-returns-2 : tie.Need-returns-2 Inv-loop μ-loop
-returns-2 c = sym (some-end _ _ _ (c .before .loop .inv .0) (c .loop-test .left) (c .before .loop .inv .1))
+-- src/conditions.rt:83:1
+returns : tie.Need-returns
+unfolding wrongTerm
+returns c = cc
 
 pub wrong-term-spec : {M : Type 1} → statement M
 wrong-term-spec =
     tie.close
     (tie.spec
-    Inv-loop
-    μ-loop
-    loop-holds
-    node-at-requires
-    returns
-    add-i
-    loop-less
-    loop-again
-    returns-2)
+    section-requires
+    node-count-requires
+    section-requires-2
+    section-requires-3
+    wrong-terms-requires
+    wrong-terms-requires-2
+    returns)

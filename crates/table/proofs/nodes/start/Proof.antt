@@ -1,18 +1,18 @@
--- `table::conditions::start` meets its contract, by its test. Assumes nothing.
+-- `table::nodes::start` meets its contract, by its test. Assumes nothing.
 use mathlib.Core.Path.{sym}
 use borrow.Author.Tests.{eq-eqb, ne-eqb}
 use Rattle.table.specs.Conditions.{startOf}
-use Rattle.table.proofs.conditions.start.Statement.{statement}
-use Rattle.table.proofs.conditions.start.Tie as tie
-use Rattle.table.proofs.conditions.start.Reads as reads
-use Rattle.table.proofs.conditions.start.Lts as lts
+use Rattle.table.proofs.nodes.start.Statement.{statement}
+use Rattle.table.proofs.nodes.start.Tie as tie
+use Rattle.table.proofs.nodes.start.Reads as reads
+use Rattle.table.proofs.nodes.start.Lts as lts
 
--- src/conditions.rt:70:9
+-- src/nodes.rt:70:9
 returns : tie.Need-returns
 unfolding startOf
 returns c = sym (rw (eq-eqb _ _ (c .if1 .taken)))
 
--- src/conditions.rt:66:1
+-- src/nodes.rt:66:1
 returns-2 : tie.Need-returns-2
 unfolding startOf
 returns-2 c = sym (rw (ne-eqb _ _ (c .if1 .left)))

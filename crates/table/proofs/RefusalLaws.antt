@@ -1,0 +1,27 @@
+-- A refusal is given exactly if its condition holds and none before it. By induction on the conditions. Assumes nothing.
+use Prim.Native.Nat.{ℕ}
+use mathlib.Core.Bool.{Bool, true, false, cond}
+use mathlib.Core.Path.{_≡_, refl, sym, _∙_}
+use mathlib.Core.Logic.{_↔_}
+use mathlib.Core.List.{List, [], _∷_}
+use Rattle.table.specs.Refusal.{conditions, firstHeld, refusal, First, here, later, none}
+
+first-held : (n : ℕ) {cs : List (ℕ × Bool)} → First n cs → firstHeld cs ≡ n
+unfolding firstHeld
+first-held n (here e h) = rw h e
+first-held n (later h f) = rw h (first-held n f)
+first-held n (none e) = sym e
+
+held-first : (n : ℕ) (cs : List (ℕ × Bool)) → firstHeld cs ≡ n → First n cs
+unfolding firstHeld
+held-first n [] e = none (sym e)
+held-first n (c ∷ cs) e = pick (c .1) refl (held-first n cs)
+  where
+    pick : (b : Bool) → c .1 ≡ b → (firstHeld cs ≡ n → First n cs) → First n (c ∷ cs)
+    pick true h f = here (rw h at e) h
+    pick false h f = later h (f (rw h at e))
+
+-- refusal n is given exactly if condition n holds and none before it
+pub refused : (t : List ℕ) (n : ℕ) → refusal t ≡ n ↔ First n (conditions t)
+unfolding refusal
+refused t n = (held-first n (conditions t), first-held n)
