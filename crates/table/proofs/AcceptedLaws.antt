@@ -1,31 +1,31 @@
 -- A table gets no refusal exactly if all holds that acceptance means: no condition holds, and each says some of its fields.
 -- Assumes nothing.
 use Prim.Native.Nat.{ℕ, zero, suc, _+_, _*_, _/_, _%_, _<_, _≤_}
-use mathlib.Core.Bool.{Bool, false}
+use mathlib.Core.Bool.{Bool, false, _||_}
 use mathlib.Core.Path.{_≡_, refl, sym, ap, _∙_}
 use mathlib.Core.Logic.{_↔_}
-use mathlib.Core.List.{List, [], _∷_}
+use mathlib.Core.List.{List, [], _∷_, _++_}
 use native.Mathlib.Numerals.{add-one}
 use native.Mathlib.Omega.{arith}
-use borrow.Author.Tests.{le-ltb, ltb-false}
-use lib.ListN.{length}
-use Rattle.table.specs.Limits.{headerWords, sections}
+use borrow.Author.Tests.{le-ltb}
+use lib.ListN.{length, take, drop, take-append-drop}
+use lib.Seq.{drop-drop, take-all, take-add}
+use Rattle.table.specs.Limits.{headerWords, sections, nodeWords, maxNodes}
 use Rattle.table.specs.Some.{someBelow}
-use Rattle.table.specs.Layout.{word, nodes, arguments, leftTerms, leftLabels, rightTerms, rightLabels, offset, size, section, labels, nodeCount}
-use Rattle.table.specs.Code.Reading.{HasPair, HasSection, Sectioned, RunsInside}
+use Rattle.table.specs.Layout.{word, nodes, arguments, leftTerms, leftLabels, rightTerms, rightLabels, offset, size, section, labels, nodeCount, firstOf, countOf}
+use Rattle.table.specs.Code.Reading.{HasSection, Sectioned, RunsInside}
 use Rattle.table.specs.Conditions.{tooFewWords, endBefore, brokenPair, overLimit, wrongNode, wrongArgument, termIsWrong, wrongTerm, labelIsWrong, wrongLabel}
 use Rattle.table.specs.Refusal.{conditions, refusal, First, here, later, none}
 use Rattle.table.specs.Accepted.{Accepted}
 use Rattle.table.proofs.BoolLaws.{or-false-left, or-false-right, or-both-false}
 use Rattle.table.proofs.SomeLaws.{some-none, none-some}
-use Rattle.table.proofs.ConditionLaws.{offsets-right, end-right, pairs-right, inside, section-size, WithinLimits, limits-kept, limits-right, nodes-kept, counts-kept, nodes-right, runs-inside, arguments-kept, arguments-right, terms-kept, terms-right, label-kept, label-right}
+use Rattle.table.proofs.ConditionLaws.{pairs-right, inside, section-size, WithinLimits, limits-right, nodes-kept, counts-kept, nodes-right, runs-inside, arguments-kept, arguments-right, left-terms-kept, right-terms-kept, terms-right, labels-kept, labels-new, labels-right}
+use Rattle.table.proofs.SectionLaws
 use Rattle.table.proofs.RefusalLaws.{refused}
 
 -- No condition holds.
 record Clear (t : List ℕ) : Type 0 where
-  words : tooFewWords t ≡ false
-  pairs : brokenPair t ≡ false
-  limits : overLimit t ≡ false
+  sectioned : Sectioned t
   right-nodes : wrongNode t ≡ false
   right-arguments : wrongArgument t ≡ false
   right-terms : wrongTerm t ≡ false
@@ -46,9 +46,7 @@ clear t e =
     let g = pass (f .1) in
     let h = pass (g .1) in
     record {
-      words = a .0;
-      pairs = b .0;
-      limits = c .0;
+      sectioned = record { words = a .0; pairs = b .0; limits = c .0 };
       right-nodes = d .0;
       right-arguments = f .0;
       right-terms = g .0;
@@ -59,11 +57,85 @@ clear-none : (t : List ℕ) → Clear t → refusal t ≡ 0
 unfolding conditions
 clear-none t c =
     refused t 0 .1
-    (later (c .words)
-    (later (c .pairs)
-    (later (c .limits)
+    (later (c .sectioned .words)
+    (later (c .sectioned .pairs)
+    (later (c .sectioned .limits)
     (later (c .right-nodes)
     (later (c .right-arguments)
     (later (c .right-terms)
     (later (c .right-labels) (none refl))))))))
 
+
+accepts : (t : List ℕ) → Clear t → Accepted t
+unfolding wrongNode
+accepts t c =
+    let s = c .sectioned in
+    let n = SectionLaws.section-length t s nodes (omega arith) in
+    let w = SectionLaws.within t s in
+    record {
+      header = SectionLaws.header t s;
+      begins = SectionLaws.begins t s;
+      follows = SectionLaws.follows t s;
+      ends = SectionLaws.ends t s;
+      whole-nodes = omega (arith, w .whole, n);
+      few-nodes = omega (arith, w .for-nodes, n);
+      few-arguments = SectionLaws.few-arguments t s;
+      few-left-terms = SectionLaws.few-left-terms t s;
+      few-left-labels = SectionLaws.few-left-labels t s;
+      few-right-terms = SectionLaws.few-right-terms t s;
+      few-right-labels = SectionLaws.few-right-labels t s;
+      each-node = nodes-kept (section t nodes) (length (section t arguments)) (c .right-nodes);
+      counts = counts-kept (section t nodes) (length (section t arguments)) (c .right-nodes);
+      each-argument = arguments-kept t (c .right-arguments);
+      each-left-term = left-terms-kept t (c .right-terms);
+      each-right-term = right-terms-kept t (c .right-terms);
+      each-label = labels-kept t (c .right-labels);
+      once = labels-new t (c .right-labels)
+    }
+
+-- the offset of section k is the end of the section before it
+offset-ends : (t : List ℕ) → Accepted t → (k : ℕ) → k < sections → offset t k ≡ endBefore t k
+unfolding endBefore
+offset-ends t a zero h = a .begins
+offset-ends t a (suc k) h =
+    let s : suc k ≡ k + 1 = omega arith in
+    ap (offset t) s ∙ a .follows k (omega arith)
+
+-- each section of an accepted table lies inside it, and is as long as its pair says
+pub section-inside : (t : List ℕ) → Accepted t → (k : ℕ) → k < sections → offset t k + size t k ≤ length t
+section-inside t a k h = inside t (a .follows) (a .ends) k h
+
+pub section-long : (t : List ℕ) → Accepted t → (k : ℕ) → k < sections → length (section t k) ≡ size t k
+section-long t a k h = section-size t k (section-inside t a k h)
+
+-- the arguments of each node are a run inside the section
+pub arguments-inside : (t : List ℕ) → Accepted t → RunsInside (section t nodes) (section t arguments)
+arguments-inside t a = runs-inside _ _ (a .each-node) (a .counts)
+
+clears : (t : List ℕ) → Accepted t → Clear t
+unfolding tooFewWords endBefore wrongNode
+clears t a =
+    let long = section-long t a in
+    record {
+      sectioned = record {
+        words = le-ltb (length t) headerWords (a .header);
+        pairs = pairs-right t (offset-ends t a) (a .ends);
+        limits = limits-right t (record {
+          whole = omega (arith, a .whole-nodes, long nodes (omega arith));
+          for-nodes = omega (arith, a .few-nodes, a .whole-nodes, long nodes (omega arith));
+          for-arguments = omega (arith, a .few-arguments, long arguments (omega arith));
+          for-left-terms = omega (arith, a .few-left-terms, long leftTerms (omega arith));
+          for-left-labels = omega (arith, a .few-left-labels, long leftLabels (omega arith));
+          for-right-terms = omega (arith, a .few-right-terms, long rightTerms (omega arith));
+          for-right-labels = omega (arith, a .few-right-labels, long rightLabels (omega arith))
+        })
+      };
+      right-nodes = nodes-right (section t nodes) (length (section t arguments)) (a .each-node) (a .counts);
+      right-arguments = arguments-right t (a .each-argument);
+      right-terms = terms-right t (a .each-left-term) (a .each-right-term);
+      right-labels = labels-right t (a .each-label) (a .once)
+    }
+
+-- a table gets no refusal exactly if all holds that acceptance means
+pub accepted : (t : List ℕ) → refusal t ≡ 0 ↔ Accepted t
+accepted t = ((λ e. accepts t (clear t e)), (λ a. clear-none t (clears t a)))

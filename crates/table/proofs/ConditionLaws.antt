@@ -151,27 +151,64 @@ arguments-right t f =
     let args = section t arguments in
     some-none (runIsWrong ns args) (nodeCount ns) (λ i h. some-none (argumentIsWrong ns args i) (countOf ns i) (λ j g. lt-leb _ _ (f i j h g)))
 
--- Refusal 6, on one side.
-pub terms-kept : (ts : List ℕ) (n : ℕ) → someBelow (length ts) (termIsWrong ts n) ≡ false → (i : ℕ) → i < length ts → word ts i < n
+-- Refusal 6, on one side and on both.
+side-kept : (ts : List ℕ) (n : ℕ) → someBelow (length ts) (termIsWrong ts n) ≡ false → (i : ℕ) → i < length ts → word ts i < n
 unfolding termIsWrong
-terms-kept ts n e i h = leb-false _ _ (none-some (termIsWrong ts n) (length ts) e i h)
+side-kept ts n e i h = leb-false _ _ (none-some (termIsWrong ts n) (length ts) e i h)
 
-pub terms-right : (ts : List ℕ) (n : ℕ) → ((i : ℕ) → i < length ts → word ts i < n) → someBelow (length ts) (termIsWrong ts n) ≡ false
+side-right : (ts : List ℕ) (n : ℕ) → ((i : ℕ) → i < length ts → word ts i < n) → someBelow (length ts) (termIsWrong ts n) ≡ false
 unfolding termIsWrong
-terms-right ts n f = some-none (termIsWrong ts n) (length ts) (λ i h. lt-leb _ _ (f i h))
+side-right ts n f = some-none (termIsWrong ts n) (length ts) (λ i h. lt-leb _ _ (f i h))
 
--- Refusal 7.
-pub label-kept : (ls : List ℕ) (i : ℕ) → labelIsWrong ls i ≡ false → ((0 < word ls i) × (word ls i ≤ maxLabel)) × ((j : ℕ) → j < i → word ls j ≡ word ls i → ⊥)
+module _ (t : List ℕ) where
+  wrongOn : ℕ → Bool
+  wrongOn k = someBelow (length (section t k)) (termIsWrong (section t k) (nodeCount (section t nodes)))
+
+  pub left-terms-kept : wrongTerm t ≡ false → (i : ℕ) → i < length (section t leftTerms) → word (section t leftTerms) i < nodeCount (section t nodes)
+  unfolding wrongTerm wrongOn
+  left-terms-kept e = side-kept (section t leftTerms) _ (or-false-left _ (wrongOn rightTerms) e)
+
+  pub right-terms-kept : wrongTerm t ≡ false → (i : ℕ) → i < length (section t rightTerms) → word (section t rightTerms) i < nodeCount (section t nodes)
+  unfolding wrongTerm wrongOn
+  right-terms-kept e = side-kept (section t rightTerms) _ (or-false-right (wrongOn leftTerms) _ e)
+
+  pub terms-right : ((i : ℕ) → i < length (section t leftTerms) → word (section t leftTerms) i < nodeCount (section t nodes)) → ((i : ℕ) → i < length (section t rightTerms) → word (section t rightTerms) i < nodeCount (section t nodes)) → wrongTerm t ≡ false
+  unfolding wrongTerm wrongOn
+  terms-right f g = or-both-false (wrongOn leftTerms) (wrongOn rightTerms) (side-right (section t leftTerms) _ f) (side-right (section t rightTerms) _ g)
+
+-- Refusal 7, at one label and at all.
+record LabelIsRight (ls : List ℕ) (i : ℕ) : Type 0 where
+  range : (0 < word ls i) × (word ls i ≤ maxLabel)
+  new : (j : ℕ) → j < i → word ls j ≡ word ls i → ⊥
+
+label-kept : (ls : List ℕ) (i : ℕ) → labelIsWrong ls i ≡ false → LabelIsRight ls i
 unfolding labelIsWrong labelsAreEqual
 label-kept ls i e =
     let a = eqb (word ls i) 0 in
     let b = a || ltb maxLabel (word ls i) in
     let l = or-false-left b _ e in
     let z : word ls i ≡ 0 → ⊥ = eqb-false _ _ (or-false-left a _ l) in
-    ((omega arith, ltb-false _ _ (or-false-right a _ l)), (λ j h. eqb-false _ _ (none-some (labelsAreEqual ls i) i (or-false-right b _ e) j h)))
+    record {
+      range = (omega arith, ltb-false _ _ (or-false-right a _ l));
+      new = λ j h. eqb-false _ _ (none-some (labelsAreEqual ls i) i (or-false-right b _ e) j h)
+    }
 
-pub label-right : (ls : List ℕ) (i : ℕ) → (0 < word ls i) × (word ls i ≤ maxLabel) → ((j : ℕ) → j < i → word ls j ≡ word ls i → ⊥) → labelIsWrong ls i ≡ false
+label-right : (ls : List ℕ) (i : ℕ) → LabelIsRight ls i → labelIsWrong ls i ≡ false
 unfolding labelIsWrong labelsAreEqual
-label-right ls i r f =
+label-right ls i r =
     let z : eqb (word ls i) 0 ≡ false = ne-eqb _ _ (λ (q : word ls i ≡ 0). omega arith) in
-    rw (z, le-ltb _ _ (r .1)) (some-none (labelsAreEqual ls i) i (λ j h. ne-eqb _ _ (f j h)))
+    rw (z, le-ltb _ _ (r .range .1)) (some-none (labelsAreEqual ls i) i (λ j h. ne-eqb _ _ (r .new j h)))
+
+module _ (t : List ℕ) where
+  pub labels-kept : wrongLabel t ≡ false → (i : ℕ) → i < length (labels t) → (0 < word (labels t) i) × (word (labels t) i ≤ maxLabel)
+  unfolding wrongLabel
+  labels-kept e i h = label-kept (labels t) i (none-some (labelIsWrong (labels t)) (length (labels t)) e i h) .range
+
+  pub labels-new : wrongLabel t ≡ false → (i j : ℕ) → i < j → j < length (labels t) → word (labels t) i ≡ word (labels t) j → ⊥
+  unfolding wrongLabel
+  labels-new e i j g h = label-kept (labels t) j (none-some (labelIsWrong (labels t)) (length (labels t)) e j h) .new i g
+
+  pub labels-right : ((i : ℕ) → i < length (labels t) → (0 < word (labels t) i) × (word (labels t) i ≤ maxLabel)) → ((i j : ℕ) → i < j → j < length (labels t) → word (labels t) i ≡ word (labels t) j → ⊥) → wrongLabel t ≡ false
+  unfolding wrongLabel
+  labels-right f g =
+      some-none (labelIsWrong (labels t)) (length (labels t)) (λ i h. label-right (labels t) i (record { range = f i h; new = λ j l. g j i l h }))

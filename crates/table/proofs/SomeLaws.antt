@@ -2,6 +2,7 @@
 use Prim.Native.Nat.{ℕ, zero, suc, _+_, _<_, _≤_}
 use mathlib.Core.Bool.{Bool, true, false, _||_, or-true}
 use mathlib.Core.Path.{_≡_, refl, sym, ap, _∙_}
+use mathlib.Core.Logic.{_↔_}
 use native.Mathlib.Decide.{decLt}
 use native.Mathlib.Numerals.{add-one}
 use native.Mathlib.Omega.{arith}
@@ -42,3 +43,16 @@ none-some p (suc n) e i h =
     go : (i < n → p i ≡ false) → Dec (i < n) → p i ≡ false
     go f (yes q) = f q
     go f (no q) = let s : i ≡ n = omega arith in rw s (or-false-right (someBelow n p) (p n) e)
+
+some-found : (p : ℕ → Bool) (n : ℕ) → someBelow n p ≡ true → (i : ℕ) × (i < n) × (p i ≡ true)
+unfolding someBelow
+some-found p zero e = let z : _≡_ {A = ℕ} 0 1 = cc in absurd (omega arith)
+some-found p (suc n) e = go (someBelow n p) refl (some-found p n)
+  where
+    go : (b : Bool) → someBelow n p ≡ b → (someBelow n p ≡ true → (i : ℕ) × (i < n) × (p i ≡ true)) → (i : ℕ) × (i < suc n) × (p i ≡ true)
+    go true q f = let r = f q in (r .0, omega arith, r .2)
+    go false q f = (n, omega arith, rw q at e)
+
+-- the test is true exactly if p holds of some number below n
+pub some-means : (p : ℕ → Bool) (n : ℕ) → someBelow n p ≡ true ↔ ((i : ℕ) × (i < n) × (p i ≡ true))
+some-means p n = (some-found p n, (λ r. some-here p (r .0) n (r .1) (r .2)))

@@ -8,6 +8,7 @@ ghost use Rattle.table.specs.Layout.{nodeCount, firstOf, countOf};
 ghost use Rattle.table.specs.Conditions.{rightNode, startOf, nodesAreWrong, runIsWrong};
 ghost use Rattle.table.specs.Code.Reading.{RunsInside};
 use crate::Node;
+use crate::Variable;
 use crate::layout;
 use crate::layout::index;
 use crate::limits::MAX_COUNT;
@@ -30,7 +31,10 @@ fn right_node(kind: u32, name: u32, first: u32, count: u32, earlier: u32) -> boo
 {
     let start = start(count, earlier);
     match kind {
-        0 => (name <= MAX_VARIABLE) & (first == 0) & (count == 0),
+        0 => {
+            let variable = Variable(name);
+            (variable.0 <= MAX_VARIABLE) & (first == 0) & (count == 0)
+        }
         1 => (name <= MAX_NAME) & (count <= MAX_COUNT) & (first == start),
         _ => false,
     }

@@ -16,7 +16,7 @@ start-requires c κs = search needs
 -- src/nodes.rt:76:1
 returns : tie.Need-returns
 unfolding rightNode rightVariable
-returns c = rw (c .match .keys1)
+returns c = rw (c .before .match .keys1)
 
 -- src/nodes.rt:76:1
 returns-2 : tie.Need-returns-2

@@ -1,7 +1,7 @@
 -- `table::nodes::wrong_nodes` meets its contract: `earlier` is the sum of the counts so far, and no node so far is wrong. Assumes nothing.
 use Prim.Native.Nat.{_≤_, _-_, _*_}
 use mathlib.Core.Path.{_≡_, refl, sym, _∙_}
-use mathlib.Core.Bool.{false}
+use mathlib.Core.Bool.{true, false}
 use native.Mathlib.Omega.{arith}
 use borrow.Author.Needs.{needs}
 use borrow.Author.Tests.{not-true, not-false}
@@ -89,7 +89,7 @@ loop-less c = search needs
 
 -- src/nodes.rt:95:5
 loop-again : tie.Need-loop-again Inv-loop μ-loop
-loop-again c = let s = tested (c .before) in let q = not-false _ (c .if1 .left) in (search needs, earlier-next s, omega (arith, count-small s q), node-right s q (c .before .before .before .before .before .before .before .loop .inv .3))
+loop-again c = let s = tested (c .before) in let q : c .before .right-node .result ≡ true = not-false _ (c .if1 .left) in (search needs, earlier-next s, omega (arith, count-small s q), node-right s q (c .before .before .before .before .before .before .before .loop .inv .3))
 
 -- src/nodes.rt:110:5
 index-requires : tie.Need-index-requires Inv-loop μ-loop
