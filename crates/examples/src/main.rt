@@ -1,4 +1,5 @@
 // Checks the tables of its input. A line is a name, a colon and the table's words; the answer is printed after the name.
+ghost use mathlib.Core.Path.{_≡_};
 ghost use Prim.Native.Nat.{_+_, _≤_, _<_};
 ghost use lib.ListN.{length};
 use libc::STDIN_FILENO;
@@ -8,9 +9,15 @@ use libc::STDOUT_FILENO;
 const MOST_WORDS: usize = 2048;
 
 // A number that was read, and where the text goes on.
-struct Number {
+struct Digits {
     value: u32,
     next: usize,
+}
+
+// A place of a text, and how many numbers stand before it.
+struct Place {
+    at: usize,
+    count: usize,
 }
 
 fn is_digit(byte: u8) -> bool {
@@ -19,8 +26,9 @@ fn is_digit(byte: u8) -> bool {
 
 // A number's value with one more digit. (The input's numbers are words.)
 fn with_digit(value: u32, digit: u8) -> u32 {
-    let longer = (value as u64) * 10 + (digit as u64 + 10 - b'0' as u64) % 10;
-    (longer % 4294967296) as u32
+    // b'0' is 48.
+    let ones = (digit as u64 + 2) % 10;
+    (((value as u64) * 10 + ones) % 4294967296) as u32
 }
 
 // Where `byte` first stands at or after a place, or the end.
@@ -39,7 +47,7 @@ fn find(text: &[u8], from: usize, byte: u8) -> usize
 }
 
 // The number whose digits start at a place.
-fn number(text: &[u8], from: usize) -> Number
+fn number(text: &[u8], from: usize) -> Digits
     requires { ⌜ from ≤ length (now text) ⌝ }
     ensures { λ r. ⌜ (from ≤ r .next) × (r .next ≤ length (now (text .entry))) ⌝ }
 {
@@ -48,12 +56,12 @@ fn number(text: &[u8], from: usize) -> Number
     while at < text.len() {
         let byte = text[at];
         if !is_digit(byte) {
-            return Number { value, next: at };
+            return Digits { value, next: at };
         }
         value = with_digit(value, byte);
         at += 1;
     }
-    Number { value, next: at }
+    Digits { value, next: at }
 }
 
 // Stores a word where there is room for it.
@@ -65,23 +73,34 @@ fn store(words: &mut [u32], i: usize, word: u32)
     }
 }
 
+// Reads on at a place: past a byte that is no digit, or past a number and the byte after it.
+fn read_on(text: &[u8], words: &mut [u32], from: Place) -> Place
+    requires { ⌜ (from .at < length (now text)) × (from .count ≤ from .at) ⌝ }
+    ensures { λ r. ⌜ (from .at < r .at) × (r .at ≤ length (now (text .entry)) + 1) × (r .count ≤ r .at) ⌝ }
+    ensures { λ r. ⌜ length (now (words .exit)) ≡ length (now (words .entry)) ⌝ }
+{
+    let at = from.at;
+    let count = from.count;
+    if !is_digit(text[at]) {
+        return Place { at: at + 1, count };
+    }
+    let read = number(text, at);
+    store(words, count, read.value);
+    Place {
+        at: read.next + 1,
+        count: count + 1,
+    }
+}
+
 // Puts the numbers of a text into words, and answers how many there are. Those without room are only counted.
 fn read_words(text: &[u8], words: &mut [u32]) -> usize
     ensures { λ r. ⌜ length (now (words .exit)) ≡ length (now (words .entry)) ⌝ }
 {
-    let mut count: usize = 0;
-    let mut at: usize = 0;
-    while at < text.len() {
-        let byte = text[at];
-        if is_digit(byte) {
-            let read = number(text, at);
-            store(words, count, read.value);
-            count += 1;
-            at = read.next;
-        }
-        at += 1;
+    let mut place = Place { at: 0, count: 0 };
+    while place.at < text.len() {
+        place = read_on(text, words, place);
     }
-    count
+    place.count
 }
 
 fn print(text: &[u8]) {
@@ -102,14 +121,14 @@ fn print_answer(answer: table::Checked) {
 // Checks the table of one line.
 fn run_line(line: &[u8]) {
     let colon = find(line, 0, b':');
-    print(&line[..colon]);
+    print(&line[0..colon]);
     let mut words = [0u32; MOST_WORDS];
     let n = read_words(&line[colon..], &mut words);
     if n > MOST_WORDS {
         print(b": too many words\n");
         return;
     }
-    print_answer(table::check(&words[..n]));
+    print_answer(table::check(&words[0..n]));
 }
 
 fn run(input: &[u8]) {
@@ -124,5 +143,9 @@ fn run(input: &[u8]) {
 fn main() {
     let mut input = io::large_buffer();
     let n = io::read_full(STDIN_FILENO, &mut input);
+    if n == input.len() {
+        print(b"too much input\n");
+        return;
+    }
     run(&input[..n]);
 }

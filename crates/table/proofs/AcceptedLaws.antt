@@ -65,7 +65,6 @@ clear-none t c =
     (later (c .right-terms)
     (later (c .right-labels) (none refl))))))))
 
-
 accepts : (t : List ℕ) → Clear t → Accepted t
 unfolding wrongNode
 accepts t c =
@@ -90,7 +89,7 @@ accepts t c =
       each-left-term = left-terms-kept t (c .right-terms);
       each-right-term = right-terms-kept t (c .right-terms);
       each-label = labels-kept t (c .right-labels);
-      once = labels-new t (c .right-labels)
+      once = labels-new t (c .right-labels);
     }
 
 -- the offset of section k is the end of the section before it
@@ -127,13 +126,13 @@ clears t a =
           for-left-terms = omega (arith, a .few-left-terms, long leftTerms (omega arith));
           for-left-labels = omega (arith, a .few-left-labels, long leftLabels (omega arith));
           for-right-terms = omega (arith, a .few-right-terms, long rightTerms (omega arith));
-          for-right-labels = omega (arith, a .few-right-labels, long rightLabels (omega arith))
-        })
+          for-right-labels = omega (arith, a .few-right-labels, long rightLabels (omega arith));
+        });
       };
       right-nodes = nodes-right (section t nodes) (length (section t arguments)) (a .each-node) (a .counts);
       right-arguments = arguments-right t (a .each-argument);
       right-terms = terms-right t (a .each-left-term) (a .each-right-term);
-      right-labels = labels-right t (a .each-label) (a .once)
+      right-labels = labels-right t (a .each-label) (a .once);
     }
 
 -- a table gets no refusal exactly if all holds that acceptance means

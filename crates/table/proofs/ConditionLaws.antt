@@ -190,7 +190,7 @@ label-kept ls i e =
     let z : word ls i ≡ 0 → ⊥ = eqb-false _ _ (or-false-left a _ l) in
     record {
       range = (omega arith, ltb-false _ _ (or-false-right a _ l));
-      new = λ j h. eqb-false _ _ (none-some (labelsAreEqual ls i) i (or-false-right b _ e) j h)
+      new = λ j h. eqb-false _ _ (none-some (labelsAreEqual ls i) i (or-false-right b _ e) j h);
     }
 
 label-right : (ls : List ℕ) (i : ℕ) → LabelIsRight ls i → labelIsWrong ls i ≡ false
