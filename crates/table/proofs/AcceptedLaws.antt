@@ -1,25 +1,21 @@
 -- A table gets no refusal exactly if all holds that acceptance means: no condition holds, and each says some of its fields.
 -- Assumes nothing.
-use Prim.Native.Nat.{ℕ, zero, suc, _+_, _*_, _/_, _%_, _<_, _≤_}
-use mathlib.Core.Bool.{Bool, false, _||_}
+use Prim.Native.Nat.{ℕ, zero, suc, _+_, _<_, _≤_}
+use mathlib.Core.Bool.{Bool, false}
 use mathlib.Core.Path.{_≡_, refl, sym, ap, _∙_}
 use mathlib.Core.Logic.{_↔_}
-use mathlib.Core.List.{List, [], _∷_, _++_}
-use native.Mathlib.Numerals.{add-one}
+use mathlib.Core.List.{List, _∷_, _++_}
 use native.Mathlib.Omega.{arith}
 use borrow.Author.Tests.{le-ltb}
-use lib.ListN.{length, take, drop, take-append-drop}
-use lib.Seq.{drop-drop, take-all, take-add}
-use Rattle.table.specs.Limits.{headerWords, sections, nodeWords, maxNodes}
-use Rattle.table.specs.Some.{someBelow}
-use Rattle.table.specs.Layout.{word, nodes, arguments, leftTerms, leftLabels, rightTerms, rightLabels, offset, size, section, labels, nodeCount, firstOf, countOf}
-use Rattle.table.specs.Code.Reading.{HasSection, Sectioned, RunsInside}
-use Rattle.table.specs.Conditions.{tooFewWords, endBefore, brokenPair, overLimit, wrongNode, wrongArgument, termIsWrong, wrongTerm, labelIsWrong, wrongLabel}
+use lib.ListN.{length, take}
+use lib.Seq.{take-all, take-add}
+use Rattle.table.specs.Limits.{headerWords, sections}
+use Rattle.table.specs.Layout.{nodes, arguments, leftTerms, leftLabels, rightTerms, rightLabels, offset, size, section}
+use Rattle.table.specs.Code.Reading.{Sectioned, RunsInside}
+use Rattle.table.specs.Conditions.{tooFewWords, endBefore, wrongNode, wrongArgument, wrongTerm, wrongLabel}
 use Rattle.table.specs.Refusal.{conditions, refusal, First, here, later, none}
 use Rattle.table.specs.Accepted.{Accepted}
-use Rattle.table.proofs.BoolLaws.{or-false-left, or-false-right, or-both-false}
-use Rattle.table.proofs.SomeLaws.{some-none, none-some}
-use Rattle.table.proofs.ConditionLaws.{pairs-right, inside, section-size, WithinLimits, limits-right, nodes-kept, counts-kept, nodes-right, runs-inside, arguments-kept, arguments-right, left-terms-kept, right-terms-kept, terms-right, labels-kept, labels-new, labels-right}
+use Rattle.table.proofs.ConditionLaws.{pairs-right, inside, section-size, limits-right, nodes-kept, counts-kept, nodes-right, runs-inside, arguments-kept, arguments-right, left-terms-kept, right-terms-kept, terms-right, labels-kept, labels-new, labels-right}
 use Rattle.table.proofs.SectionLaws
 use Rattle.table.proofs.RefusalLaws.{refused}
 
@@ -138,3 +134,24 @@ clears t a =
 -- a table gets no refusal exactly if all holds that acceptance means
 pub accepted : (t : List ℕ) → refusal t ≡ 0 ↔ Accepted t
 accepted t = ((λ e. accepts t (clear t e)), (λ a. clear-none t (clears t a)))
+
+-- The sections lie end to end: the header and the six sections, one after the other, are the table.
+module _ (t : List ℕ) (a : Accepted t) where
+  upTo : ℕ → List ℕ
+  upTo k = take (offset t k) t
+
+  join : (l : List ℕ) (k : ℕ) → l ≡ upTo k → k < rightLabels → l ++ section t k ≡ upTo (k + 1)
+  unfolding upTo
+  join l k e h =
+      ap (λ (x : List ℕ). x ++ section t k) e ∙ sym (take-add (offset t k) (size t k) t) ∙ ap (λ (n : ℕ). take n t) (sym (a .follows k h))
+
+  pub end-to-end : take headerWords t ++ section t nodes ++ section t arguments ++ section t leftTerms ++ section t leftLabels ++ section t rightTerms ++ section t rightLabels ≡ t
+  unfolding upTo
+  end-to-end =
+      let e₀ : take headerWords t ≡ upTo nodes = ap (λ (n : ℕ). take n t) (sym (a .begins)) in
+      let e₁ = join _ nodes e₀ (omega arith) in
+      let e₂ = join _ arguments e₁ (omega arith) in
+      let e₃ = join _ leftTerms e₂ (omega arith) in
+      let e₄ = join _ leftLabels e₃ (omega arith) in
+      let e₅ = join _ rightTerms e₄ (omega arith) in
+      ap (λ (x : List ℕ). x ++ section t rightLabels) e₅ ∙ sym (take-add (offset t rightLabels) (size t rightLabels) t) ∙ take-all (offset t rightLabels + size t rightLabels) t (omega (arith, a .ends))

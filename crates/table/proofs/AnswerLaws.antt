@@ -1,5 +1,5 @@
 -- The numbers tell the answers apart: each answer can be read back from its number. Assumes nothing.
-use Prim.Native.Nat.{ℕ, zero, suc}
+use Prim.Native.Nat.{ℕ}
 use mathlib.Core.Path.{_≡_, refl, sym, ap, _∙_}
 use Rattle.table.specs.declared.Refusal.{Refusal}
 use Rattle.table.specs.declared.Refusal.the-variants.{TooFewWords, BrokenPair, OverLimit, WrongNode, WrongArgument, WrongTerm, WrongLabel}

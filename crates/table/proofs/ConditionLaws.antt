@@ -1,19 +1,17 @@
 -- What it means that a condition does not hold, and back: each is a test of some of what acceptance means. Assumes nothing.
-use Prim.Native.Nat.{ℕ, zero, suc, _+_, _-_, _*_, _/_, _%_, _<_, _≤_, min}
-use mathlib.Core.Bool.{Bool, true, false, not, _||_}
-use mathlib.Core.Path.{_≡_, refl, sym, ap, subst, _∙_}
-use mathlib.Core.Logic.{_↔_}
-use mathlib.Core.List.{List, [], _∷_, _++_}
-use native.Mathlib.Numerals.{add-one}
+use Prim.Native.Nat.{ℕ, zero, suc, _+_, _-_, _*_, _%_, _<_, _≤_}
+use mathlib.Core.Bool.{Bool, false, not, _||_}
+use mathlib.Core.Path.{_≡_, ap, subst}
+use mathlib.Core.List.{List}
 use native.Mathlib.Omega.{arith}
-use borrow.Author.Tests.{eq-eqb, ne-eqb, lt-ltb, le-ltb, le-leb, lt-leb, ltb-false, leb-false, eqb-true, eqb-false, not-false, not-true}
-use lib.Dec.{eqb, leb, ltb}
-use lib.ListN.{length, take, drop, length-take, length-drop}
-use Rattle.table.specs.Limits.{headerWords, sections, nodeWords, maxNodes, maxArguments, maxTerms, maxLabels, maxLabel}
+use borrow.Author.Tests.{eq-eqb, ne-eqb, le-ltb, lt-leb, ltb-false, leb-false, eqb-true, eqb-false, not-false}
+use lib.Dec.{eqb, ltb}
+use lib.ListN.{length, length-take, length-drop}
+use Rattle.table.specs.Limits.{sections, nodeWords, maxNodes, maxArguments, maxTerms, maxLabels, maxLabel}
 use Rattle.table.specs.Some.{someBelow}
-use Rattle.table.specs.Layout.{word, nodes, arguments, leftTerms, leftLabels, rightTerms, rightLabels, offset, size, section, labels, kindOf, nameOf, firstOf, countOf, nodeCount, countsBefore, argumentOf}
-use Rattle.table.specs.Code.Reading.{HasPair, HasSection, Sectioned, RunsInside}
-use Rattle.table.specs.Conditions.{tooFewWords, endBefore, offsetIsWrong, brokenPair, overLimit, rightNode, nodeIsWrong, nodesAreWrong, wrongNode, argumentIsWrong, runIsWrong, wrongArgument, termIsWrong, wrongTerm, labelsAreEqual, labelIsWrong, wrongLabel}
+use Rattle.table.specs.Layout.{word, nodes, arguments, leftTerms, leftLabels, rightTerms, rightLabels, offset, size, section, labels, firstOf, countOf, nodeCount, countsBefore, argumentOf}
+use Rattle.table.specs.Code.Reading.{RunsInside}
+use Rattle.table.specs.Conditions.{endBefore, offsetIsWrong, brokenPair, overLimit, nodeIsWrong, nodesAreWrong, argumentIsWrong, runIsWrong, wrongArgument, termIsWrong, wrongTerm, labelsAreEqual, labelIsWrong, wrongLabel}
 use Rattle.table.specs.Accepted.{RightNode, variable, constant, application, NodeIsRight}
 use Rattle.table.proofs.BoolLaws.{or-false-left, or-false-right, or-both-false}
 use Rattle.table.proofs.SomeLaws.{some-none, none-some}

@@ -1,14 +1,14 @@
 -- The test `rightNode` says what `RightNode` says, by cases on the kind and on whether the count is 0. Assumes nothing.
-use Prim.Native.Nat.{ℕ, _<_, _≤_}
+use Prim.Native.Nat.{ℕ, _≤_}
 use mathlib.Core.Bool.{Bool, true, false, _&&_}
-use mathlib.Core.Path.{_≡_, refl, sym, ap, subst, _∙_}
+use mathlib.Core.Path.{_≡_, refl, _∙_}
 use native.Mathlib.Omega.{arith}
 use borrow.Author.Tests.{eq-eqb, ne-eqb, le-leb, leb-true, eqb-true, eqb-false}
 use lib.Dec.{eqb, leb}
 use Rattle.table.specs.Limits.{maxVariable, maxName, maxCount}
 use Rattle.table.specs.Conditions.{startOf, rightVariable, rightApplication, rightNode}
 use Rattle.table.specs.Accepted.{RightNode, variable, constant, application}
-use Rattle.table.proofs.BoolLaws.{and-true-left, and-true-right, and-both-true}
+use Rattle.table.proofs.BoolLaws.{and-true-left, and-true-right}
 
 variable-means : (n f c : ℕ) → rightVariable n f c ≡ true → (n ≤ maxVariable) × (f ≡ 0) × (c ≡ 0)
 unfolding rightVariable

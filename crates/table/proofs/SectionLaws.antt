@@ -10,8 +10,8 @@ use borrow.Author.Tests.{ltb-false}
 use lib.ListN.{length}
 use Rattle.table.specs.Limits.{headerWords, sections, nodeWords, maxNodes, maxArguments, maxTerms, maxLabels}
 use Rattle.table.specs.Layout.{nodes, arguments, leftTerms, leftLabels, rightTerms, rightLabels, offset, size, section}
-use Rattle.table.specs.Code.Reading.{HasPair, HasSection, Sectioned, RunsInside}
-use Rattle.table.specs.Conditions.{tooFewWords, endBefore, brokenPair, wrongNode}
+use Rattle.table.specs.Code.Reading.{HasSection, Sectioned, RunsInside}
+use Rattle.table.specs.Conditions.{tooFewWords, endBefore, wrongNode}
 use Rattle.table.proofs.ConditionLaws.{offsets-right, end-right, inside, section-size, WithinLimits, limits-kept, nodes-kept, counts-kept, runs-inside}
 
 module _ (t : List ℕ) (s : Sectioned t) where

@@ -5,9 +5,6 @@ use borrow.Author.Needs.{needs}
 use lib.ListN.{length}
 use Rattle.examples.proofs.read_words.Statement.{statement}
 use Rattle.examples.proofs.read_words.Tie as tie
-use Rattle.examples.proofs.read_words.Reads as reads
-use Rattle.examples.proofs.read_words.Lts as lts
-use Rattle.examples.proofs.read_on.Reads as read-on-reads
 
 abbrev Inv-loop : tie.InvT-loop
 Inv-loop text words₀ place₀ words place = (place .at ≤ length text + 1) × (place .count ≤ place .at) × (length words ≡ length words₀)
@@ -15,27 +12,21 @@ Inv-loop text words₀ place₀ words place = (place .at ≤ length text + 1) ×
 abbrev μ-loop : tie.MeasureT-loop
 μ-loop text words₀ place₀ words place = length text + 1 - place .at
 
--- src/main.rt:100:5
 loop-holds : tie.Need-loop-holds Inv-loop μ-loop
 loop-holds c = search needs
 
--- src/main.rt:101:9
 read-on-requires : tie.Need-read-on-requires Inv-loop μ-loop
 read-on-requires c κs = search needs
 
--- src/main.rt:100:5
 loop-less : tie.Need-loop-less Inv-loop μ-loop
 loop-less c = search needs
 
--- src/main.rt:100:5
 loop-again : tie.Need-loop-again Inv-loop μ-loop
 loop-again c = search needs
 
--- src/main.rt:96:1
 same-length : tie.Need-same-length Inv-loop μ-loop
 same-length c = search needs
 
--- src/main.rt:96:1
 returns : tie.Need-returns Inv-loop μ-loop
 returns c = search needs
 

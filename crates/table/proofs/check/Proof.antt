@@ -11,14 +11,6 @@ use Rattle.table.specs.Code.Reading.{Sectioned}
 use Rattle.table.proofs.RefusalLaws.{refused}
 use Rattle.table.proofs.check.Statement.{statement}
 use Rattle.table.proofs.check.Tie as tie
-use Rattle.table.proofs.check.Reads as reads
-use Rattle.table.proofs.check.Lts as lts
-use Rattle.table.proofs.conditions.broken_pair.Reads as broken-pair-reads
-use Rattle.table.proofs.conditions.over_limit.Reads as over-limit-reads
-use Rattle.table.proofs.conditions.wrong_argument.Reads as wrong-argument-reads
-use Rattle.table.proofs.conditions.wrong_label.Reads as wrong-label-reads
-use Rattle.table.proofs.conditions.wrong_node.Reads as wrong-node-reads
-use Rattle.table.proofs.conditions.wrong_term.Reads as wrong-term-reads
 
 -- What is known after each test: its condition does not hold. So the first that does is the refusal.
 not-1 : (c : tie.Else1) → tooFewWords (c .before .before .args .table .now) ≡ false
@@ -74,66 +66,52 @@ past-7 c f = past-6 (c .before .before) (later (not-7 c) f)
 sectioned : (c : tie.Else3) → Sectioned (c .before .before .before .before .before .before .args .table .now)
 sectioned c = record { words = not-1 (c .before .before .before .before); pairs = not-2 (c .before .before); limits = not-3 c }
 
--- src/lib.rt:66:9
 returns : tie.Need-returns
 unfolding conditions tooFewWords
 returns c = sym (refused _ 1 .1 (here refl (lt-ltb _ _ (c .if1 .taken))))
 
--- src/lib.rt:68:8
 broken-pair-requires : tie.Need-broken-pair-requires
 broken-pair-requires c κs = c .if1 .left
 
--- src/lib.rt:69:9
 returns-2 : tie.Need-returns-2
 unfolding conditions
 returns-2 c = sym (refused _ 2 .1 (past-1 (c .before .before) (here refl (sym (c .before .broken-pair .ensures) ∙ c .if2 .taken))))
 
--- src/lib.rt:71:8
 over-limit-requires : tie.Need-over-limit-requires
 over-limit-requires c κs = c .before .before .if1 .left
 
--- src/lib.rt:72:9
 returns-3 : tie.Need-returns-3
 unfolding conditions
 returns-3 c = sym (refused _ 3 .1 (past-2 (c .before .before) (here refl (sym (c .before .over-limit .ensures) ∙ c .if3 .taken))))
 
--- src/lib.rt:74:8
 wrong-node-requires : tie.Need-wrong-node-requires
 wrong-node-requires c κs = sectioned c
 
--- src/lib.rt:75:9
 returns-4 : tie.Need-returns-4
 unfolding conditions
 returns-4 c = sym (refused _ 4 .1 (past-3 (c .before .before) (here refl (sym (c .before .wrong-node .ensures) ∙ c .if4 .taken))))
 
--- src/lib.rt:77:8
 wrong-argument-requires : tie.Need-wrong-argument-requires
 wrong-argument-requires c κs = (sectioned (c .before .before), not-4 c)
 
--- src/lib.rt:78:9
 returns-5 : tie.Need-returns-5
 unfolding conditions
 returns-5 c = sym (refused _ 5 .1 (past-4 (c .before .before) (here refl (sym (c .before .wrong-argument .ensures) ∙ c .if5 .taken))))
 
--- src/lib.rt:80:8
 wrong-term-requires : tie.Need-wrong-term-requires
 wrong-term-requires c κs = sectioned (c .before .before .before .before)
 
--- src/lib.rt:81:9
 returns-6 : tie.Need-returns-6
 unfolding conditions
 returns-6 c = sym (refused _ 6 .1 (past-5 (c .before .before) (here refl (sym (c .before .wrong-term .ensures) ∙ c .if6 .taken))))
 
--- src/lib.rt:83:8
 wrong-label-requires : tie.Need-wrong-label-requires
 wrong-label-requires c κs = sectioned (c .before .before .before .before .before .before)
 
--- src/lib.rt:84:9
 returns-7 : tie.Need-returns-7
 unfolding conditions
 returns-7 c = sym (refused _ 7 .1 (past-6 (c .before .before) (here refl (sym (c .before .wrong-label .ensures) ∙ c .if7 .taken))))
 
--- src/lib.rt:62:1
 returns-8 : tie.Need-returns-8
 unfolding conditions
 returns-8 c = sym (refused _ 0 .1 (past-7 c (none refl)))

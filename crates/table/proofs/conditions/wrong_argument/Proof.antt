@@ -5,24 +5,16 @@ use Rattle.table.specs.Conditions.{wrongArgument}
 use Rattle.table.proofs.SectionLaws.{has-section, few-node-words, runs}
 use Rattle.table.proofs.conditions.wrong_argument.Statement.{statement}
 use Rattle.table.proofs.conditions.wrong_argument.Tie as tie
-use Rattle.table.proofs.conditions.wrong_argument.Reads as reads
-use Rattle.table.proofs.conditions.wrong_argument.Lts as lts
-use Rattle.table.proofs.layout.section.Reads as section-reads
-use Rattle.table.proofs.nodes.wrong_arguments.Reads as wrong-arguments-reads
 
--- src/conditions.rt:77:9
 section-requires : tie.Need-section-requires
 section-requires c κs = has-section _ (c .before .pre .0) nodes (omega arith)
 
--- src/conditions.rt:78:9
 section-requires-2 : tie.Need-section-requires-2
 section-requires-2 c κs = has-section _ (c .before .before .pre .0) arguments (omega arith)
 
--- src/conditions.rt:79:5
 wrong-arguments-requires : tie.Need-wrong-arguments-requires
 wrong-arguments-requires c κs = let p = c .before .before .before .pre in rw (c .before .section .ensures, c .section2 .ensures) (few-node-words _ (p .0), runs _ (p .0) (p .1))
 
--- src/conditions.rt:72:1
 returns : tie.Need-returns
 unfolding wrongArgument
 returns c = cc

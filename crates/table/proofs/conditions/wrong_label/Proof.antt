@@ -5,24 +5,16 @@ use Rattle.table.specs.Conditions.{wrongLabel}
 use Rattle.table.proofs.SectionLaws.{has-section, few-left-labels, few-right-labels}
 use Rattle.table.proofs.conditions.wrong_label.Statement.{statement}
 use Rattle.table.proofs.conditions.wrong_label.Tie as tie
-use Rattle.table.proofs.conditions.wrong_label.Reads as reads
-use Rattle.table.proofs.conditions.wrong_label.Lts as lts
-use Rattle.table.proofs.layout.section.Reads as section-reads
-use Rattle.table.proofs.sides.wrong_labels.Reads as wrong-labels-reads
 
--- src/conditions.rt:98:9
 section-requires : tie.Need-section-requires
 section-requires c κs = has-section _ (c .before .pre) leftLabels (omega arith)
 
--- src/conditions.rt:99:9
 section-requires-2 : tie.Need-section-requires-2
 section-requires-2 c κs = has-section _ (c .before .before .pre) rightLabels (omega arith)
 
--- src/conditions.rt:100:5
 wrong-labels-requires : tie.Need-wrong-labels-requires
 wrong-labels-requires c κs = let p = c .before .before .before .pre in rw (c .before .section .ensures, c .section2 .ensures) (few-left-labels _ p, few-right-labels _ p)
 
--- src/conditions.rt:94:1
 returns : tie.Need-returns
 unfolding wrongLabel
 returns c = cc

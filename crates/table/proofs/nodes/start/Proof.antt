@@ -4,15 +4,11 @@ use borrow.Author.Tests.{eq-eqb, ne-eqb}
 use Rattle.table.specs.Conditions.{startOf}
 use Rattle.table.proofs.nodes.start.Statement.{statement}
 use Rattle.table.proofs.nodes.start.Tie as tie
-use Rattle.table.proofs.nodes.start.Reads as reads
-use Rattle.table.proofs.nodes.start.Lts as lts
 
--- src/nodes.rt:70:9
 returns : tie.Need-returns
 unfolding startOf
 returns c = sym (rw (eq-eqb _ _ (c .if1 .taken)))
 
--- src/nodes.rt:66:1
 returns-2 : tie.Need-returns-2
 unfolding startOf
 returns-2 c = sym (rw (ne-eqb _ _ (c .if1 .left)))

@@ -2,17 +2,12 @@
 use Prim.Native.Nat.{_≤_, _-_}
 use mathlib.Core.Path.{_≡_, refl, sym, _∙_}
 use mathlib.Core.Bool.{false}
-use native.Mathlib.Omega.{arith}
 use borrow.Author.Needs.{needs}
 use Rattle.table.specs.Some.{someBelow}
 use Rattle.table.specs.Conditions.{runIsWrong}
 use Rattle.table.proofs.SomeLaws.{some-here, some-next, some-end}
 use Rattle.table.proofs.nodes.wrong_arguments.Statement.{statement}
 use Rattle.table.proofs.nodes.wrong_arguments.Tie as tie
-use Rattle.table.proofs.nodes.wrong_arguments.Reads as reads
-use Rattle.table.proofs.nodes.wrong_arguments.Lts as lts
-use Rattle.table.proofs.nodes.wrong_run.Reads as wrong-run-reads
-use Rattle.table.proofs.layout.node_count.Reads as node-count-reads
 
 abbrev Inv-loop : tie.InvT-loop
 Inv-loop nodes arguments n i₀ i = (i ≤ n) × (someBelow i (runIsWrong nodes arguments) ≡ false)
@@ -20,36 +15,28 @@ Inv-loop nodes arguments n i₀ i = (i ≤ n) × (someBelow i (runIsWrong nodes 
 abbrev μ-loop : tie.MeasureT-loop
 μ-loop nodes arguments n i₀ i = n - i
 
--- src/nodes.rt:138:9
 node-count-requires : tie.Need-node-count-requires Inv-loop μ-loop
 node-count-requires c κs = search needs
 
--- src/nodes.rt:140:5
 loop-holds : tie.Need-loop-holds Inv-loop μ-loop
 unfolding someBelow
 loop-holds c = (search needs, refl)
 
--- src/nodes.rt:141:12
 wrong-run-requires : tie.Need-wrong-run-requires Inv-loop μ-loop
 wrong-run-requires c κs = let s = c .before .before .before .before .before in (search needs, s .pre .1 .run _ (search needs))
 
--- src/nodes.rt:142:13
 returns : tie.Need-returns Inv-loop μ-loop
 returns c = let l = c .before .before .before in sym (some-here _ (l .loop .i) _ (search needs) (sym (c .before .wrong-run .ensures) ∙ c .if1 .taken))
 
--- src/nodes.rt:144:9
 add-i : tie.Need-add-i Inv-loop μ-loop
 add-i c = search needs
 
--- src/nodes.rt:140:5
 loop-less : tie.Need-loop-less Inv-loop μ-loop
 loop-less c = search needs
 
--- src/nodes.rt:140:5
 loop-again : tie.Need-loop-again Inv-loop μ-loop
 loop-again c = let l = c .before .before .before in (search needs, some-next _ _ (l .loop .inv .1) (sym (c .before .wrong-run .ensures) ∙ c .if1 .left))
 
--- src/nodes.rt:133:1
 returns-2 : tie.Need-returns-2 Inv-loop μ-loop
 returns-2 c = let l = c .before .loop in sym (some-end _ (l .i) _ (search needs) (search needs) (l .inv .1))
 

@@ -1,6 +1,6 @@
 -- `table::nodes::wrong_nodes` meets its contract: `earlier` is the sum of the counts so far, and no node so far is wrong. Assumes nothing.
 use Prim.Native.Nat.{_≤_, _-_, _*_}
-use mathlib.Core.Path.{_≡_, refl, sym, _∙_}
+use mathlib.Core.Path.{_≡_, refl, _∙_}
 use mathlib.Core.Bool.{true, false}
 use native.Mathlib.Omega.{arith}
 use borrow.Author.Needs.{needs}
@@ -12,15 +12,6 @@ use Rattle.table.specs.Conditions.{nodeIsWrong}
 use Rattle.table.proofs.LoopLaws.{NodeTested, node-wrong, node-right, count-small, earlier-next, nodes-end}
 use Rattle.table.proofs.nodes.wrong_nodes.Statement.{statement}
 use Rattle.table.proofs.nodes.wrong_nodes.Tie as tie
-use Rattle.table.proofs.nodes.wrong_nodes.Reads as reads
-use Rattle.table.proofs.nodes.wrong_nodes.Lts as lts
-use Rattle.table.proofs.nodes.right_node.Reads as right-node-reads
-use Rattle.table.proofs.layout.count.Reads as count-reads
-use Rattle.table.proofs.layout.first.Reads as first-reads
-use Rattle.table.proofs.layout.index.Reads as index-reads
-use Rattle.table.proofs.layout.kind.Reads as kind-reads
-use Rattle.table.proofs.layout.name.Reads as name-reads
-use Rattle.table.proofs.layout.node_count.Reads as node-count-reads
 
 abbrev Inv-loop : tie.InvT-loop
 Inv-loop nodes arguments n earlier₀ i₀ earlier i = (i ≤ n) × (earlier ≡ countsBefore nodes i) × (earlier ≤ maxCount * i) × (someBelow i (nodeIsWrong nodes) ≡ false)
@@ -42,60 +33,46 @@ tested c =
       tested = c .right-node .ensures;
     }
 
--- src/nodes.rt:92:9
 node-count-requires : tie.Need-node-count-requires Inv-loop μ-loop
 node-count-requires c κs = search needs
 
--- src/nodes.rt:95:5
 loop-holds : tie.Need-loop-holds Inv-loop μ-loop
 unfolding someBelow countsBefore
 loop-holds c = (search needs, refl, search needs, refl)
 
--- src/nodes.rt:97:13
 count-requires : tie.Need-count-requires Inv-loop μ-loop
 count-requires c κs = search needs
 
--- src/nodes.rt:99:13
 kind-requires : tie.Need-kind-requires Inv-loop μ-loop
 kind-requires c κs = search needs
 
--- src/nodes.rt:100:13
 name-requires : tie.Need-name-requires Inv-loop μ-loop
 name-requires c κs = search needs
 
--- src/nodes.rt:101:13
 first-requires : tie.Need-first-requires Inv-loop μ-loop
 first-requires c κs = search needs
 
--- src/nodes.rt:98:13
 right-node-requires : tie.Need-right-node-requires Inv-loop μ-loop
 right-node-requires c κs = search needs
 
--- src/nodes.rt:105:13
 returns : tie.Need-returns Inv-loop μ-loop
 returns c = node-wrong (tested (c .before)) (search needs) (not-true _ (c .if1 .taken)) _
 
--- src/nodes.rt:107:9
 add-earlier : tie.Need-add-earlier Inv-loop μ-loop
 add-earlier c = omega (arith, count-small (tested (c .before)) (not-false _ (c .if1 .left)))
 
--- src/nodes.rt:108:9
 add-i : tie.Need-add-i Inv-loop μ-loop
 add-i c = search needs
 
--- src/nodes.rt:95:5
 loop-less : tie.Need-loop-less Inv-loop μ-loop
 loop-less c = search needs
 
--- src/nodes.rt:95:5
 loop-again : tie.Need-loop-again Inv-loop μ-loop
 loop-again c = let s = tested (c .before) in let q : c .before .right-node .result ≡ true = not-false _ (c .if1 .left) in (search needs, earlier-next s, omega (arith, count-small s q), node-right s q (c .before .before .before .before .before .before .before .loop .inv .3))
 
--- src/nodes.rt:110:5
 index-requires : tie.Need-index-requires Inv-loop μ-loop
 index-requires c κs = search needs
 
--- src/nodes.rt:88:1
 returns-2 : tie.Need-returns-2 Inv-loop μ-loop
 returns-2 c = let l = c .before .before in nodes-end _ (l .loop .i) _ _ (c .index .ensures .0 ∙ l .loop .inv .1) (search needs) (search needs) (l .loop .inv .3)
 

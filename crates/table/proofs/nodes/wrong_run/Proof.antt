@@ -2,19 +2,12 @@
 use Prim.Native.Nat.{_≤_, _-_}
 use mathlib.Core.Path.{_≡_, refl, _∙_}
 use mathlib.Core.Bool.{false}
-use native.Mathlib.Omega.{arith}
 use borrow.Author.Needs.{needs}
 use Rattle.table.specs.Some.{someBelow}
 use Rattle.table.specs.Conditions.{argumentIsWrong}
 use Rattle.table.proofs.LoopLaws.{argument-wrong, argument-right, arguments-end}
 use Rattle.table.proofs.nodes.wrong_run.Statement.{statement}
 use Rattle.table.proofs.nodes.wrong_run.Tie as tie
-use Rattle.table.proofs.nodes.wrong_run.Reads as reads
-use Rattle.table.proofs.nodes.wrong_run.Lts as lts
-use Rattle.table.proofs.layout.count.Reads as count-reads
-use Rattle.table.proofs.layout.first.Reads as first-reads
-use Rattle.table.proofs.layout.index.Reads as index-reads
-use Rattle.table.proofs.layout.node_at.Reads as node-at-reads
 
 abbrev Inv-loop : tie.InvT-loop
 Inv-loop nodes arguments node first count j₀ j = (j ≤ count) × (someBelow j (argumentIsWrong nodes arguments (node .0)) ≡ false)
@@ -22,52 +15,40 @@ Inv-loop nodes arguments node first count j₀ j = (j ≤ count) × (someBelow j
 abbrev μ-loop : tie.MeasureT-loop
 μ-loop nodes arguments node first count j₀ j = count - j
 
--- src/nodes.rt:119:23
 first-requires : tie.Need-first-requires Inv-loop μ-loop
 first-requires c κs = search needs
 
--- src/nodes.rt:119:9
 index-requires : tie.Need-index-requires Inv-loop μ-loop
 index-requires c κs = search needs
 
--- src/nodes.rt:120:23
 count-requires : tie.Need-count-requires Inv-loop μ-loop
 count-requires c κs = search needs
 
--- src/nodes.rt:120:9
 index-requires-2 : tie.Need-index-requires-2 Inv-loop μ-loop
 index-requires-2 c κs = search needs
 
--- src/nodes.rt:122:5
 loop-holds : tie.Need-loop-holds Inv-loop μ-loop
 unfolding someBelow
 loop-holds c = (search needs, refl)
 
--- src/nodes.rt:123:51
 add-node-at : tie.Need-add-node-at Inv-loop μ-loop
 add-node-at c = search needs
 
--- src/nodes.rt:123:13
 node-at-requires : tie.Need-node-at-requires Inv-loop μ-loop
 node-at-requires c κs = search needs
 
--- src/nodes.rt:125:13
 returns : tie.Need-returns Inv-loop μ-loop
 returns c = let b = c .before .before .before in let l = b .before .before in let s = l .before in argument-wrong _ _ _ (s .before .before .index .result) (s .index2 .result) (l .loop .j) (s .before .before .index .ensures .0 ∙ s .before .before .before .first .ensures) (s .index2 .ensures .0 ∙ s .before .count .ensures) (b .before .loop-test .taken) _ (b .node-at .ensures) (c .if1 .taken)
 
--- src/nodes.rt:127:9
 add-j : tie.Need-add-j Inv-loop μ-loop
 add-j c = search needs
 
--- src/nodes.rt:122:5
 loop-less : tie.Need-loop-less Inv-loop μ-loop
 loop-less c = search needs
 
--- src/nodes.rt:122:5
 loop-again : tie.Need-loop-again Inv-loop μ-loop
 loop-again c = let b = c .before .before .before in let l = b .before .before in let s = l .before in (search needs, argument-right _ _ _ (s .before .before .index .result) (s .index2 .result) (l .loop .j) (s .before .before .index .ensures .0 ∙ s .before .before .before .first .ensures) (s .index2 .ensures .0 ∙ s .before .count .ensures) _ (b .node-at .ensures) (c .if1 .left) (l .loop .inv .1))
 
--- src/nodes.rt:114:1
 returns-2 : tie.Need-returns-2 Inv-loop μ-loop
 returns-2 c = let l = c .before in let s = l .before in arguments-end _ _ _ (s .before .before .index .result) (s .index2 .result) (l .loop .j) (s .before .before .index .ensures .0 ∙ s .before .before .before .first .ensures) (s .index2 .ensures .0 ∙ s .before .count .ensures) (l .loop .inv .0) (c .loop-test .left) (l .loop .inv .1)
 

@@ -10,9 +10,6 @@ use Rattle.table.specs.Conditions.{labelsAreEqual}
 use Rattle.table.proofs.SomeLaws.{some-here, some-next, some-end}
 use Rattle.table.proofs.sides.repeated_label.Statement.{statement}
 use Rattle.table.proofs.sides.repeated_label.Tie as tie
-use Rattle.table.proofs.sides.repeated_label.Reads as reads
-use Rattle.table.proofs.sides.repeated_label.Lts as lts
-use Rattle.table.proofs.layout.label.Reads as label-reads
 
 abbrev Inv-loop : tie.InvT-loop
 Inv-loop left right i label j₀ j = (j ≤ i) × (someBelow j (labelsAreEqual (left ++ right) i) ≡ false)
@@ -20,38 +17,30 @@ Inv-loop left right i label j₀ j = (j ≤ i) × (someBelow j (labelsAreEqual (
 abbrev μ-loop : tie.MeasureT-loop
 μ-loop left right i label j₀ j = i - j
 
--- src/sides.rt:169:9
 label-requires : tie.Need-label-requires Inv-loop μ-loop
 label-requires c κs = search needs
 
--- src/sides.rt:171:5
 loop-holds : tie.Need-loop-holds Inv-loop μ-loop
 unfolding someBelow
 loop-holds c = (search needs, refl)
 
--- src/sides.rt:172:13
 label-requires-2 : tie.Need-label-requires-2 Inv-loop μ-loop
 label-requires-2 c κs = search needs
 
--- src/sides.rt:174:13
 returns : tie.Need-returns Inv-loop μ-loop
 unfolding labelsAreEqual
 returns c = let b = c .before .before .before in sym (some-here _ (b .before .before .loop .j) _ (b .before .loop-test .taken) (eq-eqb _ _ (sym (b .label2 .ensures) ∙ c .if1 .taken ∙ b .before .before .before .label .ensures)))
 
--- src/sides.rt:176:9
 add-j : tie.Need-add-j Inv-loop μ-loop
 add-j c = search needs
 
--- src/sides.rt:171:5
 loop-less : tie.Need-loop-less Inv-loop μ-loop
 loop-less c = search needs
 
--- src/sides.rt:171:5
 loop-again : tie.Need-loop-again Inv-loop μ-loop
 unfolding labelsAreEqual
 loop-again c = let b = c .before .before .before in (search needs, some-next _ _ (b .before .before .loop .inv .1) (ne-eqb _ _ (λ q. c .if1 .left (b .label2 .ensures ∙ q ∙ sym (b .before .before .before .label .ensures)))))
 
--- src/sides.rt:165:1
 returns-2 : tie.Need-returns-2 Inv-loop μ-loop
 returns-2 c = sym (some-end _ _ _ (c .before .loop .inv .0) (c .loop-test .left) (c .before .loop .inv .1))
 

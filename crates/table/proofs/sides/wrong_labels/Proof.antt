@@ -12,10 +12,6 @@ use Rattle.table.proofs.SomeLaws.{some-here, some-next, some-end}
 use Rattle.table.proofs.LoopLaws.{label-tested}
 use Rattle.table.proofs.sides.wrong_labels.Statement.{statement}
 use Rattle.table.proofs.sides.wrong_labels.Tie as tie
-use Rattle.table.proofs.sides.wrong_labels.Reads as reads
-use Rattle.table.proofs.sides.wrong_labels.Lts as lts
-use Rattle.table.proofs.sides.repeated_label.Reads as repeated-label-reads
-use Rattle.table.proofs.layout.label.Reads as label-reads
 
 abbrev Inv-loop : tie.InvT-loop
 Inv-loop left right n i₀ i = (i ≤ length (left ++ right)) × (someBelow i (labelIsWrong (left ++ right)) ≡ false)
@@ -23,40 +19,31 @@ Inv-loop left right n i₀ i = (i ≤ length (left ++ right)) × (someBelow i (l
 abbrev μ-loop : tie.MeasureT-loop
 μ-loop left right n i₀ i = n - i
 
--- src/sides.rt:186:13
 add-n : tie.Need-add-n Inv-loop μ-loop
 add-n c = search needs
 
--- src/sides.rt:188:5
 loop-holds : tie.Need-loop-holds Inv-loop μ-loop
 unfolding someBelow
 loop-holds c = (search needs, refl)
 
--- src/sides.rt:189:13
 label-requires : tie.Need-label-requires Inv-loop μ-loop
 label-requires c κs = search needs
 
--- src/sides.rt:190:53
 repeated-label-requires : tie.Need-repeated-label-requires Inv-loop μ-loop
 repeated-label-requires c κs = search needs
 
--- src/sides.rt:191:13
 returns : tie.Need-returns Inv-loop μ-loop
 returns c = let l = c .before .before .before .before in let i = l .before .before .loop .i in let a = l .before .before .before .before .before .args in let ls = a .left .now ++ a .right .now in let h : i < length ls = simp length-append (omega arith) in sym (some-here (labelIsWrong ls) i _ h (sym (label-tested ls i _ (l .label .ensures) _ (c .before .repeated-label .ensures)) ∙ c .if1 .taken))
 
--- src/sides.rt:193:9
 add-i : tie.Need-add-i Inv-loop μ-loop
 add-i c = search needs
 
--- src/sides.rt:188:5
 loop-less : tie.Need-loop-less Inv-loop μ-loop
 loop-less c = search needs
 
--- src/sides.rt:188:5
 loop-again : tie.Need-loop-again Inv-loop μ-loop
 loop-again c = let l = c .before .before .before .before in let i = l .before .before .loop .i in let a = l .before .before .before .before .before .args in let ls = a .left .now ++ a .right .now in (simp length-append (omega arith), some-next (labelIsWrong ls) i (l .before .before .loop .inv .1) (sym (label-tested ls i _ (l .label .ensures) _ (c .before .repeated-label .ensures)) ∙ c .if1 .left))
 
--- src/sides.rt:182:1
 returns-2 : tie.Need-returns-2 Inv-loop μ-loop
 returns-2 c = let l = c .before .loop in sym (some-end _ (l .i) _ (l .inv .0) (simp length-append (omega arith)) (l .inv .1))
 

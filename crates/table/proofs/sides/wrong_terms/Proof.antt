@@ -10,9 +10,6 @@ use Rattle.table.proofs.SomeLaws.{some-end}
 use Rattle.table.proofs.LoopLaws.{term-wrong, term-right}
 use Rattle.table.proofs.sides.wrong_terms.Statement.{statement}
 use Rattle.table.proofs.sides.wrong_terms.Tie as tie
-use Rattle.table.proofs.sides.wrong_terms.Reads as reads
-use Rattle.table.proofs.sides.wrong_terms.Lts as lts
-use Rattle.table.proofs.layout.node_at.Reads as node-at-reads
 
 abbrev Inv-loop : tie.InvT-loop
 Inv-loop terms n i₀ i = (i ≤ length terms) × (someBelow i (termIsWrong terms n) ≡ false)
@@ -20,32 +17,25 @@ Inv-loop terms n i₀ i = (i ≤ length terms) × (someBelow i (termIsWrong term
 abbrev μ-loop : tie.MeasureT-loop
 μ-loop terms n i₀ i = length terms - i
 
--- src/sides.rt:154:5
 loop-holds : tie.Need-loop-holds Inv-loop μ-loop
 unfolding someBelow
 loop-holds c = (search needs, refl)
 
--- src/sides.rt:155:13
 node-at-requires : tie.Need-node-at-requires Inv-loop μ-loop
 node-at-requires c κs = search needs
 
--- src/sides.rt:157:13
 returns : tie.Need-returns Inv-loop μ-loop
 returns c = let b = c .before .before in term-wrong (b .before .before .before .before .args .terms .now) _ (b .before .before .loop .i) _ (b .node-at .ensures) (b .before .loop-test .taken) (c .if1 .taken)
 
--- src/sides.rt:159:9
 add-i : tie.Need-add-i Inv-loop μ-loop
 add-i c = search needs
 
--- src/sides.rt:154:5
 loop-less : tie.Need-loop-less Inv-loop μ-loop
 loop-less c = search needs
 
--- src/sides.rt:154:5
 loop-again : tie.Need-loop-again Inv-loop μ-loop
 loop-again c = let b = c .before .before in (search needs, term-right _ _ (b .before .before .loop .i) _ (b .node-at .ensures) (c .if1 .left) (b .before .before .loop .inv .1))
 
--- src/sides.rt:150:1
 returns-2 : tie.Need-returns-2 Inv-loop μ-loop
 returns-2 c = sym (some-end _ _ _ (c .before .loop .inv .0) (c .loop-test .left) (c .before .loop .inv .1))
 
