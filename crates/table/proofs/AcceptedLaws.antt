@@ -1,6 +1,6 @@
 -- A table gets no refusal exactly if all holds that acceptance means: no condition holds, and each says some of its fields.
 -- Assumes nothing.
-use Prim.Native.Nat.{ℕ, zero, suc, _+_, _<_, _≤_}
+use Prim.Native.Nat.{ℕ, zero, suc, _+_, _<_}
 use mathlib.Core.Bool.{Bool, false}
 use mathlib.Core.Path.{_≡_, refl, sym, ap, _∙_}
 use mathlib.Core.Logic.{_↔_}
@@ -10,8 +10,8 @@ use borrow.Author.Tests.{le-ltb}
 use lib.ListN.{length, take}
 use lib.Seq.{take-all, take-add}
 use Rattle.table.specs.Limits.{headerWords, sections}
-use Rattle.table.specs.Layout.{nodes, arguments, leftTerms, leftLabels, rightTerms, rightLabels, offset, size, section}
-use Rattle.table.specs.Code.Reading.{Sectioned, RunsInside}
+use Rattle.table.specs.Layout.{nodesOf, argumentsOf, leftTermsOf, leftLabelsOf, rightTermsOf, rightLabelsOf, nodes, arguments, leftTerms, leftLabels, rightTerms, rightLabels, offset, size, section}
+use Rattle.table.specs.Code.Reading.{HasSection, Sectioned, RunsInside}
 use Rattle.table.specs.Conditions.{tooFewWords, endBefore, wrongNode, wrongArgument, wrongTerm, wrongLabel}
 use Rattle.table.specs.Refusal.{conditions, refusal, First, here, later, none}
 use Rattle.table.specs.Accepted.{Accepted}
@@ -79,8 +79,8 @@ accepts t c =
       few-left-labels = SectionLaws.few-left-labels t s;
       few-right-terms = SectionLaws.few-right-terms t s;
       few-right-labels = SectionLaws.few-right-labels t s;
-      each-node = nodes-kept (section t nodes) (length (section t arguments)) (c .right-nodes);
-      counts = counts-kept (section t nodes) (length (section t arguments)) (c .right-nodes);
+      each-node = nodes-kept (nodesOf t) (length (argumentsOf t)) (c .right-nodes);
+      counts = counts-kept (nodesOf t) (length (argumentsOf t)) (c .right-nodes);
       each-argument = arguments-kept t (c .right-arguments);
       each-left-term = left-terms-kept t (c .right-terms);
       each-right-term = right-terms-kept t (c .right-terms);
@@ -96,15 +96,16 @@ offset-ends t a (suc k) h =
     let s : suc k ≡ k + 1 = omega arith in
     ap (offset t) s ∙ a .follows k (omega arith)
 
--- each section of an accepted table lies inside it, and is as long as its pair says
-pub section-inside : (t : List ℕ) → Accepted t → (k : ℕ) → k < sections → offset t k + size t k ≤ length t
-section-inside t a k h = inside t (a .follows) (a .ends) k h
+-- each section of an accepted table can be read, and is as long as its pair says
+pub readable : (t : List ℕ) → Accepted t → (k : ℕ) → k < sections → HasSection t k
+readable t a k h =
+    record { pair = record { header = a .header; known = h }; inside = inside t (a .follows) (a .ends) k h }
 
 pub section-long : (t : List ℕ) → Accepted t → (k : ℕ) → k < sections → length (section t k) ≡ size t k
-section-long t a k h = section-size t k (section-inside t a k h)
+section-long t a k h = section-size t k (readable t a k h .inside)
 
 -- the arguments of each node are a run inside the section
-pub arguments-inside : (t : List ℕ) → Accepted t → RunsInside (section t nodes) (section t arguments)
+pub arguments-inside : (t : List ℕ) → Accepted t → RunsInside (nodesOf t) (argumentsOf t)
 arguments-inside t a = runs-inside _ _ (a .each-node) (a .counts)
 
 clears : (t : List ℕ) → Accepted t → Clear t
@@ -125,7 +126,7 @@ clears t a =
           for-right-labels = omega (arith, a .few-right-labels, long rightLabels (omega arith));
         });
       };
-      right-nodes = nodes-right (section t nodes) (length (section t arguments)) (a .each-node) (a .counts);
+      right-nodes = nodes-right (nodesOf t) (length (argumentsOf t)) (a .each-node) (a .counts);
       right-arguments = arguments-right t (a .each-argument);
       right-terms = terms-right t (a .each-left-term) (a .each-right-term);
       right-labels = labels-right t (a .each-label) (a .once);
@@ -145,7 +146,7 @@ module _ (t : List ℕ) (a : Accepted t) where
   join l k e h =
       ap (λ (x : List ℕ). x ++ section t k) e ∙ sym (take-add (offset t k) (size t k) t) ∙ ap (λ (n : ℕ). take n t) (sym (a .follows k h))
 
-  pub end-to-end : take headerWords t ++ section t nodes ++ section t arguments ++ section t leftTerms ++ section t leftLabels ++ section t rightTerms ++ section t rightLabels ≡ t
+  pub end-to-end : take headerWords t ++ nodesOf t ++ argumentsOf t ++ leftTermsOf t ++ leftLabelsOf t ++ rightTermsOf t ++ rightLabelsOf t ≡ t
   unfolding upTo
   end-to-end =
       let e₀ : take headerWords t ≡ upTo nodes = ap (λ (n : ℕ). take n t) (sym (a .begins)) in
@@ -154,4 +155,4 @@ module _ (t : List ℕ) (a : Accepted t) where
       let e₃ = join _ leftTerms e₂ (omega arith) in
       let e₄ = join _ leftLabels e₃ (omega arith) in
       let e₅ = join _ rightTerms e₄ (omega arith) in
-      ap (λ (x : List ℕ). x ++ section t rightLabels) e₅ ∙ sym (take-add (offset t rightLabels) (size t rightLabels) t) ∙ take-all (offset t rightLabels + size t rightLabels) t (omega (arith, a .ends))
+      ap (λ (x : List ℕ). x ++ rightLabelsOf t) e₅ ∙ sym (take-add (offset t rightLabels) (size t rightLabels) t) ∙ take-all (offset t rightLabels + size t rightLabels) t (omega (arith, a .ends))

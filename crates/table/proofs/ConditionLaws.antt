@@ -9,7 +9,7 @@ use lib.Dec.{eqb, ltb}
 use lib.ListN.{length, length-take, length-drop}
 use Rattle.table.specs.Limits.{sections, nodeWords, maxNodes, maxArguments, maxTerms, maxLabels, maxLabel}
 use Rattle.table.specs.Some.{someBelow}
-use Rattle.table.specs.Layout.{word, nodes, arguments, leftTerms, leftLabels, rightTerms, rightLabels, offset, size, section, labels, firstOf, countOf, nodeCount, countsBefore, argumentOf}
+use Rattle.table.specs.Layout.{nodesOf, argumentsOf, leftTermsOf, rightTermsOf, word, nodes, arguments, leftTerms, leftLabels, rightTerms, rightLabels, offset, size, section, labelsOf, firstOf, countOf, nodeCount, countsBefore, argumentOf}
 use Rattle.table.specs.Code.Reading.{RunsInside}
 use Rattle.table.specs.Conditions.{endBefore, offsetIsWrong, brokenPair, overLimit, nodeIsWrong, nodesAreWrong, argumentIsWrong, runIsWrong, wrongArgument, termIsWrong, wrongTerm, labelsAreEqual, labelIsWrong, wrongLabel}
 use Rattle.table.specs.Accepted.{RightNode, variable, constant, application, NodeIsRight}
@@ -135,18 +135,18 @@ runs-inside ns args f e = record { run = go }
         run-inside (f i h) (length args) (omega arith)
 
 -- Refusal 5.
-pub arguments-kept : (t : List ℕ) → wrongArgument t ≡ false → (i j : ℕ) → i < nodeCount (section t nodes) → j < countOf (section t nodes) i → argumentOf (section t nodes) (section t arguments) i j < i
+pub arguments-kept : (t : List ℕ) → wrongArgument t ≡ false → (i j : ℕ) → i < nodeCount (nodesOf t) → j < countOf (nodesOf t) i → argumentOf (nodesOf t) (argumentsOf t) i j < i
 unfolding wrongArgument runIsWrong argumentIsWrong
 arguments-kept t e i j h g =
-    let ns = section t nodes in
-    let args = section t arguments in
+    let ns = nodesOf t in
+    let args = argumentsOf t in
     leb-false _ _ (none-some (argumentIsWrong ns args i) (countOf ns i) (none-some (runIsWrong ns args) (nodeCount ns) e i h) j g)
 
-pub arguments-right : (t : List ℕ) → ((i j : ℕ) → i < nodeCount (section t nodes) → j < countOf (section t nodes) i → argumentOf (section t nodes) (section t arguments) i j < i) → wrongArgument t ≡ false
+pub arguments-right : (t : List ℕ) → ((i j : ℕ) → i < nodeCount (nodesOf t) → j < countOf (nodesOf t) i → argumentOf (nodesOf t) (argumentsOf t) i j < i) → wrongArgument t ≡ false
 unfolding wrongArgument runIsWrong argumentIsWrong
 arguments-right t f =
-    let ns = section t nodes in
-    let args = section t arguments in
+    let ns = nodesOf t in
+    let args = argumentsOf t in
     some-none (runIsWrong ns args) (nodeCount ns) (λ i h. some-none (argumentIsWrong ns args i) (countOf ns i) (λ j g. lt-leb _ _ (f i j h g)))
 
 -- Refusal 6, on one side and on both.
@@ -160,19 +160,19 @@ side-right ts n f = some-none (termIsWrong ts n) (length ts) (λ i h. lt-leb _ _
 
 module _ (t : List ℕ) where
   wrongOn : ℕ → Bool
-  wrongOn k = someBelow (length (section t k)) (termIsWrong (section t k) (nodeCount (section t nodes)))
+  wrongOn k = someBelow (length (section t k)) (termIsWrong (section t k) (nodeCount (nodesOf t)))
 
-  pub left-terms-kept : wrongTerm t ≡ false → (i : ℕ) → i < length (section t leftTerms) → word (section t leftTerms) i < nodeCount (section t nodes)
+  pub left-terms-kept : wrongTerm t ≡ false → (i : ℕ) → i < length (leftTermsOf t) → word (leftTermsOf t) i < nodeCount (nodesOf t)
   unfolding wrongTerm wrongOn
-  left-terms-kept e = side-kept (section t leftTerms) _ (or-false-left _ (wrongOn rightTerms) e)
+  left-terms-kept e = side-kept (leftTermsOf t) _ (or-false-left _ (wrongOn rightTerms) e)
 
-  pub right-terms-kept : wrongTerm t ≡ false → (i : ℕ) → i < length (section t rightTerms) → word (section t rightTerms) i < nodeCount (section t nodes)
+  pub right-terms-kept : wrongTerm t ≡ false → (i : ℕ) → i < length (rightTermsOf t) → word (rightTermsOf t) i < nodeCount (nodesOf t)
   unfolding wrongTerm wrongOn
-  right-terms-kept e = side-kept (section t rightTerms) _ (or-false-right (wrongOn leftTerms) _ e)
+  right-terms-kept e = side-kept (rightTermsOf t) _ (or-false-right (wrongOn leftTerms) _ e)
 
-  pub terms-right : ((i : ℕ) → i < length (section t leftTerms) → word (section t leftTerms) i < nodeCount (section t nodes)) → ((i : ℕ) → i < length (section t rightTerms) → word (section t rightTerms) i < nodeCount (section t nodes)) → wrongTerm t ≡ false
+  pub terms-right : ((i : ℕ) → i < length (leftTermsOf t) → word (leftTermsOf t) i < nodeCount (nodesOf t)) → ((i : ℕ) → i < length (rightTermsOf t) → word (rightTermsOf t) i < nodeCount (nodesOf t)) → wrongTerm t ≡ false
   unfolding wrongTerm wrongOn
-  terms-right f g = or-both-false (wrongOn leftTerms) (wrongOn rightTerms) (side-right (section t leftTerms) _ f) (side-right (section t rightTerms) _ g)
+  terms-right f g = or-both-false (wrongOn leftTerms) (wrongOn rightTerms) (side-right (leftTermsOf t) _ f) (side-right (rightTermsOf t) _ g)
 
 -- Refusal 7, at one label and at all.
 record LabelIsRight (ls : List ℕ) (i : ℕ) : Type 0 where
@@ -198,15 +198,15 @@ label-right ls i r =
     rw (z, le-ltb _ _ (r .range .1)) (some-none (labelsAreEqual ls i) i (λ j h. ne-eqb _ _ (r .new j h)))
 
 module _ (t : List ℕ) where
-  pub labels-kept : wrongLabel t ≡ false → (i : ℕ) → i < length (labels t) → (0 < word (labels t) i) × (word (labels t) i ≤ maxLabel)
+  pub labels-kept : wrongLabel t ≡ false → (i : ℕ) → i < length (labelsOf t) → (0 < word (labelsOf t) i) × (word (labelsOf t) i ≤ maxLabel)
   unfolding wrongLabel
-  labels-kept e i h = label-kept (labels t) i (none-some (labelIsWrong (labels t)) (length (labels t)) e i h) .range
+  labels-kept e i h = label-kept (labelsOf t) i (none-some (labelIsWrong (labelsOf t)) (length (labelsOf t)) e i h) .range
 
-  pub labels-new : wrongLabel t ≡ false → (i j : ℕ) → i < j → j < length (labels t) → word (labels t) i ≡ word (labels t) j → ⊥
+  pub labels-new : wrongLabel t ≡ false → (i j : ℕ) → i < j → j < length (labelsOf t) → word (labelsOf t) i ≡ word (labelsOf t) j → ⊥
   unfolding wrongLabel
-  labels-new e i j g h = label-kept (labels t) j (none-some (labelIsWrong (labels t)) (length (labels t)) e j h) .new i g
+  labels-new e i j g h = label-kept (labelsOf t) j (none-some (labelIsWrong (labelsOf t)) (length (labelsOf t)) e j h) .new i g
 
-  pub labels-right : ((i : ℕ) → i < length (labels t) → (0 < word (labels t) i) × (word (labels t) i ≤ maxLabel)) → ((i j : ℕ) → i < j → j < length (labels t) → word (labels t) i ≡ word (labels t) j → ⊥) → wrongLabel t ≡ false
+  pub labels-right : ((i : ℕ) → i < length (labelsOf t) → (0 < word (labelsOf t) i) × (word (labelsOf t) i ≤ maxLabel)) → ((i j : ℕ) → i < j → j < length (labelsOf t) → word (labelsOf t) i ≡ word (labelsOf t) j → ⊥) → wrongLabel t ≡ false
   unfolding wrongLabel
   labels-right f g =
-      some-none (labelIsWrong (labels t)) (length (labels t)) (λ i h. label-right (labels t) i (record { range = f i h; new = λ j l. g j i l h }))
+      some-none (labelIsWrong (labelsOf t)) (length (labelsOf t)) (λ i h. label-right (labelsOf t) i (record { range = f i h; new = λ j l. g j i l h }))

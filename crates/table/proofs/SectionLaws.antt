@@ -9,7 +9,7 @@ use native.Mathlib.Omega.{arith}
 use borrow.Author.Tests.{ltb-false}
 use lib.ListN.{length}
 use Rattle.table.specs.Limits.{headerWords, sections, nodeWords, maxNodes, maxArguments, maxTerms, maxLabels}
-use Rattle.table.specs.Layout.{nodes, arguments, leftTerms, leftLabels, rightTerms, rightLabels, offset, size, section}
+use Rattle.table.specs.Layout.{nodesOf, argumentsOf, leftTermsOf, leftLabelsOf, rightTermsOf, rightLabelsOf, nodes, arguments, leftTerms, leftLabels, rightTerms, rightLabels, offset, size, section}
 use Rattle.table.specs.Code.Reading.{HasSection, Sectioned, RunsInside}
 use Rattle.table.specs.Conditions.{tooFewWords, endBefore, wrongNode}
 use Rattle.table.proofs.ConditionLaws.{offsets-right, end-right, inside, section-size, WithinLimits, limits-kept, nodes-kept, counts-kept, runs-inside}
@@ -40,24 +40,24 @@ module _ (t : List ℕ) (s : Sectioned t) where
   pub within : WithinLimits t
   within = limits-kept t (s .limits)
 
-  pub few-node-words : length (section t nodes) ≤ nodeWords * maxNodes
+  pub few-node-words : length (nodesOf t) ≤ nodeWords * maxNodes
   few-node-words = omega (arith, section-length nodes (omega arith), within .for-nodes)
 
-  pub few-arguments : length (section t arguments) ≤ maxArguments
+  pub few-arguments : length (argumentsOf t) ≤ maxArguments
   few-arguments = omega (arith, section-length arguments (omega arith), within .for-arguments)
 
-  pub few-left-terms : length (section t leftTerms) ≤ maxTerms
+  pub few-left-terms : length (leftTermsOf t) ≤ maxTerms
   few-left-terms = omega (arith, section-length leftTerms (omega arith), within .for-left-terms)
 
-  pub few-left-labels : length (section t leftLabels) ≤ maxLabels
+  pub few-left-labels : length (leftLabelsOf t) ≤ maxLabels
   few-left-labels = omega (arith, section-length leftLabels (omega arith), within .for-left-labels)
 
-  pub few-right-terms : length (section t rightTerms) ≤ maxTerms
+  pub few-right-terms : length (rightTermsOf t) ≤ maxTerms
   few-right-terms = omega (arith, section-length rightTerms (omega arith), within .for-right-terms)
 
-  pub few-right-labels : length (section t rightLabels) ≤ maxLabels
+  pub few-right-labels : length (rightLabelsOf t) ≤ maxLabels
   few-right-labels = omega (arith, section-length rightLabels (omega arith), within .for-right-labels)
 
-  pub runs : wrongNode t ≡ false → RunsInside (section t nodes) (section t arguments)
+  pub runs : wrongNode t ≡ false → RunsInside (nodesOf t) (argumentsOf t)
   unfolding wrongNode
-  runs e = runs-inside _ _ (nodes-kept _ _ e) (counts-kept (section t nodes) (length (section t arguments)) e)
+  runs e = runs-inside _ _ (nodes-kept _ _ e) (counts-kept (nodesOf t) (length (argumentsOf t)) e)

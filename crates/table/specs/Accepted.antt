@@ -4,12 +4,15 @@ use mathlib.Core.Path.{_≡_}
 use mathlib.Core.List.{List}
 use lib.ListN.{length}
 use Rattle.table.specs.Limits.{headerWords, nodeWords, maxNodes, maxArguments, maxTerms, maxLabels, maxVariable, maxName, maxCount, maxLabel}
-use Rattle.table.specs.Layout.{word, nodes, arguments, leftTerms, leftLabels, rightTerms, rightLabels, offset, size, section, labels, kindOf, nameOf, firstOf, countOf, nodeCount, countsBefore, argumentOf}
+use Rattle.table.specs.Layout.{word, nodes, rightLabels, offset, size, nodesOf, argumentsOf, leftTermsOf, leftLabelsOf, rightTermsOf, rightLabelsOf, labelsOf, kindOf, nameOf, firstOf, countOf, nodeCount, countsBefore, argumentOf}
 
--- A node with these words, after nodes whose counts add up to `earlier`.
+-- What the words of a node may be, after nodes whose counts add up to `earlier`.
 pub data RightNode (kind name first count earlier : ℕ) : Type 0 where
+  -- "Kind 0 is a variable. Its name is 0 to 63; first and count are 0."
   variable : kind ≡ 0 → name ≤ maxVariable → first ≡ 0 → count ≡ 0 → RightNode kind name first count earlier
+  -- "Kind 1 is an application. Its name is 0 to 65535 [..] Count 0 is a constant, and first is then 0."
   constant : kind ≡ 1 → name ≤ maxName → first ≡ 0 → count ≡ 0 → RightNode kind name first count earlier
+  -- "its count 0 to 8"; "first is the sum of the earlier counts"
   application : kind ≡ 1 → name ≤ maxName → first ≡ earlier → 0 < count → count ≤ maxCount → RightNode kind name first count earlier
 
 -- Node i of a nodes section.
@@ -24,22 +27,22 @@ pub record Accepted (t : List ℕ) : Type 0 where
   pub follows : (k : ℕ) → k < rightLabels → offset t (k + 1) ≡ offset t k + size t k
   pub ends : offset t rightLabels + size t rightLabels ≡ length t
   -- "A node is four words"; "At most 256 nodes, 512 arguments, 8 terms a side, 4 labels a side."
-  pub whole-nodes : length (section t nodes) ≡ nodeWords * nodeCount (section t nodes)
-  pub few-nodes : nodeCount (section t nodes) ≤ maxNodes
-  pub few-arguments : length (section t arguments) ≤ maxArguments
-  pub few-left-terms : length (section t leftTerms) ≤ maxTerms
-  pub few-left-labels : length (section t leftLabels) ≤ maxLabels
-  pub few-right-terms : length (section t rightTerms) ≤ maxTerms
-  pub few-right-labels : length (section t rightLabels) ≤ maxLabels
+  pub whole-nodes : length (nodesOf t) ≡ nodeWords * nodeCount (nodesOf t)
+  pub few-nodes : nodeCount (nodesOf t) ≤ maxNodes
+  pub few-arguments : length (argumentsOf t) ≤ maxArguments
+  pub few-left-terms : length (leftTermsOf t) ≤ maxTerms
+  pub few-left-labels : length (leftLabelsOf t) ≤ maxLabels
+  pub few-right-terms : length (rightTermsOf t) ≤ maxTerms
+  pub few-right-labels : length (rightLabelsOf t) ≤ maxLabels
   -- kind, name, first and count of each node
-  pub each-node : (i : ℕ) → i < nodeCount (section t nodes) → NodeIsRight (section t nodes) i
+  pub each-node : (i : ℕ) → i < nodeCount (nodesOf t) → NodeIsRight (nodesOf t) i
   -- "the sum of all counts is the length of the arguments section"
-  pub counts : countsBefore (section t nodes) (nodeCount (section t nodes)) ≡ length (section t arguments)
+  pub counts : countsBefore (nodesOf t) (nodeCount (nodesOf t)) ≡ length (argumentsOf t)
   -- "An argument is a node number smaller than that of the node it belongs to."
-  pub each-argument : (i j : ℕ) → i < nodeCount (section t nodes) → j < countOf (section t nodes) i → argumentOf (section t nodes) (section t arguments) i j < i
+  pub each-argument : (i j : ℕ) → i < nodeCount (nodesOf t) → j < countOf (nodesOf t) i → argumentOf (nodesOf t) (argumentsOf t) i j < i
   -- "A term is a node number"
-  pub each-left-term : (i : ℕ) → i < length (section t leftTerms) → word (section t leftTerms) i < nodeCount (section t nodes)
-  pub each-right-term : (i : ℕ) → i < length (section t rightTerms) → word (section t rightTerms) i < nodeCount (section t nodes)
+  pub each-left-term : (i : ℕ) → i < length (leftTermsOf t) → word (leftTermsOf t) i < nodeCount (nodesOf t)
+  pub each-right-term : (i : ℕ) → i < length (rightTermsOf t) → word (rightTermsOf t) i < nodeCount (nodesOf t)
   -- "A label is 1 to 65535 and stands once in the whole table."
-  pub each-label : (i : ℕ) → i < length (labels t) → (0 < word (labels t) i) × (word (labels t) i ≤ maxLabel)
-  pub once : (i j : ℕ) → i < j → j < length (labels t) → word (labels t) i ≡ word (labels t) j → ⊥
+  pub each-label : (i : ℕ) → i < length (labelsOf t) → (0 < word (labelsOf t) i) × (word (labelsOf t) i ≤ maxLabel)
+  pub once : (i j : ℕ) → i < j → j < length (labelsOf t) → word (labelsOf t) i ≡ word (labelsOf t) j → ⊥

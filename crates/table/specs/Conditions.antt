@@ -6,18 +6,18 @@ use lib.Dec.{eqb, leb, ltb}
 use lib.ListN.{length}
 use Rattle.table.specs.Limits.{headerWords, sections, nodeWords, maxNodes, maxArguments, maxTerms, maxLabels, maxVariable, maxName, maxCount, maxLabel}
 use Rattle.table.specs.Some.{someBelow}
-use Rattle.table.specs.Layout.{word, nodes, arguments, leftTerms, leftLabels, rightTerms, rightLabels, offset, size, section, labels, kindOf, nameOf, firstOf, countOf, nodeCount, countsBefore, argumentOf}
+use Rattle.table.specs.Layout.{word, nodes, arguments, leftTerms, leftLabels, rightTerms, rightLabels, offset, size, nodesOf, argumentsOf, leftTermsOf, rightTermsOf, labelsOf, kindOf, nameOf, firstOf, countOf, nodeCount, countsBefore, argumentOf}
 
 -- 1: "fewer than 12 words"
 unfoldable pub tooFewWords : List ℕ → Bool
 tooFewWords t = ltb (length t) headerWords
 
--- The end of the section before section k. "The first offset is 12."
+-- Where section k should start: at word 12, or at the end of the section before it.
 unfoldable pub endBefore : List ℕ → ℕ → ℕ
 endBefore t zero = headerWords
 endBefore t (suc k) = offset t k + size t k
 
--- "Each next offset is the end of the section before it.": that of section k is not.
+-- The offset of section k is not as it should be: "The first offset is 12. Each next offset is the end of the section before it."
 unfoldable pub offsetIsWrong : List ℕ → ℕ → Bool
 offsetIsWrong t k = not (eqb (offset t k) (endBefore t k))
 
@@ -46,6 +46,7 @@ unfoldable pub rightApplication : ℕ → ℕ → ℕ → ℕ → Bool
 rightApplication name first count earlier =
     leb name maxName && leb count maxCount && eqb first (startOf count earlier)
 
+-- A node with these words, after nodes whose counts add up to `earlier`, has a right kind, name, first and count.
 unfoldable pub rightNode : ℕ → ℕ → ℕ → ℕ → ℕ → Bool
 rightNode kind name first count earlier =
     cond (eqb kind 0) (rightVariable name first count)
@@ -62,7 +63,7 @@ nodesAreWrong ns n =
 
 -- 4: "a node has a wrong kind, name, first or count, or the counts do not add up to the arguments section"
 unfoldable pub wrongNode : List ℕ → Bool
-wrongNode t = nodesAreWrong (section t nodes) (length (section t arguments))
+wrongNode t = nodesAreWrong (nodesOf t) (length (argumentsOf t))
 
 -- Argument j of node i is not smaller than i.
 unfoldable pub argumentIsWrong : List ℕ → List ℕ → ℕ → ℕ → Bool
@@ -74,7 +75,7 @@ runIsWrong ns args i = someBelow (countOf ns i) (argumentIsWrong ns args i)
 
 -- 5: "an argument is not smaller than its node"
 unfoldable pub wrongArgument : List ℕ → Bool
-wrongArgument t = someBelow (nodeCount (section t nodes)) (runIsWrong (section t nodes) (section t arguments))
+wrongArgument t = someBelow (nodeCount (nodesOf t)) (runIsWrong (nodesOf t) (argumentsOf t))
 
 -- Term i of a side is none of n nodes.
 unfoldable pub termIsWrong : List ℕ → ℕ → ℕ → Bool
@@ -83,8 +84,8 @@ termIsWrong ts n i = leb n (word ts i)
 -- 6: "a term is not a node number"
 unfoldable pub wrongTerm : List ℕ → Bool
 wrongTerm t =
-    someBelow (length (section t leftTerms)) (termIsWrong (section t leftTerms) (nodeCount (section t nodes))) ||
-    someBelow (length (section t rightTerms)) (termIsWrong (section t rightTerms) (nodeCount (section t nodes)))
+    someBelow (length (leftTermsOf t)) (termIsWrong (leftTermsOf t) (nodeCount (nodesOf t))) ||
+    someBelow (length (rightTermsOf t)) (termIsWrong (rightTermsOf t) (nodeCount (nodesOf t)))
 
 -- Labels i and j are equal.
 unfoldable pub labelsAreEqual : List ℕ → ℕ → ℕ → Bool
@@ -96,4 +97,4 @@ labelIsWrong ls i = eqb (word ls i) 0 || ltb maxLabel (word ls i) || someBelow i
 
 -- 7: "a label is 0, above 65535, or repeated", in the whole table
 unfoldable pub wrongLabel : List ℕ → Bool
-wrongLabel t = someBelow (length (labels t)) (labelIsWrong (labels t))
+wrongLabel t = someBelow (length (labelsOf t)) (labelIsWrong (labelsOf t))

@@ -9,7 +9,7 @@ use Rattle.table.specs.Limits.{nodeWords}
 abbrev pub word : List ℕ → ℕ → ℕ
 word t i = getD t i 0
 
--- "six pairs of offset and length, both in words, sorted by offset: nodes, arguments, left terms, left labels, right terms, right labels"
+-- "Words 0 to 11 are six pairs of offset and length, both in words, sorted by offset: nodes, arguments, left terms, left labels, right terms, right labels"
 abbrev pub nodes : ℕ
 nodes = 0
 
@@ -34,9 +34,31 @@ offset t k = word t (2 * k)
 abbrev pub size : List ℕ → ℕ → ℕ
 size t k = word t (2 * k + 1)
 
--- The words of section k.
+-- The words of section k, and those of each section by its name.
 abbrev pub section : List ℕ → ℕ → List ℕ
 section t k = take (size t k) (drop (offset t k) t)
+
+abbrev pub nodesOf : List ℕ → List ℕ
+nodesOf t = section t nodes
+
+abbrev pub argumentsOf : List ℕ → List ℕ
+argumentsOf t = section t arguments
+
+abbrev pub leftTermsOf : List ℕ → List ℕ
+leftTermsOf t = section t leftTerms
+
+abbrev pub leftLabelsOf : List ℕ → List ℕ
+leftLabelsOf t = section t leftLabels
+
+abbrev pub rightTermsOf : List ℕ → List ℕ
+rightTermsOf t = section t rightTerms
+
+abbrev pub rightLabelsOf : List ℕ → List ℕ
+rightLabelsOf t = section t rightLabels
+
+-- The labels of the whole table: the left ones, then the right ones.
+abbrev pub labelsOf : List ℕ → List ℕ
+labelsOf t = leftLabelsOf t ++ rightLabelsOf t
 
 -- "A node is four words: kind, name, first, count. Nodes are numbered from 0." Node i of a nodes section.
 abbrev pub kindOf : List ℕ → ℕ → ℕ
@@ -63,7 +85,3 @@ countsBefore ns (suc i) = countsBefore ns i + countOf ns i
 -- Argument j of node i: its arguments start at its first.
 abbrev pub argumentOf : List ℕ → List ℕ → ℕ → ℕ → ℕ
 argumentOf ns args i j = word args (firstOf ns i + j)
-
--- The labels of the table: the left ones, then the right ones.
-abbrev pub labels : List ℕ → List ℕ
-labels t = section t leftLabels ++ section t rightLabels
