@@ -4,6 +4,7 @@ use mathlib.Core.Bool.{Bool, true, false}
 use mathlib.Core.Path.{_≡_, refl, sym}
 use mathlib.Core.Logic.{_↔_}
 use mathlib.Core.List.{List, [], _∷_}
+use lib.ListN.{drop}
 use Rattle.table.specs.Refusal.{conditions, firstHeld, refusal, First, here, later, none}
 
 first-held : (n : ℕ) {cs : List (ℕ × Bool)} → First n cs → firstHeld cs ≡ n
@@ -25,3 +26,16 @@ held-first n (c ∷ cs) e = pick (c .1) refl (held-first n cs)
 pub refused : (t : List ℕ) (n : ℕ) → refusal t ≡ n ↔ First n (conditions t)
 unfolding refusal
 refused t n = (held-first n (conditions t), first-held n)
+
+-- the step from one condition to the next
+pub not-held : (c : ℕ × Bool) (cs : List (ℕ × Bool)) → c .1 ≡ false → firstHeld (c ∷ cs) ≡ firstHeld cs
+unfolding firstHeld
+not-held c cs h = rw h
+
+pub held : (c : ℕ × Bool) (cs : List (ℕ × Bool)) → c .1 ≡ true → firstHeld (c ∷ cs) ≡ c .0
+unfolding firstHeld
+held c cs h = rw h
+
+-- none of the first k conditions holds
+abbrev pub Passed : ℕ → List ℕ → Type 0
+Passed k t = refusal t ≡ firstHeld (drop k (conditions t))
