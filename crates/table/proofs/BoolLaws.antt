@@ -1,4 +1,4 @@
--- What a test that is an `||`, an `&&` or a negation says of its parts. By cases. Assumes nothing.
+-- What a test that is an `||` or an `&&` says of its parts. By cases. Assumes nothing.
 use mathlib.Core.Bool.{Bool, true, false, _&&_, _||_}
 use mathlib.Core.Path.{_≡_, refl}
 
@@ -20,6 +20,3 @@ and-true-left false b e = e
 pub and-true-right : (a b : Bool) → (a && b) ≡ true → b ≡ true
 and-true-right true b e = e
 and-true-right false b e = let z : false ≡ true = e in cc
-
-pub and-both-true : (a b : Bool) → a ≡ true → b ≡ true → (a && b) ≡ true
-and-both-true a b p q = cc

@@ -114,7 +114,9 @@ nodes-right ns n f e =
 -- The sum of the earlier counts never falls, so each node's arguments are a run inside the section.
 counts-rise : (ns : List ℕ) (i d : ℕ) → countsBefore ns i ≤ countsBefore ns (i + d)
 unfolding countsBefore
-counts-rise ns i zero = let s : i + 0 ≡ i = omega arith in rw s (let z : countsBefore ns i ≤ countsBefore ns i = omega arith in z)
+counts-rise ns i zero =
+    let s : i + 0 ≡ i = omega arith in
+    rw s (let z : countsBefore ns i ≤ countsBefore ns i = omega arith in z)
 counts-rise ns i (suc d) =
     let s : i + suc d ≡ suc (i + d) = omega arith in
     rw s (let z : countsBefore ns i ≤ countsBefore ns (i + d) + countOf ns (i + d) = omega (arith, counts-rise ns i d) in z)

@@ -26,7 +26,9 @@ offset-requires : tie.Need-offset-requires Inv-loop μ-loop
 offset-requires c κs = record { header = search needs; known = search needs }
 
 returns : tie.Need-returns Inv-loop μ-loop
-returns c = let l = c .before .before .before .loop in pair-wrong _ (l .k) _ (l .end) (c .before .offset .ensures .0) (l .inv .1) (c .before .before .loop-test .taken) (c .if1 .taken)
+returns c =
+    let l = c .before .before .before .loop in
+    pair-wrong _ (l .k) _ (l .end) (c .before .offset .ensures .0) (l .inv .1) (c .before .before .loop-test .taken) (c .if1 .taken)
 
 size-requires : tie.Need-size-requires Inv-loop μ-loop
 size-requires c κs = record { header = search needs; known = search needs }
@@ -41,10 +43,15 @@ loop-less : tie.Need-loop-less Inv-loop μ-loop
 loop-less c = search needs
 
 loop-again : tie.Need-loop-again Inv-loop μ-loop
-loop-again c = let l = c .before .before .before .before .loop in let o = c .before .before .offset .ensures .0 in (search needs, end-next _ (l .k) _ (l .end) o (l .inv .1) _ (c .size .ensures .0), search needs, pair-right _ (l .k) _ (l .end) o (l .inv .1) (c .before .if1 .left) (l .inv .3))
+loop-again c =
+    let l = c .before .before .before .before .loop in
+    let o = c .before .before .offset .ensures .0 in
+    (search needs, end-next _ (l .k) _ (l .end) o (l .inv .1) _ (c .size .ensures .0), search needs, pair-right _ (l .k) _ (l .end) o (l .inv .1) (c .before .if1 .left) (l .inv .3))
 
 returns-2 : tie.Need-returns-2 Inv-loop μ-loop
-returns-2 c = let l = c .before .loop in pairs-end _ (l .k) (l .end) (l .inv .1) (l .inv .0) (c .loop-test .left) (l .inv .3)
+returns-2 c =
+    let l = c .before .loop in
+    pairs-end _ (l .k) (l .end) (l .inv .1) (l .inv .0) (c .loop-test .left) (l .inv .3)
 
 pub broken-pair-spec : {M : Type 1} → statement M
 broken-pair-spec =

@@ -13,7 +13,9 @@ section-requires-2 : tie.Need-section-requires-2
 section-requires-2 c κs = has-section _ (c .before .before .pre .0) arguments (omega arith)
 
 wrong-arguments-requires : tie.Need-wrong-arguments-requires
-wrong-arguments-requires c κs = let p = c .before .before .before .pre in rw (c .before .section .ensures, c .section2 .ensures) (few-node-words _ (p .0), runs _ (p .0) (p .1))
+wrong-arguments-requires c κs =
+    let p = c .before .before .before .pre in
+    rw (c .before .section .ensures, c .section2 .ensures) (few-node-words _ (p .0), runs _ (p .0) (p .1))
 
 returns : tie.Need-returns
 unfolding wrongArgument

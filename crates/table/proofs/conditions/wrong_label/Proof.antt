@@ -13,7 +13,9 @@ section-requires-2 : tie.Need-section-requires-2
 section-requires-2 c κs = has-section _ (c .before .before .pre) rightLabels (omega arith)
 
 wrong-labels-requires : tie.Need-wrong-labels-requires
-wrong-labels-requires c κs = let p = c .before .before .before .pre in rw (c .before .section .ensures, c .section2 .ensures) (few-left-labels _ p, few-right-labels _ p)
+wrong-labels-requires c κs =
+    let p = c .before .before .before .pre in
+    rw (c .before .section .ensures, c .section2 .ensures) (few-left-labels _ p, few-right-labels _ p)
 
 returns : tie.Need-returns
 unfolding wrongLabel

@@ -11,7 +11,9 @@ shared-slice-read-t9 : tie.Need-shared-slice-read-t9
 shared-slice-read-t9 c = search needs
 
 returns : tie.Need-returns
-returns c = let a = c .before .before .args in word-left (a .left .now) (a .right .now) (a .i) (c .before .if1 .taken)
+returns c =
+    let a = c .before .before .args in
+    word-left (a .left .now) (a .right .now) (a .i) (c .before .if1 .taken)
 
 sub-j : tie.Need-sub-j
 sub-j c = search needs
@@ -23,7 +25,9 @@ shared-slice-read-t11 : tie.Need-shared-slice-read-t11
 shared-slice-read-t11 c = search needs
 
 returns-2 : tie.Need-returns-2
-returns-2 c = let a = c .before .before .args in word-right (a .left .now) (a .right .now) (a .i) (c .before .if1 .left)
+returns-2 c =
+    let a = c .before .before .args in
+    word-right (a .left .now) (a .right .now) (a .i) (c .before .if1 .left)
 
 pub label-spec : {M : Type 1} → statement M
 label-spec =

@@ -23,10 +23,14 @@ unfolding someBelow
 loop-holds c = (search needs, refl)
 
 wrong-run-requires : tie.Need-wrong-run-requires Inv-loop μ-loop
-wrong-run-requires c κs = let s = c .before .before .before .before .before in (search needs, s .pre .1 .run _ (search needs))
+wrong-run-requires c κs =
+    let s = c .before .before .before .before .before in
+    (search needs, s .pre .1 .run _ (search needs))
 
 returns : tie.Need-returns Inv-loop μ-loop
-returns c = let l = c .before .before .before in sym (some-here _ (l .loop .i) _ (search needs) (sym (c .before .wrong-run .ensures) ∙ c .if1 .taken))
+returns c =
+    let l = c .before .before .before in
+    sym (some-here _ (l .loop .i) _ (search needs) (sym (c .before .wrong-run .ensures) ∙ c .if1 .taken))
 
 add-i : tie.Need-add-i Inv-loop μ-loop
 add-i c = search needs
@@ -35,10 +39,14 @@ loop-less : tie.Need-loop-less Inv-loop μ-loop
 loop-less c = search needs
 
 loop-again : tie.Need-loop-again Inv-loop μ-loop
-loop-again c = let l = c .before .before .before in (search needs, some-next _ _ (l .loop .inv .1) (sym (c .before .wrong-run .ensures) ∙ c .if1 .left))
+loop-again c =
+    let l = c .before .before .before in
+    (search needs, some-next _ _ (l .loop .inv .1) (sym (c .before .wrong-run .ensures) ∙ c .if1 .left))
 
 returns-2 : tie.Need-returns-2 Inv-loop μ-loop
-returns-2 c = let l = c .before .loop in sym (some-end _ (l .i) _ (search needs) (search needs) (l .inv .1))
+returns-2 c =
+    let l = c .before .loop in
+    sym (some-end _ (l .i) _ (search needs) (search needs) (l .inv .1))
 
 pub wrong-arguments-spec : {M : Type 1} → statement M
 wrong-arguments-spec =

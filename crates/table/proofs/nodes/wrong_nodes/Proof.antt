@@ -68,13 +68,18 @@ loop-less : tie.Need-loop-less Inv-loop μ-loop
 loop-less c = search needs
 
 loop-again : tie.Need-loop-again Inv-loop μ-loop
-loop-again c = let s = tested (c .before) in let q : c .before .right-node .result ≡ true = not-false _ (c .if1 .left) in (search needs, earlier-next s, omega (arith, count-small s q), node-right s q (c .before .before .before .before .before .before .before .loop .inv .3))
+loop-again c =
+    let s = tested (c .before) in
+    let q : c .before .right-node .result ≡ true = not-false _ (c .if1 .left) in
+    (search needs, earlier-next s, omega (arith, count-small s q), node-right s q (c .before .before .before .before .before .before .before .loop .inv .3))
 
 index-requires : tie.Need-index-requires Inv-loop μ-loop
 index-requires c κs = search needs
 
 returns-2 : tie.Need-returns-2 Inv-loop μ-loop
-returns-2 c = let l = c .before .before in nodes-end _ (l .loop .i) _ _ (c .index .ensures .0 ∙ l .loop .inv .1) (search needs) (search needs) (l .loop .inv .3)
+returns-2 c =
+    let l = c .before .before in
+    nodes-end _ (l .loop .i) _ _ (c .index .ensures .0 ∙ l .loop .inv .1) (search needs) (search needs) (l .loop .inv .3)
 
 pub wrong-nodes-spec : {M : Type 1} → statement M
 wrong-nodes-spec =

@@ -4,13 +4,15 @@ use mathlib.Core.Path.{_≡_, refl, _∙_}
 use mathlib.Core.Bool.{false}
 use borrow.Author.Needs.{needs}
 use Rattle.table.specs.Some.{someBelow}
+use Rattle.table.specs.Layout.{firstOf, countOf}
 use Rattle.table.specs.Conditions.{argumentIsWrong}
 use Rattle.table.proofs.LoopLaws.{argument-wrong, argument-right, arguments-end}
 use Rattle.table.proofs.nodes.wrong_run.Statement.{statement}
 use Rattle.table.proofs.nodes.wrong_run.Tie as tie
 
 abbrev Inv-loop : tie.InvT-loop
-Inv-loop nodes arguments node first count j₀ j = (j ≤ count) × (someBelow j (argumentIsWrong nodes arguments (node .0)) ≡ false)
+Inv-loop nodes arguments node first count j₀ j =
+    (first ≡ firstOf nodes (node .0)) × (count ≡ countOf nodes (node .0)) × (j ≤ count) × (someBelow j (argumentIsWrong nodes arguments (node .0)) ≡ false)
 
 abbrev μ-loop : tie.MeasureT-loop
 μ-loop nodes arguments node first count j₀ j = count - j
@@ -29,7 +31,9 @@ index-requires-2 c κs = search needs
 
 loop-holds : tie.Need-loop-holds Inv-loop μ-loop
 unfolding someBelow
-loop-holds c = (search needs, refl)
+loop-holds c =
+    let s = c .before .before in
+    (s .index .ensures .0 ∙ s .before .first .ensures, c .index2 .ensures .0 ∙ c .before .count .ensures, search needs, refl)
 
 add-node-at : tie.Need-add-node-at Inv-loop μ-loop
 add-node-at c = search needs
@@ -38,7 +42,10 @@ node-at-requires : tie.Need-node-at-requires Inv-loop μ-loop
 node-at-requires c κs = search needs
 
 returns : tie.Need-returns Inv-loop μ-loop
-returns c = let b = c .before .before .before in let l = b .before .before in let s = l .before in argument-wrong _ _ _ (s .before .before .index .result) (s .index2 .result) (l .loop .j) (s .before .before .index .ensures .0 ∙ s .before .before .before .first .ensures) (s .index2 .ensures .0 ∙ s .before .count .ensures) (b .before .loop-test .taken) _ (b .node-at .ensures) (c .if1 .taken)
+returns c =
+    let b = c .before .before .before in
+    let l = b .before .before .loop in
+    argument-wrong _ _ _ _ _ (l .j) (l .inv .0) (l .inv .1) (b .before .loop-test .taken) _ (b .node-at .ensures) (c .if1 .taken)
 
 add-j : tie.Need-add-j Inv-loop μ-loop
 add-j c = search needs
@@ -47,10 +54,15 @@ loop-less : tie.Need-loop-less Inv-loop μ-loop
 loop-less c = search needs
 
 loop-again : tie.Need-loop-again Inv-loop μ-loop
-loop-again c = let b = c .before .before .before in let l = b .before .before in let s = l .before in (search needs, argument-right _ _ _ (s .before .before .index .result) (s .index2 .result) (l .loop .j) (s .before .before .index .ensures .0 ∙ s .before .before .before .first .ensures) (s .index2 .ensures .0 ∙ s .before .count .ensures) _ (b .node-at .ensures) (c .if1 .left) (l .loop .inv .1))
+loop-again c =
+    let b = c .before .before .before in
+    let l = b .before .before .loop in
+    (l .inv .0, l .inv .1, search needs, argument-right _ _ _ _ _ (l .j) (l .inv .0) (l .inv .1) _ (b .node-at .ensures) (c .if1 .left) (l .inv .3))
 
 returns-2 : tie.Need-returns-2 Inv-loop μ-loop
-returns-2 c = let l = c .before in let s = l .before in arguments-end _ _ _ (s .before .before .index .result) (s .index2 .result) (l .loop .j) (s .before .before .index .ensures .0 ∙ s .before .before .before .first .ensures) (s .index2 .ensures .0 ∙ s .before .count .ensures) (l .loop .inv .0) (c .loop-test .left) (l .loop .inv .1)
+returns-2 c =
+    let l = c .before .loop in
+    arguments-end _ _ _ _ _ (l .j) (l .inv .0) (l .inv .1) (l .inv .2) (c .loop-test .left) (l .inv .3)
 
 pub wrong-run-spec : {M : Type 1} → statement M
 wrong-run-spec =

@@ -29,7 +29,9 @@ label-requires-2 c κs = search needs
 
 returns : tie.Need-returns Inv-loop μ-loop
 unfolding labelsAreEqual
-returns c = let b = c .before .before .before in sym (some-here _ (b .before .before .loop .j) _ (b .before .loop-test .taken) (eq-eqb _ _ (sym (b .label2 .ensures) ∙ c .if1 .taken ∙ b .before .before .before .label .ensures)))
+returns c =
+    let b = c .before .before .before in
+    sym (some-here _ (b .before .before .loop .j) _ (b .before .loop-test .taken) (eq-eqb _ _ (sym (b .label2 .ensures) ∙ c .if1 .taken ∙ b .before .before .before .label .ensures)))
 
 add-j : tie.Need-add-j Inv-loop μ-loop
 add-j c = search needs
@@ -39,7 +41,9 @@ loop-less c = search needs
 
 loop-again : tie.Need-loop-again Inv-loop μ-loop
 unfolding labelsAreEqual
-loop-again c = let b = c .before .before .before in (search needs, some-next _ _ (b .before .before .loop .inv .1) (ne-eqb _ _ (λ q. c .if1 .left (b .label2 .ensures ∙ q ∙ sym (b .before .before .before .label .ensures)))))
+loop-again c =
+    let b = c .before .before .before in
+    (search needs, some-next _ _ (b .before .before .loop .inv .1) (ne-eqb _ _ (λ q. c .if1 .left (b .label2 .ensures ∙ q ∙ sym (b .before .before .before .label .ensures)))))
 
 returns-2 : tie.Need-returns-2 Inv-loop μ-loop
 returns-2 c = sym (some-end _ _ _ (c .before .loop .inv .0) (c .loop-test .left) (c .before .loop .inv .1))

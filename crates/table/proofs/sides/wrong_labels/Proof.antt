@@ -1,11 +1,13 @@
 -- `table::sides::wrong_labels` meets its contract: no label so far is wrong. Assumes nothing.
-use Prim.Native.Nat.{_≤_, _<_, _-_}
+use Prim.Native.Nat.{_≤_, _-_}
 use mathlib.Core.Path.{_≡_, refl, sym, _∙_}
-use mathlib.Core.Bool.{false}
+use mathlib.Core.Bool.{false, _||_}
 use mathlib.Core.List.{_++_}
 use native.Mathlib.Omega.{arith}
 use borrow.Author.Needs.{needs}
+use lib.Dec.{eqb, ltb}
 use lib.ListN.{length, length-append}
+use Rattle.table.specs.Limits.{maxLabel}
 use Rattle.table.specs.Some.{someBelow}
 use Rattle.table.specs.Conditions.{labelIsWrong}
 use Rattle.table.proofs.SomeLaws.{some-here, some-next, some-end}
@@ -14,17 +16,22 @@ use Rattle.table.proofs.sides.wrong_labels.Statement.{statement}
 use Rattle.table.proofs.sides.wrong_labels.Tie as tie
 
 abbrev Inv-loop : tie.InvT-loop
-Inv-loop left right n i₀ i = (i ≤ length (left ++ right)) × (someBelow i (labelIsWrong (left ++ right)) ≡ false)
+Inv-loop left right n i₀ i =
+    (n ≡ length (left ++ right)) × (i ≤ n) × (someBelow i (labelIsWrong (left ++ right)) ≡ false)
 
 abbrev μ-loop : tie.MeasureT-loop
 μ-loop left right n i₀ i = n - i
+
+-- The three tests of a label are whether it is wrong.
+tested : (c : tie.After-repeated-label Inv-loop μ-loop) → let l = c .before .before .before in let a = l .before .before .before .before .before .args in let x = l .label .result .0 in (eqb x 0 || ltb maxLabel x || c .repeated-label .result) ≡ labelIsWrong (a .left .now ++ a .right .now) (l .before .before .loop .i)
+tested c = label-tested _ _ _ (c .before .before .before .label .ensures) _ (c .repeated-label .ensures)
 
 add-n : tie.Need-add-n Inv-loop μ-loop
 add-n c = search needs
 
 loop-holds : tie.Need-loop-holds Inv-loop μ-loop
 unfolding someBelow
-loop-holds c = (search needs, refl)
+loop-holds c = (simp length-append, search needs, refl)
 
 label-requires : tie.Need-label-requires Inv-loop μ-loop
 label-requires c κs = search needs
@@ -33,7 +40,9 @@ repeated-label-requires : tie.Need-repeated-label-requires Inv-loop μ-loop
 repeated-label-requires c κs = search needs
 
 returns : tie.Need-returns Inv-loop μ-loop
-returns c = let l = c .before .before .before .before in let i = l .before .before .loop .i in let a = l .before .before .before .before .before .args in let ls = a .left .now ++ a .right .now in let h : i < length ls = simp length-append (omega arith) in sym (some-here (labelIsWrong ls) i _ h (sym (label-tested ls i _ (l .label .ensures) _ (c .before .repeated-label .ensures)) ∙ c .if1 .taken))
+returns c =
+    let l = c .before .before .before .before .before in
+    sym (some-here _ (l .before .loop .i) _ (omega (arith, l .before .loop .inv .0)) (sym (tested (c .before)) ∙ c .if1 .taken))
 
 add-i : tie.Need-add-i Inv-loop μ-loop
 add-i c = search needs
@@ -42,10 +51,14 @@ loop-less : tie.Need-loop-less Inv-loop μ-loop
 loop-less c = search needs
 
 loop-again : tie.Need-loop-again Inv-loop μ-loop
-loop-again c = let l = c .before .before .before .before in let i = l .before .before .loop .i in let a = l .before .before .before .before .before .args in let ls = a .left .now ++ a .right .now in (simp length-append (omega arith), some-next (labelIsWrong ls) i (l .before .before .loop .inv .1) (sym (label-tested ls i _ (l .label .ensures) _ (c .before .repeated-label .ensures)) ∙ c .if1 .left))
+loop-again c =
+    let l = c .before .before .before .before .before .before .loop in
+    (l .inv .0, search needs, some-next _ _ (l .inv .2) (sym (tested (c .before)) ∙ c .if1 .left))
 
 returns-2 : tie.Need-returns-2 Inv-loop μ-loop
-returns-2 c = let l = c .before .loop in sym (some-end _ (l .i) _ (l .inv .0) (simp length-append (omega arith)) (l .inv .1))
+returns-2 c =
+    let l = c .before .loop in
+    sym (some-end _ (l .i) _ (omega (arith, l .inv .0)) (omega (arith, l .inv .0)) (l .inv .2))
 
 pub wrong-labels-spec : {M : Type 1} → statement M
 wrong-labels-spec =

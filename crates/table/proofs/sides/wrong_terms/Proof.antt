@@ -25,7 +25,9 @@ node-at-requires : tie.Need-node-at-requires Inv-loop μ-loop
 node-at-requires c κs = search needs
 
 returns : tie.Need-returns Inv-loop μ-loop
-returns c = let b = c .before .before in term-wrong (b .before .before .before .before .args .terms .now) _ (b .before .before .loop .i) _ (b .node-at .ensures) (b .before .loop-test .taken) (c .if1 .taken)
+returns c =
+    let b = c .before .before in
+    term-wrong (b .before .before .before .before .args .terms .now) _ (b .before .before .loop .i) _ (b .node-at .ensures) (b .before .loop-test .taken) (c .if1 .taken)
 
 add-i : tie.Need-add-i Inv-loop μ-loop
 add-i c = search needs
@@ -34,7 +36,9 @@ loop-less : tie.Need-loop-less Inv-loop μ-loop
 loop-less c = search needs
 
 loop-again : tie.Need-loop-again Inv-loop μ-loop
-loop-again c = let b = c .before .before in (search needs, term-right _ _ (b .before .before .loop .i) _ (b .node-at .ensures) (c .if1 .left) (b .before .before .loop .inv .1))
+loop-again c =
+    let b = c .before .before in
+    (search needs, term-right _ _ (b .before .before .loop .i) _ (b .node-at .ensures) (c .if1 .left) (b .before .before .loop .inv .1))
 
 returns-2 : tie.Need-returns-2 Inv-loop μ-loop
 returns-2 c = sym (some-end _ _ _ (c .before .loop .inv .0) (c .loop-test .left) (c .before .loop .inv .1))
