@@ -26,8 +26,8 @@ fn is_digit(byte: u8) -> bool {
 
 // A number's value with one more digit. (The input's numbers are words.)
 fn with_digit(value: u32, digit: u8) -> u32 {
-    // b'0' is 48.
-    let ones = (digit as u64 + 2) % 10;
+    // The digits stand at b'0' to b'0' + 9, so this is 0 to 9.
+    let ones = (digit % b'0') as u64;
     (((value as u64) * 10 + ones) % 4294967296) as u32
 }
 

@@ -66,19 +66,13 @@ unfolding wrongNode
 accepts t c =
     let s = c .sectioned in
     let n = SectionLaws.section-length t s nodes (omega arith) in
-    let w = SectionLaws.within t s in
     record {
       header = SectionLaws.header t s;
       begins = SectionLaws.begins t s;
       follows = SectionLaws.follows t s;
       ends = SectionLaws.ends t s;
-      whole-nodes = omega (arith, w .whole, n);
-      few-nodes = omega (arith, w .for-nodes, n);
-      few-arguments = SectionLaws.few-arguments t s;
-      few-left-terms = SectionLaws.few-left-terms t s;
-      few-left-labels = SectionLaws.few-left-labels t s;
-      few-right-terms = SectionLaws.few-right-terms t s;
-      few-right-labels = SectionLaws.few-right-labels t s;
+      whole-nodes = omega (arith, SectionLaws.whole t s, n);
+      within-limits = SectionLaws.within t s;
       each-node = nodes-kept (nodesOf t) (length (argumentsOf t)) (c .right-nodes);
       counts = counts-kept (nodesOf t) (length (argumentsOf t)) (c .right-nodes);
       each-argument = arguments-kept t (c .right-arguments);
@@ -116,15 +110,10 @@ clears t a =
       sectioned = record {
         words = le-ltb (length t) headerWords (a .header);
         pairs = pairs-right t (offset-ends t a) (a .ends);
-        limits = limits-right t (record {
-          whole = omega (arith, a .whole-nodes, long nodes (omega arith));
-          for-nodes = omega (arith, a .few-nodes, a .whole-nodes, long nodes (omega arith));
-          for-arguments = omega (arith, a .few-arguments, long arguments (omega arith));
-          for-left-terms = omega (arith, a .few-left-terms, long leftTerms (omega arith));
-          for-left-labels = omega (arith, a .few-left-labels, long leftLabels (omega arith));
-          for-right-terms = omega (arith, a .few-right-terms, long rightTerms (omega arith));
-          for-right-labels = omega (arith, a .few-right-labels, long rightLabels (omega arith));
-        });
+        limits =
+            limits-right t
+            (omega (arith, a .whole-nodes, long nodes (omega arith)))
+            (λ k h. omega (arith, a .within-limits k h, long k h));
       };
       right-nodes = nodes-right (nodesOf t) (length (argumentsOf t)) (a .each-node) (a .counts);
       right-arguments = arguments-right t (a .each-argument);

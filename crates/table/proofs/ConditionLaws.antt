@@ -1,5 +1,5 @@
 -- What it means that a condition does not hold, and back: each is a test of some of what acceptance means. Assumes nothing.
-use Prim.Native.Nat.{ℕ, zero, suc, _+_, _-_, _*_, _%_, _<_, _≤_}
+use Prim.Native.Nat.{ℕ, zero, suc, _+_, _-_, _%_, _<_, _≤_}
 use mathlib.Core.Bool.{Bool, false, not, _||_}
 use mathlib.Core.Path.{_≡_, ap, subst}
 use mathlib.Core.List.{List}
@@ -7,11 +7,11 @@ use native.Mathlib.Omega.{arith}
 use borrow.Author.Tests.{eq-eqb, ne-eqb, le-ltb, lt-leb, ltb-false, leb-false, eqb-true, eqb-false, not-false}
 use lib.Dec.{eqb, ltb}
 use lib.ListN.{length, length-take, length-drop}
-use Rattle.table.specs.Limits.{sections, nodeWords, maxNodes, maxArguments, maxTerms, maxLabels, maxLabel}
+use Rattle.table.specs.Limits.{sections, nodeWords, maxLabel}
 use Rattle.table.specs.Some.{someBelow}
-use Rattle.table.specs.Layout.{nodesOf, argumentsOf, leftTermsOf, rightTermsOf, word, nodes, arguments, leftTerms, leftLabels, rightTerms, rightLabels, offset, size, section, labelsOf, firstOf, countOf, nodeCount, countsBefore, argumentOf}
+use Rattle.table.specs.Layout.{nodesOf, argumentsOf, leftTermsOf, rightTermsOf, word, nodes, leftTerms, rightTerms, rightLabels, offset, size, section, labelsOf, firstOf, countOf, nodeCount, countsBefore, argumentOf}
 use Rattle.table.specs.Code.Reading.{RunsInside}
-use Rattle.table.specs.Conditions.{endBefore, offsetIsWrong, brokenPair, overLimit, nodeIsWrong, nodesAreWrong, argumentIsWrong, runIsWrong, wrongArgument, termIsWrong, wrongTerm, labelsAreEqual, labelIsWrong, wrongLabel}
+use Rattle.table.specs.Conditions.{endBefore, offsetIsWrong, brokenPair, limitOf, sectionIsLong, overLimit, nodeIsWrong, nodesAreWrong, argumentIsWrong, runIsWrong, wrongArgument, termIsWrong, wrongTerm, labelsAreEqual, labelIsWrong, wrongLabel}
 use Rattle.table.specs.Accepted.{RightNode, variable, constant, application, NodeIsRight}
 use Rattle.table.proofs.BoolLaws.{or-false-left, or-false-right, or-both-false}
 use Rattle.table.proofs.SomeLaws.{some-none, none-some}
@@ -47,51 +47,19 @@ pub section-size : (t : List ℕ) (k : ℕ) → offset t k + size t k ≤ length
 section-size t k h = simp (length-take, length-drop) (omega arith)
 
 -- Refusal 3.
-pub record WithinLimits (t : List ℕ) : Type 0 where
-  pub whole : size t nodes % nodeWords ≡ 0
-  pub for-nodes : size t nodes ≤ nodeWords * maxNodes
-  pub for-arguments : size t arguments ≤ maxArguments
-  pub for-left-terms : size t leftTerms ≤ maxTerms
-  pub for-left-labels : size t leftLabels ≤ maxLabels
-  pub for-right-terms : size t rightTerms ≤ maxTerms
-  pub for-right-labels : size t rightLabels ≤ maxLabels
-
-pub limits-kept : (t : List ℕ) → overLimit t ≡ false → WithinLimits t
+pub whole-kept : (t : List ℕ) → overLimit t ≡ false → size t nodes % nodeWords ≡ 0
 unfolding overLimit
-limits-kept t e₁ =
-    let a = not (eqb (size t nodes % nodeWords) 0) in
-    let b = a || ltb (nodeWords * maxNodes) (size t nodes) in
-    let c = b || ltb maxArguments (size t arguments) in
-    let d = c || ltb maxTerms (size t leftTerms) in
-    let e = d || ltb maxLabels (size t leftLabels) in
-    let f = e || ltb maxTerms (size t rightTerms) in
-    let e₂ = or-false-left f _ e₁ in
-    let e₃ = or-false-left e _ e₂ in
-    let e₄ = or-false-left d _ e₃ in
-    let e₅ = or-false-left c _ e₄ in
-    let e₆ = or-false-left b _ e₅ in
-    record {
-      whole = eqb-true _ _ (not-false _ (or-false-left a _ e₆));
-      for-nodes = ltb-false _ _ (or-false-right a _ e₆);
-      for-arguments = ltb-false _ _ (or-false-right b _ e₅);
-      for-left-terms = ltb-false _ _ (or-false-right c _ e₄);
-      for-left-labels = ltb-false _ _ (or-false-right d _ e₃);
-      for-right-terms = ltb-false _ _ (or-false-right e _ e₂);
-      for-right-labels = ltb-false _ _ (or-false-right f _ e₁);
-    }
+whole-kept t e = eqb-true _ _ (not-false _ (or-false-left _ (someBelow sections (sectionIsLong t)) e))
 
-pub limits-right : (t : List ℕ) → WithinLimits t → overLimit t ≡ false
-unfolding overLimit
-limits-right t l =
-    rw (
-      eq-eqb _ _ (l .whole),
-      le-ltb _ _ (l .for-nodes),
-      le-ltb _ _ (l .for-arguments),
-      le-ltb _ _ (l .for-left-terms),
-      le-ltb _ _ (l .for-left-labels),
-      le-ltb _ _ (l .for-right-terms),
-      le-ltb _ _ (l .for-right-labels),
-    )
+pub limits-kept : (t : List ℕ) → overLimit t ≡ false → (k : ℕ) → k < sections → size t k ≤ limitOf k
+unfolding overLimit sectionIsLong
+limits-kept t e k h =
+    ltb-false _ _ (none-some (sectionIsLong t) sections (or-false-right (not (eqb (size t nodes % nodeWords) 0)) _ e) k h)
+
+pub limits-right : (t : List ℕ) → size t nodes % nodeWords ≡ 0 → ((k : ℕ) → k < sections → size t k ≤ limitOf k) → overLimit t ≡ false
+unfolding overLimit sectionIsLong
+limits-right t e f =
+    or-both-false _ _ (ap not (eq-eqb _ _ e)) (some-none (sectionIsLong t) sections (λ k h. le-ltb _ _ (f k h)))
 
 -- Refusal 4.
 pub nodes-kept : (ns : List ℕ) (n : ℕ) → nodesAreWrong ns n ≡ false → (i : ℕ) → i < nodeCount ns → NodeIsRight ns i

@@ -3,8 +3,9 @@ use Prim.Native.Nat.{ℕ, _+_, _*_, _≤_, _<_}
 use mathlib.Core.Path.{_≡_}
 use mathlib.Core.List.{List}
 use lib.ListN.{length}
-use Rattle.table.specs.Limits.{headerWords, nodeWords, maxNodes, maxArguments, maxTerms, maxLabels, maxVariable, maxName, maxCount, maxLabel}
-use Rattle.table.specs.Layout.{word, nodes, rightLabels, offset, size, nodesOf, argumentsOf, leftTermsOf, leftLabelsOf, rightTermsOf, rightLabelsOf, labelsOf, kindOf, nameOf, firstOf, countOf, nodeCount, countsBefore, argumentOf}
+use Rattle.table.specs.Limits.{headerWords, sections, nodeWords, maxVariable, maxName, maxCount, maxLabel}
+use Rattle.table.specs.Layout.{word, nodes, rightLabels, offset, size, section, nodesOf, argumentsOf, leftTermsOf, rightTermsOf, labelsOf, kindOf, nameOf, firstOf, countOf, nodeCount, countsBefore, argumentOf}
+use Rattle.table.specs.Conditions.{limitOf}
 
 -- What the words of a node may be, after nodes whose counts add up to `earlier`.
 pub data RightNode (kind name first count earlier : ℕ) : Type 0 where
@@ -26,14 +27,10 @@ pub record Accepted (t : List ℕ) : Type 0 where
   pub begins : offset t nodes ≡ headerWords
   pub follows : (k : ℕ) → k < rightLabels → offset t (k + 1) ≡ offset t k + size t k
   pub ends : offset t rightLabels + size t rightLabels ≡ length t
-  -- "A node is four words"; "At most 256 nodes, 512 arguments, 8 terms a side, 4 labels a side."
+  -- "A node is four words"
   pub whole-nodes : length (nodesOf t) ≡ nodeWords * nodeCount (nodesOf t)
-  pub few-nodes : nodeCount (nodesOf t) ≤ maxNodes
-  pub few-arguments : length (argumentsOf t) ≤ maxArguments
-  pub few-left-terms : length (leftTermsOf t) ≤ maxTerms
-  pub few-left-labels : length (leftLabelsOf t) ≤ maxLabels
-  pub few-right-terms : length (rightTermsOf t) ≤ maxTerms
-  pub few-right-labels : length (rightLabelsOf t) ≤ maxLabels
+  -- "At most 256 nodes, 512 arguments, 8 terms a side, 4 labels a side."
+  pub within-limits : (k : ℕ) → k < sections → length (section t k) ≤ limitOf k
   -- kind, name, first and count of each node
   pub each-node : (i : ℕ) → i < nodeCount (nodesOf t) → NodeIsRight (nodesOf t) i
   -- "the sum of all counts is the length of the arguments section"

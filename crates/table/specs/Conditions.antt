@@ -1,12 +1,12 @@
 -- The conditions of document 01's refusals 1 to 7, each a test over the whole table.
 use Prim.Native.Nat.{ℕ, zero, suc, _+_, _*_, _%_}
 use mathlib.Core.Bool.{Bool, false, not, cond, _&&_, _||_}
-use mathlib.Core.List.{List}
+use mathlib.Core.List.{List, [], _∷_}
 use lib.Dec.{eqb, leb, ltb}
-use lib.ListN.{length}
+use lib.ListN.{length, getD}
 use Rattle.table.specs.Limits.{headerWords, sections, nodeWords, maxNodes, maxArguments, maxTerms, maxLabels, maxVariable, maxName, maxCount, maxLabel}
 use Rattle.table.specs.Some.{someBelow}
-use Rattle.table.specs.Layout.{word, nodes, arguments, leftTerms, leftLabels, rightTerms, rightLabels, offset, size, nodesOf, argumentsOf, leftTermsOf, rightTermsOf, labelsOf, kindOf, nameOf, firstOf, countOf, nodeCount, countsBefore, argumentOf}
+use Rattle.table.specs.Layout.{word, nodes, offset, size, nodesOf, argumentsOf, leftTermsOf, rightTermsOf, labelsOf, kindOf, nameOf, firstOf, countOf, nodeCount, countsBefore, argumentOf}
 
 -- 1: "fewer than 12 words"
 unfoldable pub tooFewWords : List ℕ → Bool
@@ -25,13 +25,18 @@ offsetIsWrong t k = not (eqb (offset t k) (endBefore t k))
 unfoldable pub brokenPair : List ℕ → Bool
 brokenPair t = someBelow sections (offsetIsWrong t) || not (eqb (endBefore t sections) (length t))
 
+-- "At most 256 nodes, 512 arguments, 8 terms a side, 4 labels a side.": the most words that section k may have.
+abbrev pub limitOf : ℕ → ℕ
+limitOf k =
+    getD (nodeWords * maxNodes ∷ maxArguments ∷ maxTerms ∷ maxLabels ∷ maxTerms ∷ maxLabels ∷ []) k 0
+
+-- Section k is over its limit.
+unfoldable pub sectionIsLong : List ℕ → ℕ → Bool
+sectionIsLong t k = ltb (limitOf k) (size t k)
+
 -- 3: "the nodes section is not a multiple of 4 words, or a section is over its limit"
 unfoldable pub overLimit : List ℕ → Bool
-overLimit t =
-    not (eqb (size t nodes % nodeWords) 0) || ltb (nodeWords * maxNodes) (size t nodes) ||
-    ltb maxArguments (size t arguments) ||
-    ltb maxTerms (size t leftTerms) || ltb maxLabels (size t leftLabels) ||
-    ltb maxTerms (size t rightTerms) || ltb maxLabels (size t rightLabels)
+overLimit t = not (eqb (size t nodes % nodeWords) 0) || someBelow sections (sectionIsLong t)
 
 -- "Kind 0 is a variable. Its name is 0 to 63; first and count are 0."
 unfoldable pub rightVariable : ℕ → ℕ → ℕ → Bool

@@ -50,12 +50,12 @@ pub fn over_limit(table: &[u32]) -> bool
 {
     let nodes = layout::size(table, NODES);
     (nodes % NODE_WORDS != 0)
-        | (nodes > NODE_WORDS * MAX_NODES)
-        | (layout::size(table, ARGUMENTS) > MAX_ARGUMENTS)
-        | (layout::size(table, LEFT_TERMS) > MAX_TERMS)
-        | (layout::size(table, LEFT_LABELS) > MAX_LABELS)
-        | (layout::size(table, RIGHT_TERMS) > MAX_TERMS)
-        | (layout::size(table, RIGHT_LABELS) > MAX_LABELS)
+        | ((nodes > NODE_WORDS * MAX_NODES)
+            | (layout::size(table, ARGUMENTS) > MAX_ARGUMENTS)
+            | (layout::size(table, LEFT_TERMS) > MAX_TERMS)
+            | (layout::size(table, LEFT_LABELS) > MAX_LABELS)
+            | (layout::size(table, RIGHT_TERMS) > MAX_TERMS)
+            | (layout::size(table, RIGHT_LABELS) > MAX_LABELS))
 }
 
 // 4: a node has a wrong kind, name, first or count, or the counts do not add up to the arguments section.

@@ -1,6 +1,7 @@
 -- `table::conditions::over_limit` meets its contract: each size is what its pair says. Assumes nothing.
 use borrow.Author.Needs.{needs}
-use Rattle.table.specs.Conditions.{overLimit}
+use Rattle.table.specs.Some.{someBelow}
+use Rattle.table.specs.Conditions.{sectionIsLong, overLimit}
 use Rattle.table.proofs.conditions.over_limit.Statement.{statement}
 use Rattle.table.proofs.conditions.over_limit.Tie as tie
 
@@ -26,7 +27,7 @@ size-requires-6 : tie.Need-size-requires-6
 size-requires-6 c κs = search needs
 
 returns : tie.Need-returns
-unfolding overLimit
+unfolding overLimit sectionIsLong someBelow
 returns c = cc
 
 pub over-limit-spec : {M : Type 1} → statement M

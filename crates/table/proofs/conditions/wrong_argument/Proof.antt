@@ -2,7 +2,7 @@
 use native.Mathlib.Omega.{arith}
 use Rattle.table.specs.Layout.{nodes, arguments}
 use Rattle.table.specs.Conditions.{wrongArgument}
-use Rattle.table.proofs.SectionLaws.{has-section, few-node-words, runs}
+use Rattle.table.proofs.SectionLaws.{has-section, within, runs}
 use Rattle.table.proofs.conditions.wrong_argument.Statement.{statement}
 use Rattle.table.proofs.conditions.wrong_argument.Tie as tie
 
@@ -15,7 +15,7 @@ section-requires-2 c κs = has-section _ (c .before .before .pre .0) arguments (
 wrong-arguments-requires : tie.Need-wrong-arguments-requires
 wrong-arguments-requires c κs =
     let p = c .before .before .before .pre in
-    rw (c .before .section .ensures, c .section2 .ensures) (few-node-words _ (p .0), runs _ (p .0) (p .1))
+    rw (c .before .section .ensures, c .section2 .ensures) (within _ (p .0) nodes (omega arith), runs _ (p .0) (p .1))
 
 returns : tie.Need-returns
 unfolding wrongArgument

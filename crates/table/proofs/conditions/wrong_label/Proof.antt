@@ -2,7 +2,7 @@
 use native.Mathlib.Omega.{arith}
 use Rattle.table.specs.Layout.{leftLabels, rightLabels}
 use Rattle.table.specs.Conditions.{wrongLabel}
-use Rattle.table.proofs.SectionLaws.{has-section, few-left-labels, few-right-labels}
+use Rattle.table.proofs.SectionLaws.{has-section, within}
 use Rattle.table.proofs.conditions.wrong_label.Statement.{statement}
 use Rattle.table.proofs.conditions.wrong_label.Tie as tie
 
@@ -15,7 +15,7 @@ section-requires-2 c κs = has-section _ (c .before .before .pre) rightLabels (o
 wrong-labels-requires : tie.Need-wrong-labels-requires
 wrong-labels-requires c κs =
     let p = c .before .before .before .pre in
-    rw (c .before .section .ensures, c .section2 .ensures) (few-left-labels _ p, few-right-labels _ p)
+    rw (c .before .section .ensures, c .section2 .ensures) (within _ p leftLabels (omega arith), within _ p rightLabels (omega arith))
 
 returns : tie.Need-returns
 unfolding wrongLabel

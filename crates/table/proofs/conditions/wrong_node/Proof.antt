@@ -2,7 +2,7 @@
 use native.Mathlib.Omega.{arith}
 use Rattle.table.specs.Layout.{nodes, arguments}
 use Rattle.table.specs.Conditions.{wrongNode}
-use Rattle.table.proofs.SectionLaws.{has-section, few-node-words}
+use Rattle.table.proofs.SectionLaws.{has-section, within}
 use Rattle.table.proofs.conditions.wrong_node.Statement.{statement}
 use Rattle.table.proofs.conditions.wrong_node.Tie as tie
 
@@ -13,7 +13,7 @@ section-requires-2 : tie.Need-section-requires-2
 section-requires-2 c κs = has-section _ (c .before .before .pre) arguments (omega arith)
 
 wrong-nodes-requires : tie.Need-wrong-nodes-requires
-wrong-nodes-requires c κs = rw (c .before .section .ensures) (few-node-words _ (c .before .before .before .pre))
+wrong-nodes-requires c κs = rw (c .before .section .ensures) (within _ (c .before .before .before .pre) nodes (omega arith))
 
 returns : tie.Need-returns
 unfolding wrongNode

@@ -3,7 +3,7 @@ use native.Mathlib.Omega.{arith}
 use borrow.Author.Needs.{needs}
 use Rattle.table.specs.Layout.{nodes, leftTerms, rightTerms}
 use Rattle.table.specs.Conditions.{wrongTerm}
-use Rattle.table.proofs.SectionLaws.{has-section, few-node-words}
+use Rattle.table.proofs.SectionLaws.{has-section, within}
 use Rattle.table.proofs.conditions.wrong_term.Statement.{statement}
 use Rattle.table.proofs.conditions.wrong_term.Tie as tie
 
@@ -11,7 +11,7 @@ section-requires : tie.Need-section-requires
 section-requires c κs = has-section _ (c .before .pre) nodes (omega arith)
 
 node-count-requires : tie.Need-node-count-requires
-node-count-requires c κs = rw (c .section .ensures) (few-node-words _ (c .before .before .pre))
+node-count-requires c κs = rw (c .section .ensures) (within _ (c .before .before .pre) nodes (omega arith))
 
 section-requires-2 : tie.Need-section-requires-2
 section-requires-2 c κs = has-section _ (c .before .before .before .pre) leftTerms (omega arith)
