@@ -1,0 +1,32 @@
+//! The arguments of the programs that go over generated tables.
+
+use std::path::PathBuf;
+
+pub struct Arguments {
+    /// The arguments that are no options.
+    pub programs: Vec<PathBuf>,
+    /// `--seed S`
+    pub seed: u64,
+    /// `--count N`
+    pub count: u64,
+    /// Whether the one flag of the program is given.
+    pub flag: bool,
+}
+
+impl Arguments {
+    /// The arguments of this process, or none where one is wrong.
+    pub fn of_process(flag: &str) -> Option<Arguments> {
+        let mut read = Arguments { programs: vec![], seed: 1, count: 5000, flag: false };
+        let mut arguments = std::env::args().skip(1);
+        while let Some(argument) = arguments.next() {
+            match argument.as_str() {
+                "--seed" => read.seed = arguments.next()?.parse().ok()?,
+                "--count" => read.count = arguments.next()?.parse().ok()?,
+                option if option == flag => read.flag = true,
+                option if option.starts_with('-') => return None,
+                program => read.programs.push(PathBuf::from(program)),
+            }
+        }
+        Some(read)
+    }
+}

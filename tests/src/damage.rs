@@ -1,0 +1,237 @@
+//! Tables damaged in every way that document 01 refuses.
+
+use crate::operations::MOST_BYTES;
+use crate::random::Random;
+use crate::table::{end_to_end, Problem};
+
+/// The refusals of tables and of inputs.
+pub const REFUSALS: [u32; 8] = [1, 2, 3, 4, 5, 6, 7, 11];
+
+const NODES: usize = 0;
+const ARGUMENTS: usize = 1;
+const TERMS: [usize; 2] = [2, 4];
+const LABELS: [usize; 2] = [3, 5];
+
+/// A table's bytes, four a word, lowest first.
+pub fn bytes(table: &[u32]) -> Vec<u8> {
+    table.iter().flat_map(|word| word.to_le_bytes()).collect()
+}
+
+/// A table with one damage.
+pub fn once(problem: &Problem, random: &mut Random) -> Vec<u8> {
+    let refusal = random.pick(&REFUSALS);
+    damaged(problem, random, &[refusal])
+}
+
+/// A table with several damages: the first refusal counts.
+pub fn several(problem: &Problem, random: &mut Random) -> Vec<u8> {
+    let refusals: Vec<u32> = (0..random.within(2, 4)).map(|_| random.pick(&REFUSALS)).collect();
+    damaged(problem, random, &refusals)
+}
+
+/// A table with some words written over, right or not.
+pub fn altered(problem: &Problem, random: &mut Random) -> Vec<u8> {
+    let mut table = problem.table();
+    for _ in 0..random.within(1, 3) {
+        let at = random.below(table.len());
+        let old = table[at];
+        table[at] = match random.below(6) {
+            0 => random.word(),
+            1 => u32::MAX,
+            2 => old.wrapping_sub(1),
+            3 => old.wrapping_add(1),
+            4 => random.pick(&table),
+            _ => random.below(9) as u32,
+        };
+    }
+    bytes(&table)
+}
+
+/// A table with a damage for each of some refusals: first those of sections, then those of the header, then those of the
+/// input.
+pub fn damaged(problem: &Problem, random: &mut Random, refusals: &[u32]) -> Vec<u8> {
+    let mut sections = sections(&problem.table());
+    for refusal in refusals {
+        match refusal {
+            3 => over_limit(random, &mut sections),
+            4 => wrong_node(random, &mut sections),
+            5 => wrong_argument(random, &mut sections),
+            6 => wrong_term(random, &mut sections),
+            7 => wrong_label(random, &mut sections),
+            _ => {}
+        }
+    }
+    let mut table = end_to_end(&sections);
+    if refusals.contains(&2) {
+        broken_pair(random, &mut table);
+    }
+    if refusals.contains(&1) {
+        table.truncate(random.below(12));
+    }
+    let mut input = bytes(&table);
+    if refusals.contains(&11) {
+        wrong_bytes(random, &mut input);
+    }
+    input
+}
+
+type Sections = [Vec<u32>; 6];
+
+fn sections(table: &[u32]) -> Sections {
+    std::array::from_fn(|i| {
+        let (offset, length) = (table[2 * i] as usize, table[2 * i + 1] as usize);
+        table[offset..offset + length].to_vec()
+    })
+}
+
+/// "a pair breaks the rule of offsets or ends"
+fn broken_pair(random: &mut Random, table: &mut Vec<u32>) {
+    let pair = random.below(6);
+    let (offset, length) = (2 * pair, 2 * pair + 1);
+    match random.below(10) {
+        0 => table[0] = random.pick(&[0, 11, 13, u32::MAX]),
+        1 => table[offset] = table[offset].wrapping_add(1),
+        2 => table[offset] = table[offset].wrapping_sub(1),
+        3 => table[length] = table[length].wrapping_add(1),
+        4 => table[length] = table[length].wrapping_sub(1),
+        5 => table[offset] = random.word(),
+        6 => table[length] = random.word(),
+        7 => {
+            // Offsets that are right only if their sums are taken modulo 2^32.
+            let next = random.within(1, 5);
+            let end = table[2 * next].wrapping_add(table[2 * next + 1]);
+            let start = random.below(12) as u32;
+            table[2 * next - 1] = start.wrapping_sub(table[2 * next - 2]);
+            table[2 * next] = start;
+            table[2 * next + 1] = end.wrapping_sub(start);
+        }
+        8 => table.extend((0..random.within(1, 5)).map(|_| 0)),
+        _ => {
+            // Two sections in the other order, or the end cut off.
+            let other = random.below(6);
+            table.swap(offset, 2 * other);
+            table.swap(length, 2 * other + 1);
+            let shortest = table.len().saturating_sub(random.within(1, 4)).max(12);
+            if shortest < table.len() {
+                table.truncate(shortest);
+            } else {
+                table.push(0);
+            }
+        }
+    }
+}
+
+/// "the nodes section is not a multiple of 4 words, or a section is over its limit"
+fn over_limit(random: &mut Random, sections: &mut Sections) {
+    let more = random.pick(&[1, 1, 2, 9]);
+    let side = random.below(2);
+    match random.below(5) {
+        0 => {
+            let words = sections[NODES].len() + random.within(1, 3);
+            sections[NODES].resize(words, 0);
+        }
+        1 => sections[NODES].resize(4 * (256 + more), 0),
+        2 => sections[ARGUMENTS].resize(512 + more, 0),
+        3 => sections[TERMS[side]].resize(8 + more, 0),
+        _ => {
+            let labels = 1000..;
+            sections[LABELS[side]].extend(labels.take(4 + more));
+        }
+    }
+}
+
+/// "a node has a wrong kind, name, first or count, or the counts do not add up to the arguments section"
+fn wrong_node(random: &mut Random, sections: &mut Sections) {
+    let arguments = sections[ARGUMENTS].len() as u32;
+    let large = |random: &mut Random, least: u32| random.pick(&[least, least + 1, u32::MAX]);
+    let node = match random.below(12) {
+        0 => [large(random, 2), 1, 0, 0],
+        1 => [0, large(random, 64), 0, 0],
+        2 => [0, 1, large(random, 1), 0],
+        3 => [0, 1, 0, large(random, 1)],
+        4 => [1, large(random, 65536), 0, 0],
+        5 => {
+            sections[ARGUMENTS].extend([0; 9]);
+            [1, 1, arguments, 9]
+        }
+        6 => [1, 1, large(random, 1), 0],
+        7 => {
+            sections[ARGUMENTS].push(0);
+            [1, 1, arguments.wrapping_sub(1), 1]
+        }
+        8 => {
+            sections[ARGUMENTS].push(0);
+            [1, 1, arguments + 1, 1]
+        }
+        9 => [1, 1, arguments, random.within(1, 8) as u32],
+        10 => {
+            sections[ARGUMENTS].push(0);
+            [1, 1, 0, 0]
+        }
+        _ => [1, 1, arguments, large(random, 9)],
+    };
+    // At the end, or before a node that is there.
+    let at = if random.one_in(2) { sections[NODES].len() } else { 4 * random.below(sections[NODES].len() / 4 + 1) };
+    sections[NODES].splice(at..at, node);
+}
+
+/// "an argument is not smaller than its node"
+fn wrong_argument(random: &mut Random, sections: &mut Sections) {
+    let node = (sections[NODES].len() / 4) as u32;
+    let first = sections[ARGUMENTS].len() as u32;
+    let count = random.within(1, 8);
+    sections[NODES].extend([1, 1, first, count as u32]);
+    let mut arguments = vec![0; count];
+    arguments[random.below(count)] = random.pick(&[node, node + 1, node + 2, 256, u32::MAX]);
+    sections[ARGUMENTS].extend(arguments);
+    if random.one_in(2) {
+        sections[NODES].extend([1, 1, 0, 0]);
+    }
+}
+
+/// "a term is not a node number"
+fn wrong_term(random: &mut Random, sections: &mut Sections) {
+    let nodes = (sections[NODES].len() / 4) as u32;
+    let wrong = random.pick(&[nodes, nodes + 1, 4 * nodes, u32::MAX]);
+    let side = random.pick(&TERMS);
+    write_over(random, &mut sections[side], wrong);
+}
+
+/// "a label is 0, above 65535, or repeated"
+fn wrong_label(random: &mut Random, sections: &mut Sections) {
+    let side = random.pick(&LABELS);
+    if random.one_in(2) {
+        let wrong = random.pick(&[0, 65536, 65537, u32::MAX]);
+        write_over(random, &mut sections[side], wrong);
+    } else {
+        // Twice on one side, or once on each.
+        let other = random.pick(&LABELS);
+        sections[side].truncate(2);
+        sections[other].truncate(2);
+        sections[side].insert(0, 777);
+        sections[other].push(777);
+    }
+}
+
+/// Writes a word over one of a section, or into an empty one.
+fn write_over(random: &mut Random, section: &mut Vec<u32>, word: u32) {
+    if section.is_empty() {
+        section.push(word);
+    } else {
+        let at = random.below(section.len());
+        section[at] = word;
+    }
+}
+
+/// "more than 6,288 bytes, or a number of bytes that four does not divide"
+fn wrong_bytes(random: &mut Random, input: &mut Vec<u8>) {
+    let more = random.pick(&[1, 2, 3, 4, 8, 4000]);
+    match random.below(3) {
+        0 => input.extend(vec![0; random.within(1, 3)]),
+        1 => input.truncate(input.len().saturating_sub(random.within(1, 3))),
+        _ => input.resize(MOST_BYTES + more, 0),
+    }
+    if input.is_empty() {
+        input.push(0);
+    }
+}

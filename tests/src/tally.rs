@@ -1,0 +1,112 @@
+//! What generated tables were: their families, their answers, and what is in the accepted ones.
+
+use crate::generator::Made;
+use crate::operations::{words_of, LENT};
+use crate::table::{read, Node, Problem};
+use std::collections::{BTreeMap, HashSet};
+use std::fmt;
+
+#[derive(Default)]
+pub struct Tally {
+    pub tables: usize,
+    pub families: BTreeMap<&'static str, usize>,
+    pub answers: BTreeMap<String, usize>,
+    pub features: BTreeMap<&'static str, usize>,
+}
+
+impl Tally {
+    /// Counts a table by what is printed for it.
+    pub fn add(&mut self, made: &Made, printed: &str) {
+        self.tables += 1;
+        *self.families.entry(made.family).or_default() += 1;
+        let first = printed.lines().next().unwrap_or_default();
+        let answer = match first.split_once(' ') {
+            Some(("entries", "0")) => "accepted, no entry",
+            Some(("entries", _)) => "entries",
+            Some(("full", _)) => "full",
+            _ => first,
+        };
+        *self.answers.entry(answer.to_string()).or_default() += 1;
+        if let Some(problem) = words_of(&made.input).ok().and_then(|table| read(&table).ok()) {
+            let entries = printed.lines().count() - 1;
+            for feature in features(&problem, answer, entries) {
+                *self.features.entry(feature).or_default() += 1;
+            }
+        }
+    }
+}
+
+impl fmt::Display for Tally {
+    fn fmt(&self, f: &mut fmt::Formatter) -> fmt::Result {
+        let line = |name: &str, counts: Vec<String>| format!("{name}: {}", counts.join(", "));
+        writeln!(f, "{} tables", self.tables)?;
+        writeln!(f, "{}", line("families", self.families.iter().map(|(name, n)| format!("{name} {n}")).collect()))?;
+        writeln!(f, "{}", line("answers", self.answers.iter().map(|(name, n)| format!("{name}: {n}")).collect()))?;
+        writeln!(f, "{}", line("accepted with", self.features.iter().map(|(name, n)| format!("{name} {n}")).collect()))
+    }
+}
+
+/// Features of a problem that its family does not settle.
+fn features(problem: &Problem, answer: &str, entries: usize) -> Vec<&'static str> {
+    let sides = [&problem.left, &problem.right];
+    let labels = match sides.map(|side| side.labels.is_empty()) {
+        [true, true] => "labels on no side",
+        [false, false] => "labels on both sides",
+        _ => "labels on one side",
+    };
+    let variables = problem.variables();
+    let arguments: usize = problem.nodes.iter().map(|node| symbol(node).map_or(0, |(_, count)| count)).sum();
+    let constants: Vec<_> = problem.nodes.iter().filter_map(symbol).filter(|&(_, count)| count == 0).collect();
+    let symbols: HashSet<_> = problem.nodes.iter().filter_map(symbol).collect();
+    let names: HashSet<_> = symbols.iter().map(|&(name, _)| name).collect();
+    let used = used_variables(problem);
+    let mut features = vec![labels];
+    for (feature, present) in [
+        ("a repeated term", sides.iter().any(|side| repeats(&side.terms))),
+        ("equal constants at different nodes", repeats(&constants)),
+        ("one name with two counts", names.len() < symbols.len()),
+        ("a variable in no term", used.len() < variables.len()),
+        ("256 nodes", problem.nodes.len() == 256),
+        ("512 arguments", arguments == 512),
+        ("8 terms on a side", sides.iter().any(|side| side.terms.len() == 8)),
+        ("4 labels on a side", sides.iter().any(|side| side.labels.len() == 4)),
+        ("64 variables", variables.len() == 64),
+        ("entries of 0 words", problem.entry_words() == 0),
+        ("all lent words filled, finished", answer == "entries" && entries * problem.entry_words() == LENT),
+        ("all lent words filled, full", answer == "full" && entries * problem.entry_words() == LENT),
+    ] {
+        if present {
+            features.push(feature);
+        }
+    }
+    features
+}
+
+fn symbol(node: &Node) -> Option<(u32, usize)> {
+    match node {
+        Node::Variable(_) => None,
+        Node::Application { name, arguments } => Some((*name, arguments.len())),
+    }
+}
+
+fn repeats<T: PartialEq>(list: &[T]) -> bool {
+    (0..list.len()).any(|i| list[..i].contains(&list[i]))
+}
+
+/// The variables in the terms of the sides.
+fn used_variables(problem: &Problem) -> HashSet<u32> {
+    let mut met = HashSet::new();
+    let mut used = HashSet::new();
+    let mut rest = [&problem.left.terms[..], &problem.right.terms].concat();
+    while let Some(node) = rest.pop() {
+        if met.insert(node) {
+            match &problem.nodes[node] {
+                Node::Variable(name) => {
+                    used.insert(*name);
+                }
+                Node::Application { arguments, .. } => rest.extend(arguments),
+            }
+        }
+    }
+    used
+}
