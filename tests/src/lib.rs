@@ -10,7 +10,8 @@
 //! - [`listing`]: the complete listing, from Algorithm 1 or choice by choice
 //! - [`operations`]: document 01's operations with lent words, and what its program `list` prints
 //! - [`assignments`]: assignments, equal sides and instances, for demand 3
-//! - [`random`], [`generator`], [`damage`]: tables to compare on
+//! - [`generator`]: tables to compare on, of [`families`] of problems, right or with some [`damage`]
+//! - [`random`], [`drawing`]: how they are drawn
 //! - [`tally`]: what generated tables were
 //! - [`comparison`], [`arguments`]: a program held against this one
 
@@ -20,6 +21,8 @@ pub mod assignments;
 pub mod closure;
 pub mod comparison;
 pub mod damage;
+pub mod drawing;
+pub mod families;
 pub mod generator;
 pub mod listing;
 pub mod operations;

@@ -28,14 +28,20 @@ pub fn listing(problem: &Problem, lent: usize) -> Listing {
 /// The listing by Algorithm 1, which makes all entries before the first can be told. None where it would take too long.
 pub fn by_algorithm_1(problem: &Problem, lent: usize) -> Option<Listing> {
     let (k, l) = (problem.left.labels.len(), problem.right.labels.len());
-    if cost(problem, k.min(1), l.min(1)) > MOST || cost(problem, k, l) > MOST {
+    let (pairings, choices) = (cost(problem, k.min(1), l.min(1)), cost(problem, k, l));
+    if pairings > MOST || choices > MOST {
         return None;
     }
     let mut entries = complete_by_algorithm_1(problem);
-    let fitting = lent.checked_div(problem.entry_words()).unwrap_or(usize::MAX);
+    let fitting = fitting(problem, lent);
     let full = entries.len() > fitting;
     entries.truncate(fitting);
     Some(Listing { entries, full })
+}
+
+/// How many whole entries fit into lent words. Any number of entries of 0 words does.
+fn fitting(problem: &Problem, lent: usize) -> usize {
+    lent.checked_div(problem.entry_words()).unwrap_or(usize::MAX)
 }
 
 /// The cost that document 000 gives for Algorithm 1, without that of unifying: the sum over the number i of pairs of
@@ -107,7 +113,7 @@ pub fn by_choices(problem: &Problem, lent: usize) -> Listing {
         problem,
         nodes,
         terms,
-        fitting: lent.checked_div(problem.entry_words()).unwrap_or(usize::MAX),
+        fitting: fitting(problem, lent),
         listing: Listing { entries: vec![], full: false },
     };
     walk.left(&mut vec![]);

@@ -21,7 +21,7 @@ impl Tally {
         *self.families.entry(made.family).or_default() += 1;
         let first = printed.lines().next().unwrap_or_default();
         let answer = match first.split_once(' ') {
-            Some(("entries", "0")) => "accepted, no entry",
+            Some(("entries", "0")) => "no entry",
             Some(("entries", _)) => "entries",
             Some(("full", _)) => "full",
             _ => first,
@@ -38,11 +38,19 @@ impl Tally {
 
 impl fmt::Display for Tally {
     fn fmt(&self, f: &mut fmt::Formatter) -> fmt::Result {
-        let line = |name: &str, counts: Vec<String>| format!("{name}: {}", counts.join(", "));
-        writeln!(f, "{} tables", self.tables)?;
-        writeln!(f, "{}", line("families", self.families.iter().map(|(name, n)| format!("{name} {n}")).collect()))?;
-        writeln!(f, "{}", line("answers", self.answers.iter().map(|(name, n)| format!("{name}: {n}")).collect()))?;
-        writeln!(f, "{}", line("accepted with", self.features.iter().map(|(name, n)| format!("{name} {n}")).collect()))
+        writeln!(f, "{:6} tables, of the families", self.tables)?;
+        for (family, count) in &self.families {
+            writeln!(f, "{count:6}   {family}")?;
+        }
+        writeln!(f, "       answered")?;
+        for (answer, count) in &self.answers {
+            writeln!(f, "{count:6}   {answer}")?;
+        }
+        writeln!(f, "       accepted, with")?;
+        for (feature, count) in &self.features {
+            writeln!(f, "{count:6}   {feature}")?;
+        }
+        Ok(())
     }
 }
 
@@ -55,7 +63,6 @@ fn features(problem: &Problem, answer: &str, entries: usize) -> Vec<&'static str
         _ => "labels on one side",
     };
     let variables = problem.variables();
-    let arguments: usize = problem.nodes.iter().map(|node| symbol(node).map_or(0, |(_, count)| count)).sum();
     let constants: Vec<_> = problem.nodes.iter().filter_map(symbol).filter(|&(_, count)| count == 0).collect();
     let symbols: HashSet<_> = problem.nodes.iter().filter_map(symbol).collect();
     let names: HashSet<_> = symbols.iter().map(|&(name, _)| name).collect();
@@ -67,13 +74,13 @@ fn features(problem: &Problem, answer: &str, entries: usize) -> Vec<&'static str
         ("one name with two counts", names.len() < symbols.len()),
         ("a variable in no term", used.len() < variables.len()),
         ("256 nodes", problem.nodes.len() == 256),
-        ("512 arguments", arguments == 512),
+        ("512 arguments", problem.arguments() == 512),
         ("8 terms on a side", sides.iter().any(|side| side.terms.len() == 8)),
         ("4 labels on a side", sides.iter().any(|side| side.labels.len() == 4)),
         ("64 variables", variables.len() == 64),
         ("entries of 0 words", problem.entry_words() == 0),
-        ("all lent words filled, finished", answer == "entries" && entries * problem.entry_words() == LENT),
-        ("all lent words filled, full", answer == "full" && entries * problem.entry_words() == LENT),
+        ("all lent words filled and finished", answer == "entries" && entries * problem.entry_words() == LENT),
+        ("all lent words filled and full", answer == "full" && entries * problem.entry_words() == LENT),
     ] {
         if present {
             features.push(feature);
