@@ -142,37 +142,52 @@ fn over_limit(random: &mut Random, sections: &mut Sections) {
 
 /// "a node has a wrong kind, name, first or count, or the counts do not add up to the arguments section"
 fn wrong_node(random: &mut Random, sections: &mut Sections) {
-    let arguments = sections[ARGUMENTS].len() as u32;
+    if random.one_in(2) {
+        wrong_by_itself(random, &mut sections[NODES]);
+    } else {
+        wrong_for_arguments(random, sections);
+    }
+}
+
+/// A node that is wrong wherever it stands.
+fn wrong_by_itself(random: &mut Random, nodes: &mut Vec<u32>) {
     let large = |random: &mut Random, least: u32| random.pick(&[least, least + 1, u32::MAX]);
-    let node = match random.below(12) {
+    let node = match random.below(6) {
         0 => [large(random, 2), 1, 0, 0],
         1 => [0, large(random, 64), 0, 0],
         2 => [0, 1, large(random, 1), 0],
         3 => [0, 1, 0, large(random, 1)],
         4 => [1, large(random, 65536), 0, 0],
-        5 => {
-            sections[ARGUMENTS].extend([0; 9]);
-            [1, 1, arguments, 9]
-        }
-        6 => [1, 1, large(random, 1), 0],
-        7 => {
-            sections[ARGUMENTS].push(0);
-            [1, 1, arguments.wrapping_sub(1), 1]
-        }
-        8 => {
-            sections[ARGUMENTS].push(0);
-            [1, 1, arguments + 1, 1]
-        }
-        9 => [1, 1, arguments, random.within(1, 8) as u32],
-        10 => {
-            sections[ARGUMENTS].push(0);
-            [1, 1, 0, 0]
-        }
-        _ => [1, 1, arguments, large(random, 9)],
+        _ => [1, 1, large(random, 1), 0],
     };
-    // At the end, or before a node that is there.
-    let at = if random.one_in(2) { sections[NODES].len() } else { 4 * random.below(sections[NODES].len() / 4 + 1) };
-    sections[NODES].splice(at..at, node);
+    let at = 4 * random.within(0, nodes.len() / 4);
+    nodes.splice(at..at, node);
+}
+
+/// A last node whose first or count does not fit the arguments, or an argument of no node.
+fn wrong_for_arguments(random: &mut Random, sections: &mut Sections) {
+    let first = sections[ARGUMENTS].len() as u32;
+    let mut add = |node: [u32; 4], arguments: usize| {
+        sections[NODES].extend(node);
+        sections[ARGUMENTS].extend(vec![0; arguments]);
+    };
+    match random.below(9) {
+        0 => add([1, 1, first, 9], 9),
+        1 => add([1, 1, first, u32::MAX], 0),
+        2 => add([1, 1, first.wrapping_sub(1), 1], 1),
+        3 => add([1, 1, first + 1, 1], 1),
+        4 => add([1, 1, first.max(1), 0], 0),
+        5 => add([0, 1, first.max(1), 0], 0),
+        6 => add([1, 1, first, random.within(1, 8) as u32], 0),
+        7 => add([1, 1, 0, 0], 1),
+        _ => {
+            // Each node is right, and together they count more than the greatest arguments section.
+            for i in 0..65 {
+                add([1, 1, first + 8 * i, 8], 0);
+            }
+            sections[ARGUMENTS].resize(512, 0);
+        }
+    }
 }
 
 /// "an argument is not smaller than its node"
