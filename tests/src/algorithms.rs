@@ -3,7 +3,7 @@
 //! Lists stand in place of its sets, and every term keeps the position at which it stands in its side: "Equal terms at
 //! different positions give different choices." A unifier of terms keeps the pairs that it unifies, for the same reason.
 
-use crate::terms::{Application, Substitution, Term, Terms};
+use crate::terms::{Replacement, Substitution, Term, Terms};
 use crate::unification::most_general_unifier;
 use std::collections::BTreeMap;
 use std::rc::Rc;
@@ -83,8 +83,10 @@ pub fn unify(terms: &mut Terms, left: (&[Tagged], &[u32]), right: (&[Tagged], &[
 fn unify_c(terms: &mut Terms, c: usize, left: (&[Tagged], &[u32]), right: (&[Tagged], &[u32])) -> Vec<Unifier> {
     let ((t, ms), (s, ns)) = (left, right);
     let mut sigmas = vec![];
-    for (t_c, t_r) in &choose(t, c) {
-        for (s_c, s_r) in &choose(s, c) {
+    let ts = choose(t, c);
+    let ss = choose(s, c);
+    for (t_c, t_r) in &ts {
+        for (s_c, s_r) in &ss {
             let sigmas_t = unify_terms(terms, t_c, s_c);
             if !sigmas_t.is_empty() {
                 let sigmas_m = unify_distribute((t_r, ms), (s_r, ns));
@@ -101,10 +103,10 @@ fn unify_c(terms: &mut Terms, c: usize, left: (&[Tagged], &[u32]), right: (&[Tag
 
 /// σ_M σ_t: "since the image of σ_M may contain terms, the composition needs to be in this order."
 fn compose(terms: &mut Terms, sigma_m: &Contexts, sigma_t: &Rc<Pairing>) -> Unifier {
-    let mut application = Application::of(&sigma_t.sigma);
+    let mut replacement = Replacement::by(&sigma_t.sigma);
     let mut contexts = sigma_m.clone();
     for tagged in contexts.values_mut().flat_map(|context| &mut context.terms) {
-        tagged.term = application.to(terms, tagged.term);
+        tagged.term = replacement.in_term(terms, tagged.term);
     }
     Unifier { pairing: Rc::clone(sigma_t), contexts }
 }

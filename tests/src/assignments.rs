@@ -3,7 +3,7 @@
 
 use crate::listing::Entry;
 use crate::table::{Node, Problem, Side};
-use crate::terms::{Application, Shape, Substitution, Term, Terms};
+use crate::terms::{Replacement, Shape, Substitution, Term, Terms};
 use std::collections::{BTreeMap, HashMap, HashSet};
 
 /// "An assignment gives each variable present in the nodes section one finite term, and each label of the table a finite
@@ -17,9 +17,9 @@ pub struct Assignment {
 /// "Two sides are then equal if every term occurs equally often in both."
 pub fn sides_equal(problem: &Problem, terms: &mut Terms, assignment: &Assignment) -> bool {
     let nodes = terms.of_nodes(problem);
-    let mut application = Application::of(&assignment.variables);
+    let mut replacement = Replacement::by(&assignment.variables);
     let mut put_into = |side: &Side| -> Vec<Term> {
-        let own = side.terms.iter().map(|&node| application.to(terms, nodes[node]));
+        let own = side.terms.iter().map(|&node| replacement.in_term(terms, nodes[node]));
         let labels = side.labels.iter().flat_map(|label| assignment.labels[label].iter().copied());
         sorted(own.chain(labels).collect())
     };
@@ -38,8 +38,8 @@ pub fn is_instance(problem: &Problem, terms: &mut Terms, entry: &Entry, assignme
     };
     let nodes = terms.of_nodes(problem);
     let mut value = |node: usize| {
-        let under_unifier = Application::of(&unifier).to(terms, nodes[node]);
-        Application::of(&after).to(terms, under_unifier)
+        let under_unifier = Replacement::by(&unifier).in_term(terms, nodes[node]);
+        Replacement::by(&after).in_term(terms, under_unifier)
     };
     // The rests of a side's labels together: what is left of each label without the terms put in it.
     let mut rests = |labels: &[u32], other: &Side, digits: &[u32], before: usize| -> Option<Vec<Term>> {

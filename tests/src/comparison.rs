@@ -6,16 +6,15 @@ use crate::operations::{check, printed, words_of, LENT};
 use crate::table::read;
 use crate::tally::Tally;
 use std::fmt::Display;
-use std::io::{Read, Write};
+use std::io::{self, Read, Write};
 use std::os::unix::process::ExitStatusExt;
-use std::path::Path;
-use std::process::{Command, Stdio};
+use std::path::PathBuf;
+use std::process::{Child, Command, ExitStatus, Stdio};
 use std::sync::mpsc;
 use std::thread;
-use std::time::Duration;
+use std::time::{Duration, Instant};
 
-/// How long a program may take for one input, and how often it may give no answer before it is not run any more.
-const PATIENCE: Duration = Duration::from_secs(20);
+/// How often a program may give no answer before it is not run any more.
 const MOST_UNANSWERED: usize = 3;
 
 /// How many differences are printed, at most.
@@ -42,7 +41,7 @@ impl Count {
 }
 
 /// Runs a program that prints listings on generated tables, prints differences, and prints what the tables were.
-pub fn compare_listings(program: &Path, seed: u64, count: u64) -> Count {
+pub fn compare_listings(program: &Program, seed: u64, count: u64) -> Count {
     let mut counted = Count::default();
     let mut tally = Tally::default();
     let mut by_both_modes = 0;
@@ -51,24 +50,24 @@ pub fn compare_listings(program: &Path, seed: u64, count: u64) -> Count {
         let made = generator::make(seed, index);
         let expected = printed(&made.input);
         tally.add(&made, &expected);
-        let difference = if unanswered == MOST_UNANSWERED {
-            Some("not tried any more".to_string())
-        } else {
-            match run(program, &made.input) {
-                Ok(output) => difference(&expected, &String::from_utf8_lossy(&output)),
-                Err(why) => {
-                    unanswered += 1;
-                    Some(why)
-                }
+        let mut differences = Vec::new();
+        let output = if unanswered < MOST_UNANSWERED { program.run(&made.input) } else { Err("not tried".to_string()) };
+        match output {
+            Ok(output) => differences.extend(difference(&expected, &String::from_utf8_lossy(&output))),
+            Err(why) => {
+                unanswered = MOST_UNANSWERED.min(unanswered + 1);
+                differences.push(why);
             }
-        };
+        }
         let modes = modes_agree(&made.input);
         by_both_modes += usize::from(modes.is_some());
-        let of_modes = (modes == Some(false)).then(|| "the two modes of the second program differ".to_string());
-        counted.add(&made, difference.or(of_modes));
+        if modes == Some(false) {
+            differences.push("the two modes of the second program differ".to_string());
+        }
+        counted.add(&made, (!differences.is_empty()).then(|| differences.join("\n")));
     }
     print!("{tally}");
-    println!("listed by both modes of the second program: {by_both_modes}");
+    println!("{by_both_modes:6} listed by both modes of the second program");
     counted
 }
 
@@ -87,8 +86,9 @@ struct Question {
 }
 
 impl Question {
+    /// The question about an input that is whole words.
     fn of(made: Made) -> Option<Question> {
-        let table = words_of(&made.input).ok()?;
+        let table = made.words()?;
         let words: Vec<String> = table.iter().map(u32::to_string).collect();
         let line = format!("{}: {}\n", made.index, words.join(" "));
         let answer = checked(made.index, &table);
@@ -107,9 +107,11 @@ pub fn checked(name: impl Display, table: &[u32]) -> String {
 /// The most bytes that are given to a program that checks tables.
 const MOST_CHECKED: usize = 65_000;
 
-/// Runs a program that checks tables, each a line, on those generated tables that are whole words.
-pub fn compare_checks(program: &Path, seed: u64, count: u64) -> Count {
+/// Runs a program that checks tables, each a line, on those generated tables that are whole words, and prints what they
+/// were.
+pub fn compare_checks(program: &Program, seed: u64, count: u64) -> Count {
     let mut counted = Count::default();
+    let mut tally = Tally::default();
     let mut batch: Vec<Question> = Vec::new();
     let mut size = 0;
     for question in (0..count).filter_map(|index| Question::of(generator::make(seed, index))) {
@@ -119,15 +121,17 @@ pub fn compare_checks(program: &Path, seed: u64, count: u64) -> Count {
             size = 0;
         }
         size += question.line.len();
+        tally.count(&question.made, question.answer.split_once(": ").map_or("", |(_, answer)| answer.trim_end()));
         batch.push(question);
     }
     compare_batch(program, &batch, &mut counted);
+    print!("{tally}");
     counted
 }
 
-fn compare_batch(program: &Path, batch: &[Question], counted: &mut Count) {
+fn compare_batch(program: &Program, batch: &[Question], counted: &mut Count) {
     let lines: String = batch.iter().map(|question| question.line.as_str()).collect();
-    let output = run(program, lines.as_bytes()).map(|output| String::from_utf8_lossy(&output).to_string());
+    let output = program.run(lines.as_bytes()).map(|output| String::from_utf8_lossy(&output).to_string());
     let mut rest = output.as_deref().unwrap_or_default();
     for (i, question) in batch.iter().enumerate() {
         // The answers of the last table are all that is left.
@@ -139,31 +143,53 @@ fn compare_batch(program: &Path, batch: &[Question], counted: &mut Count) {
     }
 }
 
-/// What a program prints for an input, if it ends by itself and in time.
-fn run(program: &Path, input: &[u8]) -> Result<Vec<u8>, String> {
-    let command = Command::new(program).stdin(Stdio::piped()).stdout(Stdio::piped()).spawn();
-    let mut child = command.map_err(|error| format!("{}: {error}", program.display()))?;
-    let mut stdin = child.stdin.take().expect("piped");
-    let mut stdout = child.stdout.take().expect("piped");
-    let input = input.to_vec();
-    // A program need not read all of a long input, so a failed write is no fault.
-    let writer = thread::spawn(move || stdin.write_all(&input));
-    let (sender, receiver) = mpsc::channel();
-    thread::spawn(move || {
-        let mut output = Vec::new();
-        let read = stdout.read_to_end(&mut output);
-        sender.send(read.map(|_| output))
-    });
-    let output = receiver.recv_timeout(PATIENCE);
-    if output.is_err() {
-        child.kill().map_err(|error| error.to_string())?;
+/// A program to compare, and how long it may take for one input.
+pub struct Program {
+    pub path: PathBuf,
+    pub patience: Duration,
+}
+
+impl Program {
+    /// What the program prints for an input, if it ends by itself and in time.
+    fn run(&self, input: &[u8]) -> Result<Vec<u8>, String> {
+        let end = Instant::now() + self.patience;
+        let command = Command::new(&self.path).stdin(Stdio::piped()).stdout(Stdio::piped()).spawn();
+        let mut child = command.map_err(|error| format!("{}: {error}", self.path.display()))?;
+        let mut stdin = child.stdin.take().expect("piped");
+        let mut stdout = child.stdout.take().expect("piped");
+        let input = input.to_vec();
+        // A program need not read all of a long input, so a failed write is no fault.
+        thread::spawn(move || stdin.write_all(&input));
+        let (sender, receiver) = mpsc::channel();
+        thread::spawn(move || {
+            let mut output = Vec::new();
+            let read = stdout.read_to_end(&mut output);
+            sender.send(read.map(|_| output))
+        });
+        let output = receiver.recv_timeout(self.patience);
+        let status = wait_until(&mut child, end).map_err(|error| error.to_string())?;
+        match (output, status) {
+            (Err(_), _) | (_, None) => Err(format!("no end in {} seconds", self.patience.as_secs())),
+            (Ok(output), Some(status)) => match status.signal() {
+                Some(signal) => Err(format!("ended by signal {signal}")),
+                None => output.map_err(|error| error.to_string()),
+            },
+        }
     }
-    let status = child.wait().map_err(|error| error.to_string())?;
-    let _ = writer.join();
-    match (output, status.signal()) {
-        (Err(_), _) => Err(format!("no answer in {} seconds", PATIENCE.as_secs())),
-        (Ok(_), Some(signal)) => Err(format!("ended by signal {signal}")),
-        (Ok(output), None) => output.map_err(|error| error.to_string()),
+}
+
+/// How a process ends, or none where it had to be ended.
+fn wait_until(child: &mut Child, end: Instant) -> io::Result<Option<ExitStatus>> {
+    loop {
+        if let Some(status) = child.try_wait()? {
+            return Ok(Some(status));
+        }
+        if Instant::now() >= end {
+            child.kill()?;
+            child.wait()?;
+            return Ok(None);
+        }
+        thread::sleep(Duration::from_micros(50));
     }
 }
 

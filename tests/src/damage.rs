@@ -23,9 +23,11 @@ pub fn once(problem: &Problem, random: &mut Random) -> Vec<u8> {
     damaged(problem, random, &[refusal])
 }
 
-/// A table with several damages: the first refusal counts.
+/// A table with several damages at once, half of the time of refusals that all look at the sections' words.
 pub fn several(problem: &Problem, random: &mut Random) -> Vec<u8> {
-    let refusals: Vec<u32> = (0..random.within(2, 4)).map(|_| random.pick(&REFUSALS)).collect();
+    let mut refusals = if random.one_in(2) { vec![4, 5, 6, 7] } else { REFUSALS.to_vec() };
+    random.shuffle(&mut refusals);
+    refusals.truncate(random.within(2, 3));
     damaged(problem, random, &refusals)
 }
 
@@ -35,12 +37,13 @@ pub fn altered(problem: &Problem, random: &mut Random) -> Vec<u8> {
     for _ in 0..random.within(1, 3) {
         let at = random.below(table.len());
         let old = table[at];
-        table[at] = match random.below(6) {
+        table[at] = match random.below(7) {
             0 => random.word(),
             1 => u32::MAX,
             2 => old.wrapping_sub(1),
             3 => old.wrapping_add(1),
             4 => random.pick(&table),
+            5 => old ^ 1 << random.below(32),
             _ => random.below(9) as u32,
         };
     }
@@ -84,19 +87,35 @@ fn sections(table: &[u32]) -> Sections {
     })
 }
 
+/// A word that is too large: the least such, or one that has the low bits of a right word, or the greatest of all.
+fn too_large(random: &mut Random, least: u32, right: u32) -> u32 {
+    random.pick(&[
+        least,
+        least + 1,
+        right + (1 << 16),
+        right + (1 << 17),
+        right + (1 << 24),
+        right + (1 << 31),
+        u32::MAX,
+    ])
+}
+
 /// "a pair breaks the rule of offsets or ends"
 fn broken_pair(random: &mut Random, table: &mut Vec<u32>) {
-    let pair = random.below(6);
-    let (offset, length) = (2 * pair, 2 * pair + 1);
+    let word = random.below(12);
+    let old = table[word];
     match random.below(10) {
         0 => table[0] = random.pick(&[0, 11, 13, u32::MAX]),
-        1 => table[offset] = table[offset].wrapping_add(1),
-        2 => table[offset] = table[offset].wrapping_sub(1),
-        3 => table[length] = table[length].wrapping_add(1),
-        4 => table[length] = table[length].wrapping_sub(1),
-        5 => table[offset] = random.word(),
-        6 => table[length] = random.word(),
-        7 => {
+        8 => {
+            // Another first offset, from which all goes on as it should.
+            table[0] = random.pick(&[0, 8, 11, 13]);
+            table[1] = (table[1] + 12).saturating_sub(table[0]);
+        }
+        1 => table[word] = old.wrapping_add(1),
+        2 => table[word] = old.wrapping_sub(1),
+        3 => table[word] = too_large(random, old + 1, old),
+        4 => table[word] = random.word(),
+        5 => {
             // Offsets that are right only if their sums are taken modulo 2^32.
             let next = random.within(1, 5);
             let end = table[2 * next].wrapping_add(table[2 * next + 1]);
@@ -105,19 +124,17 @@ fn broken_pair(random: &mut Random, table: &mut Vec<u32>) {
             table[2 * next] = start;
             table[2 * next + 1] = end.wrapping_sub(start);
         }
-        8 => table.extend((0..random.within(1, 5)).map(|_| 0)),
-        _ => {
-            // Two sections in the other order, or the end cut off.
-            let other = random.below(6);
-            table.swap(offset, 2 * other);
-            table.swap(length, 2 * other + 1);
-            let shortest = table.len().saturating_sub(random.within(1, 4)).max(12);
-            if shortest < table.len() {
-                table.truncate(shortest);
-            } else {
+        6 => {
+            // Two sections in the other order, or, where they are the same, a word after the last.
+            let (pair, other) = (word / 2, random.below(6));
+            table.swap(2 * pair, 2 * other);
+            table.swap(2 * pair + 1, 2 * other + 1);
+            if table[2 * pair..2 * pair + 2] == table[2 * other..2 * other + 2] {
                 table.push(0);
             }
         }
+        7 if table.len() > 12 => table.truncate(random.within(12, table.len() - 1)),
+        _ => table.extend(vec![0; random.within(1, 5)]),
     }
 }
 
@@ -149,19 +166,20 @@ fn wrong_node(random: &mut Random, sections: &mut Sections) {
     }
 }
 
-/// A node that is wrong wherever it stands.
+/// A node that is wrong wherever it stands, more or in place of a node without arguments.
 fn wrong_by_itself(random: &mut Random, nodes: &mut Vec<u32>) {
-    let large = |random: &mut Random, least: u32| random.pick(&[least, least + 1, u32::MAX]);
-    let node = match random.below(6) {
-        0 => [large(random, 2), 1, 0, 0],
-        1 => [0, large(random, 64), 0, 0],
-        2 => [0, 1, large(random, 1), 0],
-        3 => [0, 1, 0, large(random, 1)],
-        4 => [1, large(random, 65536), 0, 0],
-        _ => [1, 1, large(random, 1), 0],
+    let node = match random.below(7) {
+        0 => [too_large(random, 2, 0), 1, 0, 0],
+        1 => [too_large(random, 2, 1), 1, 0, 0],
+        2 => [0, too_large(random, 64, 63), 0, 0],
+        3 => [0, 1, too_large(random, 1, 0), 0],
+        4 => [0, 1, 0, too_large(random, 1, 0)],
+        5 => [1, too_large(random, 65536, 1), 0, 0],
+        _ => [1, 1, too_large(random, 1, 0), 0],
     };
     let at = 4 * random.within(0, nodes.len() / 4);
-    nodes.splice(at..at, node);
+    let in_place = at + 4 <= nodes.len() && nodes[at + 3] == 0;
+    nodes.splice(at..if in_place { at + 4 } else { at }, node);
 }
 
 /// A last node whose first or count does not fit the arguments, or an argument of no node.
@@ -173,9 +191,9 @@ fn wrong_for_arguments(random: &mut Random, sections: &mut Sections) {
     };
     match random.below(9) {
         0 => add([1, 1, first, 9], 9),
-        1 => add([1, 1, first, u32::MAX], 0),
+        1 => add([1, 1, first, too_large(random, 9, 1)], 1),
         2 => add([1, 1, first.wrapping_sub(1), 1], 1),
-        3 => add([1, 1, first + 1, 1], 1),
+        3 => add([1, 1, too_large(random, first + 1, first), 1], 1),
         4 => add([1, 1, first.max(1), 0], 0),
         5 => add([0, 1, first.max(1), 0], 0),
         6 => add([1, 1, first, random.within(1, 8) as u32], 0),
@@ -190,24 +208,29 @@ fn wrong_for_arguments(random: &mut Random, sections: &mut Sections) {
     }
 }
 
-/// "an argument is not smaller than its node"
+/// "an argument is not smaller than its node", of a node that is there or of one more
 fn wrong_argument(random: &mut Random, sections: &mut Sections) {
-    let node = (sections[NODES].len() / 4) as u32;
-    let first = sections[ARGUMENTS].len() as u32;
-    let count = random.within(1, 8);
-    sections[NODES].extend([1, 1, first, count as u32]);
-    let mut arguments = vec![0; count];
-    arguments[random.below(count)] = random.pick(&[node, node + 1, node + 2, 256, u32::MAX]);
-    sections[ARGUMENTS].extend(arguments);
-    if random.one_in(2) {
-        sections[NODES].extend([1, 1, 0, 0]);
+    if sections[ARGUMENTS].is_empty() || (sections[NODES].len() < 4 * 255 && random.one_in(2)) {
+        let first = sections[ARGUMENTS].len() as u32;
+        let count = random.within(1, 8);
+        sections[NODES].extend([1, 1, first, count as u32]);
+        sections[ARGUMENTS].extend(vec![0; count]);
     }
+    let at = random.below(sections[ARGUMENTS].len());
+    // Its node is the first with whose count the arguments reach past it.
+    let mut sum = 0;
+    let reaches = |node: &[u32]| {
+        sum += node[3] as usize;
+        sum > at
+    };
+    let node = sections[NODES].chunks_exact(4).position(reaches).unwrap_or(0) as u32;
+    sections[ARGUMENTS][at] = if random.one_in(4) { 256 } else { too_large(random, node, 0) };
 }
 
 /// "a term is not a node number"
 fn wrong_term(random: &mut Random, sections: &mut Sections) {
     let nodes = (sections[NODES].len() / 4) as u32;
-    let wrong = random.pick(&[nodes, nodes + 1, 4 * nodes, u32::MAX]);
+    let wrong = if random.one_in(4) { 256 } else { too_large(random, nodes, 0) };
     let side = random.pick(&TERMS);
     write_over(random, &mut sections[side], wrong);
 }
@@ -216,7 +239,7 @@ fn wrong_term(random: &mut Random, sections: &mut Sections) {
 fn wrong_label(random: &mut Random, sections: &mut Sections) {
     let side = random.pick(&LABELS);
     if random.one_in(2) {
-        let wrong = random.pick(&[0, 65536, 65537, u32::MAX]);
+        let wrong = if random.one_in(4) { 0 } else { too_large(random, 65536, 777) };
         write_over(random, &mut sections[side], wrong);
     } else {
         // Twice on one side, or once on each.
@@ -240,7 +263,7 @@ fn write_over(random: &mut Random, section: &mut Vec<u32>, word: u32) {
 
 /// "more than 6,288 bytes, or a number of bytes that four does not divide"
 fn wrong_bytes(random: &mut Random, input: &mut Vec<u8>) {
-    let more = random.pick(&[1, 2, 3, 4, 8, 4000]);
+    let more = random.pick(&[1, 2, 3, 4, 8, 1900]);
     match random.below(3) {
         0 => input.extend(vec![0; random.within(1, 3)]),
         1 => input.truncate(input.len().saturating_sub(random.within(1, 3))),

@@ -20,11 +20,12 @@ pub fn large(random: &mut Random) -> Problem {
     drawn(random, 64, 256, 8, 4)
 }
 
-pub fn small_or_medium(random: &mut Random) -> Problem {
-    if random.one_in(3) {
-        medium(random)
-    } else {
-        small(random)
+/// Small, medium, or as large as can be.
+pub fn any_size(random: &mut Random) -> Problem {
+    match random.below(6) {
+        0 => limits(random),
+        1 | 2 => medium(random),
+        _ => small(random),
     }
 }
 
@@ -143,6 +144,30 @@ pub fn hopeless(random: &mut Random) -> Problem {
     }
     random.shuffle(&mut problem.left.terms);
     random.shuffle(&mut problem.right.terms);
+    problem
+}
+
+/// A variable that becomes f(x), where f(y) stands before f(x) and has the same value because x and y do: by a pair of
+/// their own, or because both become a.
+pub fn alike(random: &mut Random) -> Problem {
+    let mut problem = Problem::default();
+    let mut names: Vec<u32> = (0..64).collect();
+    random.shuffle(&mut names);
+    let [x, y, z] = [names[0], names[1], names[2]].map(|name| problem.variable(name));
+    let a = problem.application(1, vec![]);
+    let (depth, count) = (random.within(1, 3), random.within(1, 2));
+    let mut tower = |bottom: usize| (0..depth).fold(bottom, |top, _| problem.application(3, vec![top; count]));
+    let (_, of_x) = (tower(y), tower(x));
+    let (left, right) = if random.one_in(2) { (vec![z, x], vec![of_x, y]) } else { (vec![z, x, y], vec![of_x, a, a]) };
+    problem.left.terms = left;
+    problem.right.terms = right;
+    random.shuffle(&mut problem.right.terms);
+    if random.one_in(2) {
+        std::mem::swap(&mut problem.left, &mut problem.right);
+    }
+    if random.one_in(2) {
+        problem.draw_labels(random, 2);
+    }
     problem
 }
 
@@ -279,28 +304,31 @@ pub fn exact(random: &mut Random) -> Problem {
     counted(random, |entries, words| entries * words == LENT)
 }
 
-/// Constants that never unify across the sides, with labels on both: l^n k^m entries. Their number and their words, with
-/// some variables that occur in no term, are as asked.
+/// Constants, of which p stand on both sides and the others on one: (l k + 1)^p l^(n-p) k^(m-p) entries. Their number and
+/// their words, with some variables that occur in no term, are as asked.
 fn counted(random: &mut Random, asked: fn(usize, usize) -> bool) -> Problem {
     let mut found = Vec::new();
     for (n, m) in (0..=8).flat_map(|n| (0..=8).map(move |m| (n, m))) {
-        for (k, l) in (1..=4).flat_map(|k| (1..=4).map(move |l| (k, l))) {
-            let entries = usize::pow(l, n as u32) * usize::pow(k, m as u32);
-            let variables = (0..=64).filter(|variables| n + m + variables > 0);
-            found.extend(variables.filter(|v| asked(entries, n + m + v)).map(|v| (n, m, k, l, v)));
+        for (k, l) in (0..=4).flat_map(|k| (0..=4).map(move |l| (k, l))) {
+            for p in 0..=n.min(m) {
+                let power = |base: usize, exponent: usize| base.pow(exponent as u32);
+                let entries = power(l * k + 1, p) * power(l, n - p) * power(k, m - p);
+                let variables = (0..=64).filter(|v| n + m + v > 0 && asked(entries, n + m + v));
+                found.extend(variables.map(|v| (n, m, k, l, p, v)));
+            }
         }
     }
-    let (n, m, k, l, v) = random.pick(&found);
+    let (n, m, k, l, p, v) = random.pick(&found);
     let mut problem = Problem::default();
     for name in 0..v {
         problem.variable(name as u32);
     }
-    let mut side = |terms: usize, name: u32, labels: Vec<u32>| Side {
-        terms: (0..terms).map(|_| problem.application(name, vec![])).collect(),
+    let mut side = |terms: usize, name: usize, labels: Vec<u32>| Side {
+        terms: (0..terms).map(|i| problem.application(if i < p { i } else { name } as u32, vec![])).collect(),
         labels,
     };
-    let left = side(n, 1, (1..=k as u32).collect());
-    let right = side(m, 2, (5..5 + l as u32).collect());
+    let left = side(n, 100, (1..=k as u32).collect());
+    let right = side(m, 200, (5..5 + l as u32).collect());
     Problem { left, right, ..problem }
 }
 

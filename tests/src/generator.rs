@@ -5,35 +5,45 @@ use crate::random::Random;
 use crate::table::{read, Problem};
 use crate::{damage, families};
 
-/// The input of a program that reads a table, with its index and the name of its family.
+/// The input of a program that reads a table, with what it was made from and the name of its family.
 pub struct Made {
+    pub seed: u64,
     pub index: u64,
     pub family: &'static str,
     pub input: Vec<u8>,
 }
 
 impl Made {
-    /// The table in decimal, and the bytes after its last whole word.
-    pub fn shown(&self) -> String {
+    /// The input's words, however many, if it is whole words.
+    pub fn words(&self) -> Option<Vec<u32>> {
         let words = self.input.chunks_exact(4);
-        let bytes: Vec<String> = words.remainder().iter().map(u8::to_string).collect();
-        let word = |bytes: &[u8]| u32::from_le_bytes([bytes[0], bytes[1], bytes[2], bytes[3]]).to_string();
-        let words: Vec<String> = words.map(word).collect();
-        let bytes = if bytes.is_empty() { String::new() } else { format!(", and bytes {}", bytes.join(" ")) };
-        format!("{} {}, {} bytes: {}{bytes}", self.family, self.index, self.input.len(), words.join(" "))
+        let whole = words.remainder().is_empty();
+        whole.then(|| words.map(|bytes| u32::from_le_bytes([bytes[0], bytes[1], bytes[2], bytes[3]])).collect())
+    }
+
+    /// The table in decimal; where the input is not whole words, its bytes.
+    pub fn shown(&self) -> String {
+        let Made { seed, index, family, input } = self;
+        let (unit, numbers) = match self.words() {
+            Some(words) => ("words", words),
+            None => ("bytes", input.iter().map(|&byte| u32::from(byte)).collect()),
+        };
+        let numbers: Vec<String> = numbers.iter().map(u32::to_string).collect();
+        format!("seed {seed}, table {index}, {family}, {} {unit}: {}", numbers.len(), numbers.join(" "))
     }
 }
 
 /// A family: its name, its share of the tables, and how one is made.
-type Family = (&'static str, usize, fn(&mut Random) -> Vec<u8>);
+pub type Family = (&'static str, usize, fn(&mut Random) -> Vec<u8>);
 
-const FAMILIES: [Family; 16] = [
+pub const FAMILIES: [Family; 17] = [
     ("small", 24, |random| bytes(families::small(random))),
     ("medium", 6, |random| bytes(families::medium(random))),
     ("large", 3, |random| bytes(families::large(random))),
     ("variants", 16, |random| bytes(families::variants(random))),
     ("ground", 7, |random| bytes(families::ground(random))),
     ("hopeless", 5, |random| bytes(families::hopeless(random))),
+    ("alike", 4, |random| bytes(families::alike(random))),
     ("cycles", 5, |random| bytes(families::cycles(random))),
     ("exponential", 3, |random| bytes(families::exponential(random))),
     ("wide", 6, |random| bytes(families::wide(random))),
@@ -41,9 +51,9 @@ const FAMILIES: [Family; 16] = [
     ("boundaries", 3, |random| bytes(families::boundaries(random))),
     ("exact", 1, |random| bytes(families::exact(random))),
     ("one past", 1, |random| bytes(families::one_past(random))),
-    ("damaged", 18, |random| damage::once(&families::small_or_medium(random), random)),
-    ("damaged more", 5, |random| damage::several(&families::small_or_medium(random), random)),
-    ("altered", 3, |random| damage::altered(&families::small_or_medium(random), random)),
+    ("damaged", 18, |random| damage::once(&families::any_size(random), random)),
+    ("damaged more", 5, |random| damage::several(&families::any_size(random), random)),
+    ("altered", 3, |random| damage::altered(&families::any_size(random), random)),
 ];
 
 /// The table of a seed and an index.
@@ -53,7 +63,7 @@ pub fn make(seed: u64, index: u64) -> Made {
     let mut at = random.below(shares);
     for (family, share, make) in FAMILIES {
         if at < share {
-            return Made { index, family, input: make(&mut random) };
+            return Made { seed, index, family, input: make(&mut random) };
         }
         at -= share;
     }

@@ -4,7 +4,7 @@
 use crate::algorithms::{self, Tagged, Unifier};
 use crate::table::{Problem, Side};
 use crate::terms::{Term, Terms};
-use crate::unification::{most_general_unifier, solve};
+use crate::unification::{bindings, most_general_unifier};
 use crate::words::binding_words;
 
 /// The digits of a choice and then the binding words of its pairs.
@@ -17,7 +17,7 @@ pub struct Listing {
     pub full: bool,
 }
 
-/// The most pairings and the most choices that Algorithm 1 is given to go over.
+/// The most choices that Algorithm 1 is given to go over.
 const MOST: u64 = 10_000;
 
 /// The listing: by Algorithm 1 if it can run, otherwise choice by choice.
@@ -27,9 +27,7 @@ pub fn listing(problem: &Problem, lent: usize) -> Listing {
 
 /// The listing by Algorithm 1, which makes all entries before the first can be told. None where it would take too long.
 pub fn by_algorithm_1(problem: &Problem, lent: usize) -> Option<Listing> {
-    let (k, l) = (problem.left.labels.len(), problem.right.labels.len());
-    let (pairings, choices) = (cost(problem, k.min(1), l.min(1)), cost(problem, k, l));
-    if pairings > MOST || choices > MOST {
+    if choices(problem) > MOST {
         return None;
     }
     let mut entries = complete_by_algorithm_1(problem);
@@ -44,10 +42,11 @@ fn fitting(problem: &Problem, lent: usize) -> usize {
     lent.checked_div(problem.entry_words()).unwrap_or(usize::MAX)
 }
 
-/// The cost that document 000 gives for Algorithm 1, without that of unifying: the sum over the number i of pairs of
-/// (n over i) (m over i) i! l^(n-i) k^(m-i).
-fn cost(problem: &Problem, k: usize, l: usize) -> u64 {
+/// The number of choices, admissible or not. It is the cost that document 000 gives for Algorithm 1, without that of
+/// unifying: the sum over the number i of pairs of (n over i) (m over i) i! l^(n-i) k^(m-i).
+fn choices(problem: &Problem) -> u64 {
     let (n, m) = (problem.left.terms.len(), problem.right.terms.len());
+    let (k, l) = (problem.left.labels.len(), problem.right.labels.len());
     let mut sum = 0;
     let mut pairings = 1;
     for i in 0..=n.min(m) {
@@ -135,7 +134,7 @@ impl Walk<'_> {
         let (k, l) = (self.problem.left.labels.len(), self.problem.right.labels.len());
         let paired = digits.iter().filter(|&&digit| digit as usize <= m).count();
         // Without left labels every right term needs a partner.
-        if self.listing.full || (k == 0 && m - paired > n - digits.len()) || !self.unify(digits) {
+        if self.listing.full || (k == 0 && m - paired > n - digits.len()) || !self.have_unifier(digits) {
             return;
         }
         if digits.len() == n {
@@ -182,8 +181,8 @@ impl Walk<'_> {
     }
 
     /// Whether the pairs of some digits have a common unifier.
-    fn unify(&self, digits: &[u32]) -> bool {
-        solve(&self.terms, &self.pairs(digits)).is_some()
+    fn have_unifier(&self, digits: &[u32]) -> bool {
+        bindings(&self.terms, &self.pairs(digits)).is_some()
     }
 
     fn pairs(&self, digits: &[u32]) -> Vec<(Term, Term)> {

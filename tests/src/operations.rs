@@ -62,8 +62,10 @@ fn unifying_words(problem: &Problem, a: usize, b: usize) -> Option<Vec<u32>> {
 /// The answers of listing, with the number of entries left in the lent words.
 #[derive(Clone, Copy, Debug, PartialEq, Eq)]
 pub enum List {
+    /// 1 to 7.
     Refused(u32),
     Finished(usize),
+    /// 10.
     Full(usize),
 }
 

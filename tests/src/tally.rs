@@ -15,10 +15,15 @@ pub struct Tally {
 }
 
 impl Tally {
-    /// Counts a table by what is printed for it.
-    pub fn add(&mut self, made: &Made, printed: &str) {
+    /// Counts a table by its answer.
+    pub fn count(&mut self, made: &Made, answer: &str) {
         self.tables += 1;
         *self.families.entry(made.family).or_default() += 1;
+        *self.answers.entry(answer.to_string()).or_default() += 1;
+    }
+
+    /// Counts a table by what is printed for it, and by what is in it.
+    pub fn add(&mut self, made: &Made, printed: &str) {
         let first = printed.lines().next().unwrap_or_default();
         let answer = match first.split_once(' ') {
             Some(("entries", "0")) => "no entry",
@@ -26,7 +31,7 @@ impl Tally {
             Some(("full", _)) => "full",
             _ => first,
         };
-        *self.answers.entry(answer.to_string()).or_default() += 1;
+        self.count(made, answer);
         if let Some(problem) = words_of(&made.input).ok().and_then(|table| read(&table).ok()) {
             let entries = printed.lines().count() - 1;
             for feature in features(&problem, answer, entries) {
@@ -46,7 +51,9 @@ impl fmt::Display for Tally {
         for (answer, count) in &self.answers {
             writeln!(f, "{count:6}   {answer}")?;
         }
-        writeln!(f, "       accepted, with")?;
+        if !self.features.is_empty() {
+            writeln!(f, "       accepted, with")?;
+        }
         for (feature, count) in &self.features {
             writeln!(f, "{count:6}   {feature}")?;
         }

@@ -56,27 +56,26 @@ impl Terms {
 /// A substitution, by the variables that it replaces.
 pub type Substitution = BTreeMap<u32, Term>;
 
-/// The application of one substitution to terms: all variables are replaced at once. A term met again is not gone
-/// through again.
-pub struct Application<'a> {
+/// The variables of terms replaced by a substitution, all at once. A term met again is not gone through again.
+pub struct Replacement<'a> {
     theta: &'a Substitution,
     done: HashMap<Term, Term>,
 }
 
-impl<'a> Application<'a> {
-    pub fn of(theta: &'a Substitution) -> Self {
-        Application { theta, done: HashMap::new() }
+impl<'a> Replacement<'a> {
+    pub fn by(theta: &'a Substitution) -> Self {
+        Replacement { theta, done: HashMap::new() }
     }
 
     /// tθ.
-    pub fn to(&mut self, terms: &mut Terms, t: Term) -> Term {
+    pub fn in_term(&mut self, terms: &mut Terms, t: Term) -> Term {
         if let Some(&result) = self.done.get(&t) {
             return result;
         }
         let result = match terms.shape(t).clone() {
             Shape::Variable(x) => self.theta.get(&x).copied().unwrap_or(t),
             Shape::Application(name, arguments) => {
-                let arguments = arguments.into_iter().map(|argument| self.to(terms, argument)).collect();
+                let arguments = arguments.into_iter().map(|argument| self.in_term(terms, argument)).collect();
                 terms.make(Shape::Application(name, arguments))
             }
         };

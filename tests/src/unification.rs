@@ -7,26 +7,26 @@
 use crate::terms::{Shape, Substitution, Term, Terms};
 use std::collections::{BTreeMap, HashMap, HashSet};
 
-/// Pairs x ≐ t, one a variable, in which no variable reaches itself.
+/// Pairs x ≐ t, one a variable. A variable that is bound may stand in the term of another, but none reaches itself.
 #[derive(Default)]
-pub struct Solved {
+pub struct Bindings {
     pairs: BTreeMap<u32, Term>,
 }
 
 /// The most general unifier of a set of pairs, or none.
 pub fn most_general_unifier(terms: &mut Terms, pairs: &[(Term, Term)]) -> Option<Substitution> {
-    solve(terms, pairs).map(|solved| solved.substitution(terms))
+    bindings(terms, pairs).map(|bindings| bindings.substitution(terms))
 }
 
-/// Pairs that have the same unifiers, in solved form, or none where there is no unifier.
-pub fn solve(terms: &Terms, pairs: &[(Term, Term)]) -> Option<Solved> {
-    let mut solved = Solved::default();
+/// Bindings that have the same unifiers as some pairs, or none where there is no unifier.
+pub fn bindings(terms: &Terms, pairs: &[(Term, Term)]) -> Option<Bindings> {
+    let mut bindings = Bindings::default();
     let mut met = HashSet::new();
     let mut rest = pairs.to_vec();
     while let Some((s, t)) = rest.pop() {
-        let (s, t) = (solved.look_up(terms, s), solved.look_up(terms, t));
+        let (s, t) = (bindings.look_up(terms, s), bindings.look_up(terms, t));
         if s == t || !met.insert((s, t)) {
-            continue; // (3), and (1) for equal applications
+            continue; // (3), also for equal applications, and pairs dealt with before
         }
         match (terms.shape(s), terms.shape(t)) {
             (Shape::Application(f, ss), Shape::Application(g, ts)) => {
@@ -36,18 +36,18 @@ pub fn solve(terms: &Terms, pairs: &[(Term, Term)]) -> Option<Solved> {
                 rest.extend(ss.iter().copied().zip(ts.iter().copied())); // (1)
             }
             (&Shape::Variable(x), _) => {
-                if solved.occurs(terms, x, t) {
+                if bindings.occurs(terms, x, t) {
                     return None; // (6)
                 }
-                solved.pairs.insert(x, t); // (5)
+                bindings.pairs.insert(x, t); // (5)
             }
             (Shape::Application(..), Shape::Variable(_)) => rest.push((t, s)), // (4)
         }
     }
-    Some(solved)
+    Some(bindings)
 }
 
-impl Solved {
+impl Bindings {
     /// A term, or what the variable that it is stands for.
     fn look_up(&self, terms: &Terms, mut t: Term) -> Term {
         while let Shape::Variable(x) = terms.shape(t) {
@@ -77,7 +77,7 @@ impl Solved {
         false
     }
 
-    /// The substitution of the solved set: every bound variable replaced in every term.
+    /// The substitution of the solved set: every bound variable replaced in the terms of all others.
     fn substitution(&self, terms: &mut Terms) -> Substitution {
         let mut values = HashMap::new();
         let mut theta = Substitution::new();

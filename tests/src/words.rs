@@ -2,12 +2,12 @@
 //! variable number."
 
 use crate::table::{Node, Problem};
-use crate::terms::{Application, Shape, Substitution, Term, Terms};
+use crate::terms::{Replacement, Shape, Substitution, Term, Terms};
 
-/// The words of a unifier, over the terms of the problem's nodes.
-pub fn binding_words(problem: &Problem, terms: &mut Terms, nodes: &[Term], sigma: &Substitution) -> Vec<u32> {
-    let mut application = Application::of(sigma);
-    let values: Vec<Term> = nodes.iter().map(|&term| application.to(terms, term)).collect();
+/// The words of a unifier. The terms of the problem's nodes are given.
+pub fn binding_words(problem: &Problem, terms: &mut Terms, of_nodes: &[Term], sigma: &Substitution) -> Vec<u32> {
+    let mut replacement = Replacement::by(sigma);
+    let values: Vec<Term> = of_nodes.iter().map(|&term| replacement.in_term(terms, term)).collect();
     problem.variables().into_iter().map(|x| binding_word(problem, terms, &values, x) as u32).collect()
 }
 
@@ -19,8 +19,8 @@ fn binding_word(problem: &Problem, terms: &Terms, values: &[Term], x: u32) -> us
         // "Where the variable's value is an application, the word is the least number of an application node whose
         // value under the unifier is the same."
         Shape::Application(..) => {
-            let application = |number: usize| matches!(problem.nodes[number], Node::Application { .. });
-            let least = (0..values.len()).find(|&number| application(number) && same(number));
+            let is_application = |number: usize| matches!(problem.nodes[number], Node::Application { .. });
+            let least = (0..values.len()).find(|&number| is_application(number) && same(number));
             least.expect("a unifier's applications are those of the table")
         }
         // "Otherwise the word is the least node of the lowest-numbered variable that has the same value."

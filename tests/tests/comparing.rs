@@ -1,12 +1,17 @@
 //! `compare` passes the second program itself, and finds each fault that is built into a copy of it.
 
+use second::generator::make;
+use std::fs;
+use std::os::unix::fs::PermissionsExt;
+use std::path::PathBuf;
 use std::process::{Command, Output};
 
+const SEED: u64 = 3;
 const COUNT: &str = "600";
 
 fn compare(program: &str, fault: &str, options: &[&str]) -> Output {
     let mut command = Command::new(env!("CARGO_BIN_EXE_compare"));
-    command.args([program, "--seed", "3", "--count", COUNT]).args(options).env("FAULT", fault);
+    command.args([program, "--seed", &SEED.to_string(), "--count", COUNT]).args(options).env("FAULT", fault);
     command.output().expect("compare runs")
 }
 
@@ -31,6 +36,11 @@ fn finds(fault: &str, options: &[&str]) {
     assert!(!output.status.success());
     let text = String::from_utf8_lossy(&output.stdout).to_string();
     assert!(text.contains("expected: ") && text.contains("found: "), "the difference is shown");
+    // The first table that is shown is one that was made, in decimal.
+    let (before, numbers) = text.lines().next().and_then(|line| line.split_once(" words: ")).expect("a table");
+    let index = before.split(", table ").nth(1).and_then(|rest| rest.split(',').next()).expect("an index");
+    let words: Vec<u32> = numbers.split(' ').map(|word| word.parse().expect("a word")).collect();
+    assert_eq!(make(SEED, index.parse().expect("an index")).words(), Some(words));
 }
 
 #[track_caller]
@@ -73,8 +83,13 @@ fn a_listing_cut_short_is_found() {
 }
 
 #[test]
-fn full_before_the_words_are_used_up_is_found() {
+fn full_with_no_word_left_is_found() {
     finds("full", &[]);
+}
+
+#[test]
+fn full_before_the_words_are_used_up_is_found() {
+    finds("room", &[]);
 }
 
 #[test]
@@ -96,4 +111,54 @@ fn answers_to_lines_of_tables_are_compared() {
     agrees(env!("CARGO_BIN_EXE_faulty"), "checks none", &["--checks"]);
     finds("checks refusal", &["--checks"]);
     finds("checks more", &["--checks"]);
+}
+
+/// A program that does something else than to answer.
+fn script(name: &str, line: &str) -> String {
+    let path = PathBuf::from(env!("CARGO_TARGET_TMPDIR")).join(name);
+    fs::write(&path, format!("#!/bin/sh\n{line}\n")).expect("a script");
+    fs::set_permissions(&path, fs::Permissions::from_mode(0o755)).expect("a script");
+    path.to_string_lossy().to_string()
+}
+
+#[track_caller]
+fn fails_always(program: &str, why: &str) {
+    let output = compare(program, "", &["--count", "20", "--patience", "1"]);
+    assert_eq!(counts(&output), (0, 20));
+    assert!(!output.status.success());
+    assert!(String::from_utf8_lossy(&output.stdout).contains(why));
+}
+
+#[test]
+fn a_program_that_does_not_end_fails() {
+    fails_always(&script("sleeps", "exec sleep 30"), "no end in 1 seconds");
+    fails_always(&script("closes", "exec 1>&-; exec sleep 30"), "no end in 1 seconds");
+}
+
+#[test]
+fn a_program_that_is_killed_fails() {
+    fails_always(&script("killed", "kill -9 $$"), "ended by signal 9");
+}
+
+#[test]
+fn wrong_arguments_are_refused() {
+    for arguments in [&[][..], &["a", "b"], &["a", "--count", "0"], &["a", "--seed"], &["a", "--unknown"]] {
+        let output = Command::new(env!("CARGO_BIN_EXE_compare")).args(arguments).output().expect("compare runs");
+        assert_eq!(output.status.code(), Some(2), "{arguments:?}");
+    }
+}
+
+#[test]
+fn generate_prints_what_it_makes() {
+    let mut command = Command::new(env!("CARGO_BIN_EXE_generate"));
+    let output = command.args(["--seed", "5", "--count", "300", "--tables"]).output().expect("generate runs");
+    let text = String::from_utf8_lossy(&output.stdout).to_string();
+    let lines: Vec<&str> = text.lines().collect();
+    for index in 0..300 {
+        assert_eq!(lines[index as usize], make(5, index).shown());
+    }
+    assert_eq!(lines[300], "   300 tables, of the families");
+    let answers = lines.iter().skip_while(|line| !line.contains("answered")).skip(1);
+    let counts = answers.map_while(|line| line.split_whitespace().next()?.parse::<usize>().ok());
+    assert_eq!(counts.sum::<usize>(), 300);
 }

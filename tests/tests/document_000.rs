@@ -4,7 +4,7 @@ use second::algorithms::{choose, ordered_partitions, permutations, MultisetVaria
 use second::generator::accepted;
 use second::listing::{by_algorithm_1, unifiers};
 use second::table::{Problem, Side};
-use second::terms::{Application, Term, Terms};
+use second::terms::{Replacement, Term, Terms};
 use std::collections::HashSet;
 
 /// "the ordered 2-partitions of the multiset {a, b, c} are", with the misprint that document 01 names put right.
@@ -48,6 +48,10 @@ fn choices_and_orders_are_all_there_once() {
             let orders = permutations(&list);
             assert_eq!(orders.len(), (1..=n).product::<usize>());
             assert_eq!(orders.iter().collect::<HashSet<_>>().len(), orders.len());
+            for mut order in orders {
+                order.sort_unstable();
+                assert_eq!(order, list);
+            }
         }
     }
 }
@@ -55,8 +59,8 @@ fn choices_and_orders_are_all_there_once() {
 /// The terms of a side under a unifier: {t_1, .., t_n | M_1, .., M_k}σ, without what stands for rests.
 fn under(problem: &Problem, terms: &mut Terms, side: &Side, unifier: &Unifier) -> Vec<Term> {
     let nodes = terms.of_nodes(problem);
-    let mut application = Application::of(&unifier.pairing.sigma);
-    let mut all: Vec<Term> = side.terms.iter().map(|&node| application.to(terms, nodes[node])).collect();
+    let mut replacement = Replacement::by(&unifier.pairing.sigma);
+    let mut all: Vec<Term> = side.terms.iter().map(|&node| replacement.in_term(terms, nodes[node])).collect();
     for label in &side.labels {
         all.extend(unifier.contexts[label].terms.iter().map(|tagged| tagged.term));
     }

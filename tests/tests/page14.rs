@@ -6,7 +6,7 @@ use second::listing::{by_choices, Entry};
 use second::operations::LENT;
 use second::random::Random;
 use second::table::{Node, Problem, Side};
-use second::terms::{Application, Shape, Substitution, Term, Terms};
+use second::terms::{Replacement, Shape, Substitution, Term, Terms};
 use std::collections::BTreeMap;
 
 /// A problem with its complete listing, and the terms that assignments are made of.
@@ -53,8 +53,8 @@ impl Trial {
     }
 
     fn values(&mut self, side: &Side, variables: &Substitution) -> Vec<Term> {
-        let mut application = Application::of(variables);
-        side.terms.iter().map(|&node| application.to(&mut self.terms, self.nodes[node])).collect()
+        let mut replacement = Replacement::by(variables);
+        side.terms.iter().map(|&node| replacement.in_term(&mut self.terms, self.nodes[node])).collect()
     }
 
     /// Any variables and any labels.
@@ -92,9 +92,9 @@ impl Trial {
         let (n, m) = (left.terms.len(), right.terms.len());
         let unifier = read_unifier(&self.problem, &mut self.terms, &entry[n + m..]);
         let after = self.variables(random);
-        let mut application = Application::of(&after);
+        let mut replacement = Replacement::by(&after);
         let variables: Substitution =
-            unifier.into_iter().map(|(x, value)| (x, application.to(&mut self.terms, value))).collect();
+            unifier.into_iter().map(|(x, value)| (x, replacement.in_term(&mut self.terms, value))).collect();
         let of_left = self.values(&left, &variables);
         let of_right = self.values(&right, &variables);
         let mut labels: BTreeMap<u32, Vec<Term>> = BTreeMap::new();

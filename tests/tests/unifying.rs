@@ -6,7 +6,7 @@ use second::closure::{outcome, Outcome};
 use second::generator::accepted;
 use second::random::Random;
 use second::table::{Node, Problem};
-use second::terms::{Application, Shape, Substitution, Term, Terms};
+use second::terms::{Replacement, Shape, Substitution, Term, Terms};
 use second::unification::most_general_unifier;
 use second::words::binding_words;
 
@@ -69,30 +69,30 @@ fn binding_words_read_back_as_a_most_general_unifier() {
             }
             // Whatever unifies the pairs comes after the most general unifier.
             let other = substitution(&mut random, &mut terms, &problem);
-            let mut application = Application::of(&other);
-            if of_terms.iter().all(|&(s, t)| application.to(&mut terms, s) == application.to(&mut terms, t)) {
+            let mut replacement = Replacement::by(&other);
+            if of_terms.iter().all(|&(s, t)| replacement.in_term(&mut terms, s) == replacement.in_term(&mut terms, t)) {
                 let sigma = mgu.expect("the pairs have a unifier");
                 let words = binding_words(&problem, &mut terms, &nodes, &sigma);
                 let unifier = read_unifier(&problem, &mut terms, &words);
                 assert!(after(&terms, &unifier, &other).is_some());
-                others += 1;
+                others += usize::from(of_terms.iter().any(|(s, t)| s != t));
             }
         }
     }
-    assert!(unified > 1000 && others > 300, "{unified} unified, {others} other unifiers");
+    assert!(unified > 1000 && others > 100, "{unified} unified, {others} other unifiers");
 }
 
 fn unifies(terms: &mut Terms, unifier: &Substitution, pairs: &[(Term, Term)]) {
-    let mut application = Application::of(unifier);
+    let mut replacement = Replacement::by(unifier);
     for &(s, t) in pairs {
-        assert_eq!(application.to(terms, s), application.to(terms, t));
+        assert_eq!(replacement.in_term(terms, s), replacement.in_term(terms, t));
     }
 }
 
 /// Each word is the least node that document 01 asks for, and no application node has the value of a variable.
 fn least(problem: &Problem, terms: &mut Terms, nodes: &[Term], unifier: &Substitution, words: &[u32]) {
-    let mut application = Application::of(unifier);
-    let values: Vec<Term> = nodes.iter().map(|&term| application.to(terms, term)).collect();
+    let mut replacement = Replacement::by(unifier);
+    let values: Vec<Term> = nodes.iter().map(|&term| replacement.in_term(terms, term)).collect();
     for (x, &word) in problem.variables().into_iter().zip(words) {
         let value = unifier[&x];
         let with_value = (0..nodes.len()).filter(|&node| values[node] == value);

@@ -63,6 +63,11 @@ fn spoil(fault: &str, problem: &Problem, listing: &mut Listing) {
         "finished" => listing.full = false,
         // A finished listing that is said to be full, because no word is left.
         "full" => listing.full |= entries.concat().len() == LENT,
+        // One said to be full while there is room for its last entry.
+        "room" if entries.len() > 100 && !listing.full => {
+            entries.pop();
+            listing.full = true;
+        }
         // The greatest node of the same term, in place of the least.
         "word" => {
             let nodes = Terms::default().of_nodes(problem);
