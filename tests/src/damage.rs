@@ -106,11 +106,6 @@ fn broken_pair(random: &mut Random, table: &mut Vec<u32>) {
     let old = table[word];
     match random.below(10) {
         0 => table[0] = random.pick(&[0, 11, 13, u32::MAX]),
-        8 => {
-            // Another first offset, from which all goes on as it should.
-            table[0] = random.pick(&[0, 8, 11, 13]);
-            table[1] = (table[1] + 12).saturating_sub(table[0]);
-        }
         1 => table[word] = old.wrapping_add(1),
         2 => table[word] = old.wrapping_sub(1),
         3 => table[word] = too_large(random, old + 1, old),
@@ -133,7 +128,12 @@ fn broken_pair(random: &mut Random, table: &mut Vec<u32>) {
                 table.push(0);
             }
         }
-        7 if table.len() > 12 => table.truncate(random.within(12, table.len() - 1)),
+        7 => {
+            // Another first offset, from which all goes on as it should.
+            table[0] = random.pick(&[0, 8, 11, 13]);
+            table[1] = (table[1] + 12).saturating_sub(table[0]);
+        }
+        8 if table.len() > 12 => table.truncate(random.within(12, table.len() - 1)),
         _ => table.extend(vec![0; random.within(1, 5)]),
     }
 }

@@ -89,10 +89,9 @@ fn values_are_equal_without_being_joined() {
     let mut found = 0;
     for _ in 0..200 {
         let problem = families::alike(&mut random);
-        let (of_y, of_x) = {
-            let towers: Vec<usize> = (4..problem.nodes.len()).collect();
-            (towers[towers.len() / 2 - 1], problem.nodes.len() - 1)
-        };
+        // After three variables and a stand the nodes over y, and then as many over x.
+        let depth = (problem.nodes.len() - 4) / 2;
+        let (of_y, of_x) = (3 + depth, 3 + 2 * depth);
         let digits = problem.left.terms.len() + problem.right.terms.len();
         let words: Vec<u32> =
             listing(&problem, LENT).entries.iter().flat_map(|entry| entry[digits..].to_vec()).collect();
