@@ -52,7 +52,7 @@ pub const FAMILIES: [Family; 17] = [
     ("exact", 1, |random| bytes(families::exact(random))),
     ("one past", 1, |random| bytes(families::one_past(random))),
     ("damaged", 18, |random| damage::once(&families::any_size(random), random)),
-    ("damaged more", 5, |random| damage::several(&families::any_size(random), random)),
+    ("damaged more", 8, |random| damage::several(&families::any_size(random), random)),
     ("altered", 3, |random| damage::altered(&families::any_size(random), random)),
 ];
 
