@@ -4,7 +4,7 @@ use Prim.Native.Nat.{ℕ, zero, suc, _+_, _<_}
 use mathlib.Core.Bool.{Bool, false}
 use mathlib.Core.Path.{_≡_, refl, sym, ap, _∙_}
 use mathlib.Core.Logic.{_↔_}
-use mathlib.Core.List.{List, _∷_, _++_}
+use mathlib.Core.List.{List, [], _∷_, _++_}
 use native.Mathlib.Omega.{arith}
 use borrow.Author.Tests.{le-ltb}
 use lib.ListN.{length, take}
@@ -27,27 +27,35 @@ record Clear (t : List ℕ) : Type 0 where
   right-terms : wrongTerm t ≡ false
   right-labels : wrongLabel t ≡ false
 
-pass : {n : ℕ} {b : Bool} {cs : List (ℕ × Bool)} → First 0 ((suc n, b) ∷ cs) → (b ≡ false) × First 0 cs
+-- where no condition holds, the first does not, and none of the others
+pub pass : {n : ℕ} {b : Bool} {cs : List (ℕ × Bool)} → First 0 ((suc n, b) ∷ cs) → (b ≡ false) × First 0 cs
 pass (here e h) = absurd (omega arith)
 pass (later h f) = (h, f)
 
-clear : (t : List ℕ) → refusal t ≡ 0 → Clear t
+-- none of a table's conditions holds, nor any of others after them
+clear-first : (t : List ℕ) (cs : List (ℕ × Bool)) → First 0 (conditions t ++ cs) → Clear t × First 0 cs
 unfolding conditions
-clear t e =
-    let a = pass (refused t 0 .0 e) in
+clear-first t cs z =
+    let a = pass z in
     let b = pass (a .1) in
     let c = pass (b .1) in
     let d = pass (c .1) in
     let f = pass (d .1) in
     let g = pass (f .1) in
-    let h = pass (g .1) in
-    record {
-      sectioned = record { words = a .0; pairs = b .0; limits = c .0 };
-      right-nodes = d .0;
-      right-arguments = f .0;
-      right-terms = g .0;
-      right-labels = h .0;
-    }
+    let h = pass (g .1) in (
+      record {
+        sectioned = record { words = a .0; pairs = b .0; limits = c .0 };
+        right-nodes = d .0;
+        right-arguments = f .0;
+        right-terms = g .0;
+        right-labels = h .0;
+      },
+      h .1,
+    )
+
+clear : (t : List ℕ) → refusal t ≡ 0 → Clear t
+unfolding conditions
+clear t e = clear-first t [] (refused t 0 .0 e) .0
 
 clear-none : (t : List ℕ) → Clear t → refusal t ≡ 0
 unfolding conditions
@@ -124,6 +132,10 @@ clears t a =
 -- a table gets no refusal exactly if all holds that acceptance means
 pub accepted : (t : List ℕ) → refusal t ≡ 0 ↔ Accepted t
 accepted t = ((λ e. accepts t (clear t e)), (λ a. clear-none t (clears t a)))
+
+-- where no condition holds, of the table or after them, the table is accepted
+pub accepted-first : (t : List ℕ) (cs : List (ℕ × Bool)) → First 0 (conditions t ++ cs) → Accepted t × First 0 cs
+accepted-first t cs z = let c = clear-first t cs z in (accepts t (c .0), c .1)
 
 -- The sections lie end to end: the header and the six sections, one after the other, are the table.
 module _ (t : List ℕ) (a : Accepted t) where

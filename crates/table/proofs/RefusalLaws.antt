@@ -22,10 +22,14 @@ held-first n (c ∷ cs) e = pick (c .1) refl (held-first n cs)
     pick true h f = here (rw h at e) h
     pick false h f = later h (f (rw h at e))
 
+-- the number is n exactly if condition n holds and none before it
+pub first-means : (n : ℕ) (cs : List (ℕ × Bool)) → firstHeld cs ≡ n ↔ First n cs
+first-means n cs = (held-first n cs, first-held n)
+
 -- refusal n is given exactly if condition n holds and none before it
 pub refused : (t : List ℕ) (n : ℕ) → refusal t ≡ n ↔ First n (conditions t)
 unfolding refusal
-refused t n = (held-first n (conditions t), first-held n)
+refused t n = first-means n (conditions t)
 
 -- the step from one condition to the next
 pub not-held : (c : ℕ × Bool) (cs : List (ℕ × Bool)) → c .1 ≡ false → firstHeld (c ∷ cs) ≡ firstHeld cs

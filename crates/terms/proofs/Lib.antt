@@ -1,0 +1,5 @@
+-- Laws of terms, substitutions and multisets.
+pub mod TermLaws
+pub mod SubstitutionLaws
+pub mod SizeLaws
+pub mod MultisetLaws

@@ -1,0 +1,30 @@
+-- Two substitutions are one, and only the variables that a term holds matter.
+-- By induction on the term, with that on its arguments. Assumes nothing.
+use Prim.Native.Nat.{ℕ}
+use mathlib.Core.Path.{_≡_, refl, ap, ap₂}
+use Rattle.terms.specs.Term.{Term, var, app, Terms, nil, cons}
+use Rattle.terms.specs.Substitution.{Substitution, sub, subs, Holds, here, inside, HoldsIn, first, later}
+
+-- one substitution after another is one substitution
+mutual
+  unfolding sub
+
+  pub sub-sub : (ρ σ : Substitution) (t : Term) → sub ρ (sub σ t) ≡ sub (λ x. sub ρ (σ x)) t
+  sub-sub ρ σ (var x) = refl
+  sub-sub ρ σ (app f ts) = ap (app f) (subs-subs ρ σ ts)
+
+  subs-subs : (ρ σ : Substitution) (ts : Terms) → subs ρ (subs σ ts) ≡ subs (λ x. sub ρ (σ x)) ts
+  subs-subs ρ σ nil = refl
+  subs-subs ρ σ (cons t ts) = ap₂ cons (sub-sub ρ σ t) (subs-subs ρ σ ts)
+
+-- only the variables that a term holds matter
+mutual
+  unfolding sub
+
+  pub agree : (σ τ : Substitution) (t : Term) → ((x : ℕ) → Holds x t → σ x ≡ τ x) → sub σ t ≡ sub τ t
+  agree σ τ (var x) h = h x here
+  agree σ τ (app f ts) h = ap (app f) (agree-all σ τ ts (λ x p. h x (inside p)))
+
+  agree-all : (σ τ : Substitution) (ts : Terms) → ((x : ℕ) → HoldsIn x ts → σ x ≡ τ x) → subs σ ts ≡ subs τ ts
+  agree-all σ τ nil h = refl
+  agree-all σ τ (cons t ts) h = ap₂ cons (agree σ τ t (λ x p. h x (first p))) (agree-all σ τ ts (λ x p. h x (later p)))

@@ -1,0 +1,145 @@
+-- `firstWith` finds the first number with a property: by induction on the list. The numbers below n, in order, are a rising list.
+-- So the first node with a property is the least. Assumes nothing.
+use Prim.Native.Nat.{ℕ, zero, suc, _<_, _≤_}
+use mathlib.Core.Bool.{Bool, true, false, cond}
+use mathlib.Core.List.{List, [], _∷_, _++_, List·Memᴰ, List·Memᴰ·head, List·Memᴰ·tail, Memᴰ·append-left, Memᴰ·append-right, List·Memᴰ·append-cases, List·Memᴰ·cases-cons, List·Memᴰ·eq-of-singleton, List·Memᴰ·not-nil}
+use mathlib.Core.Logic.{_⊎_, inl, inr}
+use mathlib.Core.Path.{_≡_, refl, sym, ap}
+use native.Mathlib.Decide.{decLt}
+use native.Mathlib.Omega.{arith}
+use borrow.Author.Tests.{eqb-true, eq-eqb}
+use lib.ListN.{length}
+use Rattle.unify.specs.Node.{Node, variable, application, nodeAt, tabulate, Present}
+use Rattle.unify.specs.Words.{Least}
+use Rattle.unify.specs.Computed.Solution.{firstWith, leastNode, isVariable, isNodeOf, nodeOf}
+use Rattle.unify.proofs.VariableLaws.{Rising, none, more}
+
+-- what `firstWith` gives: the first with the property, or one further on
+data First (p : ℕ → Bool) (d x : ℕ) (xs : List ℕ) : ℕ → Type 0 where
+  here : p x ≡ true → First p d x xs x
+  later : p x ≡ false → First p d x xs (firstWith p d xs)
+
+first : (p : ℕ → Bool) (d x : ℕ) (xs : List ℕ) → First p d x xs (firstWith p d (x ∷ xs))
+unfolding firstWith
+first p d x xs = pick (p x) refl
+  where
+    pick : (b : Bool) → p x ≡ b → First p d x xs (cond (p x) x (firstWith p d xs))
+    pick true e = rw e (here e)
+    pick false e = rw e (later e)
+
+-- one that has the property is not the first if the first has it not
+further : (p : ℕ → Bool) (x y : ℕ) (ys : List ℕ) → p y ≡ false → p x ≡ true → List·Memᴰ x (y ∷ ys) → List·Memᴰ x ys
+further p x y ys n h (List·Memᴰ·head e) = let z : _≡_ {A = ℕ} 0 1 = cc in absurd (omega arith)
+further p x y ys n h (List·Memᴰ·tail m) = m
+
+-- with one that has the property, the first is in the list
+pub first-in : (p : ℕ → Bool) (d : ℕ) (xs : List ℕ) (x : ℕ) → List·Memᴰ x xs → p x ≡ true → List·Memᴰ (firstWith p d xs) xs
+first-in p d [] x m h = absurd (List·Memᴰ·not-nil m)
+first-in p d (y ∷ ys) x m h = go (firstWith p d (y ∷ ys)) (first p d y ys) (λ n. first-in p d ys x n h)
+  where
+    go : (w : ℕ) → First p d y ys w → (List·Memᴰ x ys → List·Memᴰ (firstWith p d ys) ys) → List·Memᴰ w (y ∷ ys)
+    go w (here e) r = List·Memᴰ·head refl
+    go w (later e) r = List·Memᴰ·tail (r (further p x y ys e h m))
+
+-- and it has the property
+pub first-has : (p : ℕ → Bool) (d : ℕ) (xs : List ℕ) (x : ℕ) → List·Memᴰ x xs → p x ≡ true → p (firstWith p d xs) ≡ true
+first-has p d [] x m h = absurd (List·Memᴰ·not-nil m)
+first-has p d (y ∷ ys) x m h = go (firstWith p d (y ∷ ys)) (first p d y ys) (λ n. first-has p d ys x n h)
+  where
+    go : (w : ℕ) → First p d y ys w → (List·Memᴰ x ys → p (firstWith p d ys) ≡ true) → p w ≡ true
+    go w (here e) r = e
+    go w (later e) r = r (further p x y ys e h m)
+
+-- and in a rising list it is the least
+pub first-least : (p : ℕ → Bool) (d : ℕ) (xs : List ℕ) → Rising xs → (x : ℕ) → List·Memᴰ x xs → p x ≡ true → firstWith p d xs ≤ x
+first-least p d [] s x m h = absurd (List·Memᴰ·not-nil m)
+first-least p d (y ∷ ys) (more b s) x m h = go (firstWith p d (y ∷ ys)) (first p d y ys) (λ n. first-least p d ys s x n h)
+  where
+    least : (x ≡ y) ⊎ List·Memᴰ x ys → y ≤ x
+    least (inl e) = omega arith
+    least (inr n) = let k = b x n in omega (arith, k)
+
+    go : (w : ℕ) → First p d y ys w → (List·Memᴰ x ys → firstWith p d ys ≤ x) → w ≤ x
+    go w (here e) r = least (List·Memᴰ·cases-cons m)
+    go w (later e) r = r (further p x y ys e h m)
+
+-- properties that agree on the list give one number
+pub first-same : (p q : ℕ → Bool) (d : ℕ) (xs : List ℕ) → ((x : ℕ) → List·Memᴰ x xs → p x ≡ q x) → firstWith p d xs ≡ firstWith q d xs
+unfolding firstWith
+first-same p q d [] h = refl
+first-same p q d (x ∷ xs) h =
+    rw (h x (List·Memᴰ·head refl), first-same p q d xs (λ y m. h y (List·Memᴰ·tail m)))
+
+-- the numbers below n
+below : (n i : ℕ) → i < n → List·Memᴰ i (tabulate n (λ i. i))
+unfolding tabulate
+below zero i h = absurd (omega arith)
+below (suc n) i h = go (below n i) (decLt i n)
+  where
+    go : (i < n → List·Memᴰ i (tabulate n (λ i. i))) → Dec (i < n) → List·Memᴰ i (tabulate n (λ i. i) ++ (n ∷ []))
+    go r (yes q) = Memᴰ·append-left (n ∷ []) (r q)
+    go r (no q) = let e : i ≡ n = omega arith in Memᴰ·append-right (tabulate n (λ i. i)) (List·Memᴰ·head e)
+
+is-below : (n i : ℕ) → List·Memᴰ i (tabulate n (λ i. i)) → i < n
+unfolding tabulate
+is-below zero i m = absurd (List·Memᴰ·not-nil m)
+is-below (suc n) i m = go (is-below n i) (List·Memᴰ·append-cases (tabulate n (λ i. i)) m)
+  where
+    go : (List·Memᴰ i (tabulate n (λ i. i)) → i < n) → List·Memᴰ i (tabulate n (λ i. i)) ⊎ List·Memᴰ i (n ∷ []) → i < suc n
+    go r (inl k) = let h = r k in omega (arith, h)
+    go r (inr k) = let e = List·Memᴰ·eq-of-singleton k in omega (arith, e)
+
+rising-end : (xs : List ℕ) (n : ℕ) → Rising xs → ((x : ℕ) → List·Memᴰ x xs → x < n) → Rising (xs ++ (n ∷ []))
+rising-end [] n none h = more (λ y m. absurd (List·Memᴰ·not-nil m)) none
+rising-end (x ∷ xs) n (more b s) h =
+    more (λ y m. go y (List·Memᴰ·append-cases xs m)) (rising-end xs n s (λ y m. h y (List·Memᴰ·tail m)))
+  where
+    go : (y : ℕ) → List·Memᴰ y xs ⊎ List·Memᴰ y (n ∷ []) → x < y
+    go y (inl m) = b y m
+    go y (inr m) = rw (List·Memᴰ·eq-of-singleton m) (h x (List·Memᴰ·head refl))
+
+numbers-rise : (n : ℕ) → Rising (tabulate n (λ i. i))
+unfolding tabulate
+numbers-rise zero = none
+numbers-rise (suc n) = rising-end (tabulate n (λ i. i)) n (numbers-rise n) (is-below n)
+
+-- with a node that has the property, the least is a node
+pub least-below : (ns : List Node) (p : ℕ → Bool) (i : ℕ) → i < length ns → p i ≡ true → leastNode ns p < length ns
+unfolding leastNode
+least-below ns p i h e = is-below (length ns) (leastNode ns p) (first-in p (length ns) _ i (below (length ns) i h) e)
+
+-- and it has the property
+pub least-has : (ns : List Node) (p : ℕ → Bool) (i : ℕ) → i < length ns → p i ≡ true → p (leastNode ns p) ≡ true
+unfolding leastNode
+least-has ns p i h e = first-has p (length ns) _ i (below (length ns) i h) e
+
+-- and it is the least
+pub least-least : (ns : List Node) (p : ℕ → Bool) (i : ℕ) → i < length ns → p i ≡ true → leastNode ns p ≤ i
+unfolding leastNode
+least-least ns p i h e = first-least p (length ns) _ (numbers-rise (length ns)) i (below (length ns) i h) e
+
+-- properties that agree on the nodes give one node
+pub least-same : (ns : List Node) (p q : ℕ → Bool) → ((i : ℕ) → i < length ns → p i ≡ q i) → leastNode ns p ≡ leastNode ns q
+unfolding leastNode
+least-same ns p q h = first-same p q (length ns) _ (λ i m. h i (is-below (length ns) i m))
+
+is-variable : (x : ℕ) (n : Node) → isVariable x n ≡ true → n ≡ variable x
+unfolding isVariable
+is-variable x (variable y) h = ap variable (sym (eqb-true x y h))
+is-variable x (application f us) h = let z : _≡_ {A = ℕ} 0 1 = cc in absurd (omega arith)
+
+of-variable : (x : ℕ) (n : Node) → n ≡ variable x → isVariable x n ≡ true
+unfolding isVariable
+of-variable x n e = rw e (eq-eqb x x refl)
+
+-- the least node of a variable that is present
+pub node-of : (ns : List Node) (x : ℕ) → Present ns x → Least (λ i. (i < length ns) × (nodeAt ns i ≡ variable x)) (nodeOf ns x)
+unfolding nodeOf isNodeOf
+node-of ns x p =
+    record {
+      holds = (least-below ns (isNodeOf ns x) (p .0) (p .1) h, is-variable x _ (least-has ns (isNodeOf ns x) (p .0) (p .1) h));
+      least = λ m q. least-least ns (isNodeOf ns x) m (q .0) (of-variable x (nodeAt ns m) (q .1));
+    }
+  where
+    h : isNodeOf ns x (p .0) ≡ true
+    h = of-variable x (nodeAt ns (p .0)) (p .2)

@@ -1,0 +1,80 @@
+-- Laws of lists that the definitions are made of: `tabulate`, `gather`, `together`. By induction. Assumes nothing.
+use Prim.Native.Nat.{ℕ, zero, suc, _+_, _<_}
+use mathlib.Core.List.{List, [], _∷_, _++_, List·Memᴰ, List·Memᴰ·head, List·Memᴰ·tail, Memᴰ·append-left, Memᴰ·append-right, List·Memᴰ·append-cases, List·Memᴰ·not-nil}
+use mathlib.Core.Logic.{_⊎_, inl, inr}
+use mathlib.Core.Path.{_≡_, refl, sym, ap, _∙_}
+use native.Mathlib.Decide.{decLt}
+use native.Mathlib.Omega.{arith}
+use lib.ListN.{length, getD, length-append, List·getD-append}
+use lib.Seq.{getD-at}
+use Rattle.unify.specs.Node.{tabulate}
+use Rattle.unify.specs.Closure.{together}
+use Rattle.unify.specs.Computed.Classes.{gather}
+
+pub tabulate-length : {A : Type 0} (n : ℕ) (f : ℕ → A) → length (tabulate n f) ≡ n
+unfolding tabulate
+tabulate-length zero f = refl
+tabulate-length (suc n) f =
+    let e : length (tabulate n f) ≡ n = tabulate-length n f in
+    let l = length-append (tabulate n f) (f n ∷ []) in
+    omega (arith, e, l)
+
+pub tabulate-at : {A : Type 0} (n : ℕ) (f : ℕ → A) (d : A) (i : ℕ) → i < n → getD (tabulate n f) i d ≡ f i
+unfolding tabulate
+tabulate-at zero f d i h = absurd (omega arith)
+tabulate-at {A} (suc n) f d i h = go (tabulate-at n f d i) (decLt i n)
+  where
+    go : (i < n → getD (tabulate n f) i d ≡ f i) → Dec (i < n) → getD (tabulate n f ++ (f n ∷ [])) i d ≡ f i
+    go r (yes q) = List·getD-append (tabulate n f) (f n ∷ []) d i (rw (tabulate-length n f) q) ∙ r q
+    go r (no q) =
+        let e : n ≡ i = omega arith in
+        getD-at (tabulate n f) (f n) [] d i (tabulate-length n f ∙ e) ∙ ap f e
+
+pub gathered : {A : Type 0} (n : ℕ) (f : ℕ → List A) (x : A) (i : ℕ) → i < n → List·Memᴰ x (f i) → List·Memᴰ x (gather n f)
+unfolding gather
+gathered zero f x i h m = absurd (omega arith)
+gathered {A} (suc n) f x i h m = go (λ q. gathered n f x i q m) (decLt i n)
+  where
+    go : (i < n → List·Memᴰ x (gather n f)) → Dec (i < n) → List·Memᴰ x (gather n f ++ f n)
+    go r (yes q) = Memᴰ·append-left (f n) (r q)
+    go r (no q) = let e : i ≡ n = omega arith in Memᴰ·append-right (gather n f) (rw e at m)
+
+pub gathered-from : {A : Type 0} (n : ℕ) (f : ℕ → List A) (x : A) → List·Memᴰ x (gather n f) → (i : ℕ) × (i < n) × List·Memᴰ x (f i)
+unfolding gather
+gathered-from zero f x m = absurd (List·Memᴰ·not-nil m)
+gathered-from {A} (suc n) f x m = go (gathered-from n f x) (List·Memᴰ·append-cases (gather n f) m)
+  where
+    go : (List·Memᴰ x (gather n f) → (i : ℕ) × (i < n) × List·Memᴰ x (f i)) → List·Memᴰ x (gather n f) ⊎ List·Memᴰ x (f n) → (i : ℕ) × (i < suc n) × List·Memᴰ x (f i)
+    go r (inl q) = let s = r q in (s .0, omega arith, s .2)
+    go r (inr q) = (n, omega arith, q)
+
+-- the pairs of two lists are of an element of each
+pub together-left : (us vs : List ℕ) (a b : ℕ) → List·Memᴰ (a, b) (together us vs) → List·Memᴰ a us
+unfolding together
+together-left [] vs a b m = absurd (List·Memᴰ·not-nil m)
+together-left (u ∷ us) [] a b m = absurd (List·Memᴰ·not-nil m)
+together-left (u ∷ us) (v ∷ vs) a b (List·Memᴰ·head e) = List·Memᴰ·head (ap (λ (p : ℕ × ℕ). p .0) e)
+together-left (u ∷ us) (v ∷ vs) a b (List·Memᴰ·tail m) = List·Memᴰ·tail (together-left us vs a b m)
+
+-- turned round
+pub together-back : (us vs : List ℕ) (a b : ℕ) → List·Memᴰ (a, b) (together us vs) → List·Memᴰ (b, a) (together vs us)
+unfolding together
+together-back [] vs a b m = absurd (List·Memᴰ·not-nil m)
+together-back (u ∷ us) [] a b m = absurd (List·Memᴰ·not-nil m)
+together-back (u ∷ us) (v ∷ vs) a b (List·Memᴰ·head e) = List·Memᴰ·head (ap (λ (p : ℕ × ℕ). (p .1, p .0)) e)
+together-back (u ∷ us) (v ∷ vs) a b (List·Memᴰ·tail m) = List·Memᴰ·tail (together-back us vs a b m)
+
+pub together-right : (us vs : List ℕ) (a b : ℕ) → List·Memᴰ (a, b) (together us vs) → List·Memᴰ b vs
+together-right us vs a b m = together-left vs us b a (together-back us vs a b m)
+
+-- a pair of the outer two goes through the middle list
+pub together-through : (us vs ws : List ℕ) → length us ≡ length vs → length vs ≡ length ws → (a c : ℕ) → List·Memᴰ (a, c) (together us ws) → (b : ℕ) × List·Memᴰ (a, b) (together us vs) × List·Memᴰ (b, c) (together vs ws)
+unfolding together
+together-through [] vs ws h k a c m = absurd (List·Memᴰ·not-nil m)
+together-through (u ∷ us) vs [] h k a c m = absurd (List·Memᴰ·not-nil m)
+together-through (u ∷ us) [] (w ∷ ws) h k a c m = absurd (omega arith)
+together-through (u ∷ us) (v ∷ vs) (w ∷ ws) h k a c (List·Memᴰ·head e) =
+    (v, List·Memᴰ·head (ap (λ (p : ℕ × ℕ). (p .0, v)) e), List·Memᴰ·head (ap (λ (p : ℕ × ℕ). (v, p .1)) e))
+together-through (u ∷ us) (v ∷ vs) (w ∷ ws) h k a c (List·Memᴰ·tail m) =
+    let r = together-through us vs ws (omega arith) (omega arith) a c m in
+    (r .0, List·Memᴰ·tail (r .1), List·Memᴰ·tail (r .2))

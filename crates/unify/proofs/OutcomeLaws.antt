@@ -1,0 +1,236 @@
+-- What is computed is what document 01 says: clash and occurs where the closure has them, otherwise a most general unifier and its words.
+-- The classes either clash, or have a cycle, or are a solved form. Assumes nothing.
+use Prim.Native.Nat.{ℕ, suc, _<_, _≤_}
+use mathlib.Core.Bool.{Bool, true, false, cond, false≢true}
+use mathlib.Core.List.{List, List·Memᴰ}
+use mathlib.Core.Logic.{_↔_}
+use mathlib.Core.Path.{_≡_, refl, sym, ap, _∙_}
+use native.Mathlib.Omega.{arith}
+use lib.ListN.{length}
+use Rattle.terms.specs.Substitution.{Substitution}
+use Rattle.unify.specs.Node.{Node, WellFormed, Present}
+use Rattle.unify.specs.Unifier.{Inside, Unifies, Unifiable, MostGeneral}
+use Rattle.unify.specs.Closure.{Joined, Clash, Reaches, Occurs, step, steps}
+use Rattle.unify.specs.Words.{variablesOf, AreWords, Reads}
+use Rattle.unify.specs.Computed.Classes.{classOf, classes, clashes}
+use Rattle.unify.specs.Computed.Walks.{cyclic}
+use Rattle.unify.specs.Computed.Solution.{solution, headIn}
+use Rattle.unify.specs.Computed.Binding.{bindingWords}
+use Rattle.unify.specs.Outcome.{Outcome, unified, clash, occurs, outcome, unifier, wordsOf}
+use Rattle.unify.specs.Code.Solved.{Solved}
+use Rattle.unify.proofs.JoinedLaws.{joined-inside, clash-none, cycle-none, more-pairs, more-joined}
+use Rattle.unify.proofs.VariableLaws.{variables-present}
+use Rattle.unify.proofs.ClassLaws.{class-joined, joined-class, clash-found, found-clash}
+use Rattle.unify.proofs.WalkLaws.{longest, longest-bound, cycle-found, found-cycle}
+use Rattle.unify.proofs.SolvedLaws.{solution-most-general}
+use Rattle.unify.proofs.HeadLaws.{classes-solved}
+use Rattle.unify.proofs.ReadingLaws.{reads-one, most-general-agree}
+use Rattle.unify.proofs.WordLaws.{words-one, words-same, solution-normal, words-computed, words-read}
+
+-- One of three holds, and neither of the others.
+pub data ExactlyOne (A B C : Type 0) : Type 0 where
+  first : A → (B → ⊥) → (C → ⊥) → ExactlyOne A B C
+  second : (A → ⊥) → B → (C → ⊥) → ExactlyOne A B C
+  third : (A → ⊥) → (B → ⊥) → C → ExactlyOne A B C
+
+module _ (ns : List Node) (w : WellFormed ns) (ps : List (ℕ × ℕ)) (h : Inside ns ps) where
+  to-cycle : cyclic ns (classes ns ps) ≡ true → (i : ℕ) × Reaches ns ps i i
+  to-cycle =
+      cycle-found ns w ps (classes ns ps) (class-joined ns w ps h) (λ i j q. joined-class ns w ps h q) (λ i j q. joined-inside ns w ps h q)
+
+  from-cycle : (i : ℕ) → Reaches ns ps i i → cyclic ns (classes ns ps) ≡ true
+  from-cycle =
+      found-cycle ns w ps (classes ns ps) (class-joined ns w ps h) (λ i j q. joined-class ns w ps h q) (λ i j q. joined-inside ns w ps h q)
+
+  -- What the tests say of the outcome.
+  data Tested : Outcome → Type 0 where
+    clashed : Clash ns ps → Tested clash
+    cycled : Occurs ns ps → Tested occurs
+    solved : Solved ns ps (headIn ns (classes ns ps)) (longest ns (classes ns ps)) → Tested unified
+
+  tested : Tested (outcome ns ps)
+  unfolding outcome
+  tested = pick (clashes ns (classes ns ps)) refl (cyclic ns (classes ns ps)) refl
+    where
+      pick : (b : Bool) → clashes ns (classes ns ps) ≡ b → (c : Bool) → cyclic ns (classes ns ps) ≡ c → Tested (cond b clash (cond c occurs unified))
+      pick true d c e = clashed (clash-found ns w ps h d)
+      pick false d true e =
+          let r = to-cycle e in
+          cycled (record { no-clash = λ k. false≢true (sym d ∙ found-clash ns w ps h k); class = r .0; itself = r .1 })
+      pick false d false e =
+          solved (classes-solved ns w ps h (classes ns ps) (class-joined ns w ps h) (λ i j q. joined-class ns w ps h q) (λ k. false≢true (sym d ∙ found-clash ns w ps h k)) e)
+
+  bounded : (i : ℕ) → i < length ns → longest ns (classes ns ps) (headIn ns (classes ns ps) i) < suc (length ns)
+  bounded i p = let l = longest-bound ns w (classes ns ps) (headIn ns (classes ns ps) i) in omega (arith, l)
+
+  SolvedForm : Type 0
+  SolvedForm = Solved ns ps (headIn ns (classes ns ps)) (longest ns (classes ns ps))
+
+  most-general : SolvedForm → MostGeneral ns ps (unifier ns ps)
+  unfolding SolvedForm unifier
+  most-general s = solution-most-general ns w ps h (headIn ns (classes ns ps)) (longest ns (classes ns ps)) s (suc (length ns)) bounded
+
+  no-clash : Unifiable ns ps → Clash ns ps → ⊥
+  no-clash u k = clash-none ns w ps h (u .0) (u .1) k
+
+  no-occurs : Unifiable ns ps → Occurs ns ps → ⊥
+  no-occurs u o = cycle-none ns w ps h (u .0) (u .1) (o .class) (o .itself)
+
+  solved-unifiable : SolvedForm → Unifiable ns ps
+  solved-unifiable s = (unifier ns ps, most-general s .unifies)
+
+  -- exactly one of unified, clash and occurs holds
+  pub exactly-one : ExactlyOne (Unifiable ns ps) (Clash ns ps) (Occurs ns ps)
+  unfolding SolvedForm
+  exactly-one = go tested
+    where
+      go : {o : Outcome} → Tested o → ExactlyOne (Unifiable ns ps) (Clash ns ps) (Occurs ns ps)
+      go (clashed k) = second (λ u. no-clash u k) k (λ o. o .no-clash k)
+      go (cycled o) = third (λ u. no-occurs u o) (o .no-clash) o
+      go (solved s) = first (solved-unifiable s) (no-clash (solved-unifiable s)) (no-occurs (solved-unifiable s))
+
+  -- clash is computed exactly where there is one
+  pub outcome-clash : outcome ns ps ≡ clash ↔ Clash ns ps
+  unfolding SolvedForm
+  outcome-clash = (λ e. there tested e, λ k. back-to tested k)
+    where
+      there : {o : Outcome} → Tested o → o ≡ clash → Clash ns ps
+      there (clashed k) e = k
+      there (cycled o) e = let z : _≡_ {A = ℕ} 0 1 = cc in absurd (omega arith)
+      there (solved s) e = let z : _≡_ {A = ℕ} 0 1 = cc in absurd (omega arith)
+
+      back-to : {o : Outcome} → Tested o → Clash ns ps → o ≡ clash
+      back-to (clashed k) c = refl
+      back-to (cycled o) c = absurd (o .no-clash c)
+      back-to (solved s) c = absurd (no-clash (solved-unifiable s) c)
+
+  -- occurs is computed exactly where there is no clash, and a class reaches itself
+  pub outcome-occurs : outcome ns ps ≡ occurs ↔ Occurs ns ps
+  unfolding SolvedForm
+  outcome-occurs = (λ e. there tested e, λ k. back-to tested k)
+    where
+      there : {o : Outcome} → Tested o → o ≡ occurs → Occurs ns ps
+      there (clashed k) e = let z : _≡_ {A = ℕ} 0 1 = cc in absurd (omega arith)
+      there (cycled o) e = o
+      there (solved s) e = let z : _≡_ {A = ℕ} 0 1 = cc in absurd (omega arith)
+
+      back-to : {o : Outcome} → Tested o → Occurs ns ps → o ≡ occurs
+      back-to (clashed k) c = absurd (c .no-clash k)
+      back-to (cycled o) c = refl
+      back-to (solved s) c = absurd (no-occurs (solved-unifiable s) c)
+
+  to-solved : {o : Outcome} → Tested o → o ≡ unified → SolvedForm
+  unfolding SolvedForm
+  to-solved (clashed k) e = let z : _≡_ {A = ℕ} 0 1 = cc in absurd (omega arith)
+  to-solved (cycled o) e = let z : _≡_ {A = ℕ} 0 1 = cc in absurd (omega arith)
+  to-solved (solved s) e = s
+
+  to-unified : {o : Outcome} → Tested o → Unifiable ns ps → o ≡ unified
+  to-unified (clashed k) u = absurd (no-clash u k)
+  to-unified (cycled o) u = absurd (no-occurs u o)
+  to-unified (solved s) u = refl
+
+  -- unified is computed exactly where the pairs have a common unifier
+  pub outcome-unified : outcome ns ps ≡ unified ↔ Unifiable ns ps
+  outcome-unified = (λ e. solved-unifiable (to-solved tested e), λ u. to-unified tested u)
+
+  -- and then the unifier that is computed is most general
+  pub unifier-most-general : outcome ns ps ≡ unified → MostGeneral ns ps (unifier ns ps)
+  unifier-most-general e = most-general (to-solved tested e)
+
+  -- the words can be read back
+  pub words-readable : outcome ns ps ≡ unified → Reads ns (wordsOf ns ps) (unifier ns ps)
+  unfolding SolvedForm unifier wordsOf
+  words-readable e =
+      words-read ns (unifier ns ps)
+      (solution-normal ns w ps h (headIn ns (classes ns ps)) (longest ns (classes ns ps)) (to-solved tested e) (suc (length ns)) bounded)
+
+  -- and whatever is read from them is a most general unifier, the same on every variable present
+  pub reading-most-general : outcome ns ps ≡ unified → (σ : Substitution) → Reads ns (wordsOf ns ps) σ → MostGeneral ns ps σ
+  reading-most-general e σ r =
+      most-general-agree ns w ps h (unifier ns ps) σ (reads-one ns w (wordsOf ns ps) (unifier ns ps) σ (words-readable e) r) (unifier-most-general e)
+
+  pub one-reading : (σ τ : Substitution) → Reads ns (wordsOf ns ps) σ → Reads ns (wordsOf ns ps) τ → (x : ℕ) → Present ns x → σ x ≡ τ x
+  one-reading σ τ r q = reads-one ns w (wordsOf ns ps) σ τ r q
+
+  computed-words : outcome ns ps ≡ unified → AreWords ns (unifier ns ps) (variablesOf ns) (wordsOf ns ps)
+  unfolding SolvedForm unifier wordsOf
+  computed-words e =
+      words-computed ns (unifier ns ps)
+      (solution-normal ns w ps h (headIn ns (classes ns ps)) (longest ns (classes ns ps)) (to-solved tested e) (suc (length ns)) bounded)
+
+  -- under every most general unifier each word is the least node that document 01 names
+  pub words-least : (σ : Substitution) → MostGeneral ns ps σ → AreWords ns σ (variablesOf ns) (wordsOf ns ps)
+  words-least σ g =
+      let e = outcome-unified .1 (σ, g .unifies) in
+      words-same ns w ps (unifier ns ps) σ (unifier-most-general e) g (variables-present ns) (computed-words e)
+
+  -- words that are so under one most general unifier are the words
+  pub words-decided : (σ : Substitution) → MostGeneral ns ps σ → (ws : List ℕ) → AreWords ns σ (variablesOf ns) ws → wordsOf ns ps ≡ ws
+  words-decided σ g ws a = words-one (words-least σ g) a
+
+  -- a solved form, whatever its heads and order, decides: unified, with the words of its solution
+  pub solved-decides : (head order : ℕ → ℕ) → Solved ns ps head order → (k : ℕ) → ((i : ℕ) → i < length ns → order (head i) < k) → (outcome ns ps ≡ unified) × (wordsOf ns ps ≡ bindingWords ns (solution k ns head))
+  solved-decides head order s k l =
+      let g = solution-most-general ns w ps h head order s k l in
+      (outcome-unified .1 (solution k ns head, g .unifies), words-decided (solution k ns head) g (bindingWords ns (solution k ns head)) (words-computed ns (solution k ns head) (solution-normal ns w ps h head order s k l)))
+
+  -- so any two solved forms give the same words
+  pub solved-one : (head order : ℕ → ℕ) → Solved ns ps head order → (k : ℕ) → ((i : ℕ) → i < length ns → order (head i) < k) → (head′ order′ : ℕ → ℕ) → Solved ns ps head′ order′ → (k′ : ℕ) → ((i : ℕ) → i < length ns → order′ (head′ i) < k′) → bindingWords ns (solution k ns head) ≡ bindingWords ns (solution k′ ns head′)
+  solved-one head order s k l head′ order′ s′ k′ l′ =
+      sym (solved-decides head order s k l .1) ∙ solved-decides head′ order′ s′ k′ l′ .1
+
+-- The pairs of the first list are all in the second.
+abbrev pub Among : List (ℕ × ℕ) → List (ℕ × ℕ) → Type 0
+Among ps qs = (p : ℕ × ℕ) → List·Memᴰ p ps → List·Memᴰ p qs
+
+-- pairs that have no unifier have none with more pairs added
+pub more-none : (ns : List Node) (ps qs : List (ℕ × ℕ)) → Among ps qs → (Unifiable ns ps → ⊥) → Unifiable ns qs → ⊥
+more-none ns ps qs h n u = n (u .0, more-pairs ns ps qs h (u .0) (u .1))
+
+more-clash : (ns : List Node) (ps qs : List (ℕ × ℕ)) → Among ps qs → Clash ns ps → Clash ns qs
+more-clash ns ps qs h k =
+    record {
+      left = k .left;
+      right = k .right;
+      joined = more-joined qs h (k .joined);
+      left-name = k .left-name;
+      left-arguments = k .left-arguments;
+      right-name = k .right-name;
+      right-arguments = k .right-arguments;
+      left-application = k .left-application;
+      right-application = k .right-application;
+      different = k .different;
+    }
+
+more-reaches : {ns : List Node} {ps : List (ℕ × ℕ)} (qs : List (ℕ × ℕ)) → Among ps qs → {i j : ℕ} → Reaches ns ps i j → Reaches ns qs i j
+more-reaches qs h (step p e m q) = step (more-joined qs h p) e m (more-joined qs h q)
+more-reaches qs h (steps p q) = steps (more-reaches qs h p) (more-reaches qs h q)
+
+module _ (ns : List Node) (w : WellFormed ns) (ps qs : List (ℕ × ℕ)) (h : Inside ns ps) (k : Inside ns qs) where
+  -- pairs with the same unifiers have the same words
+  pub same-unifiers : ((σ : Substitution) → Unifies ns ps σ ↔ Unifies ns qs σ) → Unifiable ns ps → wordsOf ns ps ≡ wordsOf ns qs
+  same-unifiers e u =
+      let g = unifier-most-general ns w ps h (outcome-unified ns w ps h .1 u) in
+      words-decided ns w ps h (unifier ns ps) g (wordsOf ns qs)
+      (words-least ns w qs k (unifier ns ps)
+      (record {
+        unifies = e (unifier ns ps) .0 (g .unifies);
+        factors = λ τ v. g .factors τ (e τ .1 v);
+      }))
+
+  -- what is answered depends on the pairs only as a set
+  pub same-outcome : Among ps qs → Among qs ps → outcome ns ps ≡ outcome ns qs
+  same-outcome a b = go (exactly-one ns w ps h)
+    where
+      go : ExactlyOne (Unifiable ns ps) (Clash ns ps) (Occurs ns ps) → outcome ns ps ≡ outcome ns qs
+      go (first u x y) =
+          outcome-unified ns w ps h .1 u ∙ sym (outcome-unified ns w qs k .1 (u .0, more-pairs ns qs ps b (u .0) (u .1)))
+      go (second x c y) = outcome-clash ns w ps h .1 c ∙ sym (outcome-clash ns w qs k .1 (more-clash ns ps qs a c))
+      go (third x y o) =
+          outcome-occurs ns w ps h .1 o ∙ sym (outcome-occurs ns w qs k .1 (record { no-clash = λ c. o .no-clash (more-clash ns qs ps b c); class = o .class; itself = more-reaches qs a (o .itself) }))
+
+  -- and so do the words
+  pub same-words : Among ps qs → Among qs ps → Unifiable ns ps → wordsOf ns ps ≡ wordsOf ns qs
+  same-words a b =
+      same-unifiers (λ σ. (more-pairs ns qs ps b σ, more-pairs ns ps qs a σ))

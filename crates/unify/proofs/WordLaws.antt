@@ -1,0 +1,251 @@
+-- The word of a variable is one number, the same under every most general unifier: two of them make the same nodes equal.
+-- Under the solution of a solved form it exists, is what `wordOf` computes, and is read back as the solution. Assumes nothing.
+use Prim.Native.Nat.{ℕ, zero, suc, _<_, _≤_}
+use mathlib.Core.Bool.{Bool, true, false, _&&_, false≢true}
+use mathlib.Core.List.{List, [], _∷_, map, List·Memᴰ, List·Memᴰ·head, List·Memᴰ·tail}
+use mathlib.Core.Path.{_≡_, refl, sym, ap, _∙_}
+use native.Mathlib.Omega.{arith}
+use lib.ListN.{length}
+use Rattle.table.proofs.BoolLaws.{and-true-left, and-true-right}
+use Rattle.terms.specs.Term.{Term, var, app, Terms, equal}
+use Rattle.terms.specs.Substitution.{Substitution, sub, subs}
+use Rattle.terms.proofs.TermLaws.{equal-true, equal-refl}
+use Rattle.unify.specs.Node.{Node, variable, application, nodeAt, WellFormed, spell, each, termOf, Present}
+use Rattle.unify.specs.Unifier.{Inside, value, Unifies, MostGeneral}
+use Rattle.unify.specs.Words.{variablesOf, Least, BoundTo, IsWord, bound, free, AreWords, none, word, readNodeAs, ReadsFrom, end, read, Reads}
+use Rattle.unify.specs.Computed.Solution.{firstWith, leastNode, isApplication, nodeOf, resolved, solution}
+use Rattle.unify.specs.Computed.Binding.{isBoundTo, hasValue, wordFor, wordOf, bindingWords}
+use Rattle.unify.specs.Code.Solved.{Solved}
+use Rattle.unify.proofs.NodeLaws.{subs-each, value-variable, value-application, values-same}
+use Rattle.unify.proofs.VariableLaws.{variables-rise, variables-present, present-variables}
+use Rattle.unify.proofs.FirstLaws.{first-in, first-has, first-least, least-below, least-has, least-least, node-of}
+use Rattle.unify.proofs.SolvedLaws.{resolved-head, joined-head, resolved-node, value-resolved, solution-most-general}
+
+least-one : {P : ℕ → Type 0} {m n : ℕ} → Least P m → Least P n → m ≡ n
+least-one {P} {m} {n} a b =
+    let p : m ≤ n = a .least n (b .holds) in
+    let q : n ≤ m = b .least m (a .holds) in
+    omega arith
+
+not-both : {ℓ : Type 0} (t : Term) (f z : ℕ) (ts : Terms) → t ≡ app f ts → t ≡ var z → ℓ
+not-both t f z ts p q = let e : app f ts ≡ var z = sym p ∙ q in let c : _≡_ {A = ℕ} 0 1 = cc in absurd (omega arith)
+
+-- a variable has one word
+pub word-one : {ns : List Node} {σ : Substitution} {x v w : ℕ} → IsWord ns σ x v → IsWord ns σ x w → v ≡ w
+word-one (bound d a) (bound e b) = least-one a b
+word-one {ns} {σ} {x} (bound d a) (free e b c) = not-both (σ x) _ _ _ d e
+word-one {ns} {σ} {x} (free d a b) (bound e c) = not-both (σ x) _ _ _ e d
+word-one {ns} (free {w = v} d a b) (free {w = w} e c f) =
+    least-one b (rw (least-one c a) at f)
+
+-- a list of variables has one list of words
+pub words-one : {ns : List Node} {σ : Substitution} {xs vs ws : List ℕ} → AreWords ns σ xs vs → AreWords ns σ xs ws → vs ≡ ws
+words-one none none = refl
+words-one (word a as-a) (word b bs-b) =
+    let e = word-one a b in
+    let r = words-one as-a bs-b in
+    rw (e, r)
+
+module _ (ns : List Node) (w : WellFormed ns) (ps : List (ℕ × ℕ)) where
+  after-value : (σ τ ρ : Substitution) → ((x : ℕ) → Present ns x → τ x ≡ sub ρ (σ x)) → (i : ℕ) → i < length ns → value ns τ i ≡ sub ρ (value ns σ i)
+  unfolding sub
+  after-value σ τ ρ h =
+      values-same ns w τ (λ i. sub ρ (value ns σ i))
+      (λ i x p e. h x (i, p, e) ∙ ap (sub ρ) (sym (value-variable ns w σ i x p e)))
+      (λ i f us p e. sym (ap (sub ρ) (value-application ns w σ i f us p e) ∙ ap (app f) (subs-each ρ (value ns σ) us)))
+
+  -- what is equal under a most general unifier is equal under every unifier
+  module _ (σ τ : Substitution) (g : MostGeneral ns ps σ) (u : Unifies ns ps τ) (x : ℕ) (q : Present ns x) where
+    bound-kept : {i : ℕ} → BoundTo ns σ (σ x) i → BoundTo ns τ (τ x) i
+    bound-kept {i} b =
+        let f = g .factors τ u in
+        record {
+          node = b .node;
+          name = b .name;
+          arguments = b .arguments;
+          applied = b .applied;
+          same-value = after-value σ τ (f .0) (f .1) i (b .node) ∙ ap (sub (f .0)) (b .same-value) ∙ sym (f .1 x q);
+        }
+
+    present-kept : {y : ℕ} → Present ns y × (σ y ≡ σ x) → Present ns y × (τ y ≡ τ x)
+    present-kept {y} (p, e) =
+        let f = g .factors τ u in
+        (p, f .1 y p ∙ ap (sub (f .0)) e ∙ sym (f .1 x q))
+
+    application-kept : (f : ℕ) (ts : Terms) → σ x ≡ app f ts → (us : Terms) × (τ x ≡ app f us)
+    unfolding sub
+    application-kept f ts e = let h = g .factors τ u in (subs (h .0) ts, h .1 x q ∙ ap (sub (h .0)) e)
+
+  -- a word is the same under every most general unifier
+  pub word-same : (σ τ : Substitution) → MostGeneral ns ps σ → MostGeneral ns ps τ → (x v : ℕ) → Present ns x → IsWord ns σ x v → IsWord ns τ x v
+  word-same σ τ g h x v q (bound {f = f} {ts = ts} e l) =
+      bound (application-kept σ τ g (h .unifies) x q f ts e .1)
+      (record {
+        holds = bound-kept σ τ g (h .unifies) x q (l .holds);
+        least = λ m b. l .least m (bound-kept τ σ h (g .unifies) x q b);
+      })
+  word-same σ τ g h x v q (free {z = z} {y = y} e l n) = go (τ x) refl
+    where
+      go : (t : Term) → τ x ≡ t → IsWord ns τ x v
+      go (app f ts) d = not-both (σ x) f z _ (application-kept τ σ h (g .unifies) x q f ts d .1) e
+      go (var z′) d =
+          free d
+          (record {
+            holds = present-kept σ τ g (h .unifies) x q (l .holds);
+            least = λ m b. l .least m (present-kept τ σ h (g .unifies) x q b);
+          })
+          n
+
+  pub words-same : (σ τ : Substitution) → MostGeneral ns ps σ → MostGeneral ns ps τ → {xs vs : List ℕ} → ((x : ℕ) → List·Memᴰ x xs → Present ns x) → AreWords ns σ xs vs → AreWords ns τ xs vs
+  words-same σ τ g h q none = none
+  words-same σ τ g h q (word {x = x} {w = v} a r) =
+      word (word-same σ τ g h x v (q x (List·Memᴰ·head refl)) a) (words-same σ τ g h (λ y m. q y (List·Memᴰ·tail m)) r)
+
+-- What the solution of a solved form has, and words need.
+pub record Normal (ns : List Node) (σ : Substitution) : Type 0 where
+  pub held : (x f : ℕ) (ts : Terms) → Present ns x → σ x ≡ app f ts → (i : ℕ) × BoundTo ns σ (σ x) i
+  pub lowest : (x z : ℕ) → Present ns x → σ x ≡ var z → Least (λ y. Present ns y × (σ y ≡ σ x)) z
+
+bound-true : (ns : List Node) (σ : Substitution) (t : Term) (i : ℕ) → BoundTo ns σ t i → isBoundTo ns σ t i ≡ true
+unfolding isBoundTo isApplication
+bound-true ns σ t i b = rw (b .applied, b .same-value) (equal-refl t)
+
+true-bound : (ns : List Node) (σ : Substitution) (t : Term) (i : ℕ) → i < length ns → isBoundTo ns σ t i ≡ true → BoundTo ns σ t i
+unfolding isBoundTo isApplication
+true-bound ns σ t i p e = go (nodeAt ns i) refl
+  where
+    go : (o : Node) → nodeAt ns i ≡ o → BoundTo ns σ t i
+    go (variable y) d =
+        let z : false ≡ true = sym (ap isApplication d) ∙ and-true-left (isApplication (nodeAt ns i)) (equal (value ns σ i) t) e in
+        absurd (false≢true z)
+    go (application f us) d =
+        record {
+          node = p;
+          name = f;
+          arguments = us;
+          applied = d;
+          same-value = equal-true (value ns σ i) t (and-true-right (isApplication (nodeAt ns i)) (equal (value ns σ i) t) e);
+        }
+
+module _ (ns : List Node) (σ : Substitution) (n : Normal ns σ) where
+  free-word : (x z : ℕ) → Present ns x → σ x ≡ var z → IsWord ns σ x (wordFor ns σ (var z))
+  unfolding wordFor hasValue
+  free-word x z q e =
+      free e
+      (record {
+        holds = (y-present, y-value);
+        least = λ m b. first-least (hasValue σ (var z)) 0 (variablesOf ns) (variables-rise ns) m (present-variables ns m (b .0)) (ap (λ (t : Term). equal t (var z)) (b .1 ∙ e) ∙ equal-refl (var z));
+      })
+      (node-of ns (firstWith (hasValue σ (var z)) 0 (variablesOf ns)) y-present)
+    where
+      member : List·Memᴰ x (variablesOf ns)
+      member = present-variables ns x q
+
+      has : hasValue σ (var z) x ≡ true
+      has = ap (λ (t : Term). equal t (var z)) e ∙ equal-refl (var z)
+
+      y-present : Present ns (firstWith (hasValue σ (var z)) 0 (variablesOf ns))
+      y-present = variables-present ns _ (first-in (hasValue σ (var z)) 0 (variablesOf ns) x member has)
+
+      y-value : σ (firstWith (hasValue σ (var z)) 0 (variablesOf ns)) ≡ σ x
+      y-value = equal-true _ _ (first-has (hasValue σ (var z)) 0 (variablesOf ns) x member has) ∙ sym e
+
+  bound-word : (x f : ℕ) (ts : Terms) → Present ns x → σ x ≡ app f ts → IsWord ns σ x (wordFor ns σ (app f ts))
+  unfolding wordFor
+  bound-word x f ts q e =
+      let h = n .held x f ts q e in
+      let p = h .1 .node in
+      let b : isBoundTo ns σ (app f ts) (h .0) ≡ true = bound-true ns σ (app f ts) (h .0) (rw e at (h .1)) in
+      bound {w = leastNode ns (isBoundTo ns σ (app f ts))} e
+      (record {
+        holds = rw e (true-bound ns σ (app f ts) _ (least-below ns (isBoundTo ns σ (app f ts)) (h .0) p b) (least-has ns (isBoundTo ns σ (app f ts)) (h .0) p b));
+        least = λ m c. least-least ns (isBoundTo ns σ (app f ts)) m (c .node) (bound-true ns σ (app f ts) m (rw e at c));
+      })
+
+  word-computed : (x : ℕ) → Present ns x → IsWord ns σ x (wordOf ns σ x)
+  unfolding wordOf
+  word-computed x q = go (σ x) refl
+    where
+      go : (t : Term) → σ x ≡ t → IsWord ns σ x (wordFor ns σ t)
+      go (var z) e = free-word x z q e
+      go (app f ts) e = bound-word x f ts q e
+
+  computed : (xs : List ℕ) → ((x : ℕ) → List·Memᴰ x xs → Present ns x) → AreWords ns σ xs (map (wordOf ns σ) xs)
+  computed [] q = none
+  computed (x ∷ xs) q = word (word-computed x (q x (List·Memᴰ·head refl))) (computed xs (λ y m. q y (List·Memᴰ·tail m)))
+
+  -- what `bindingWords` computes are the words
+  pub words-computed : AreWords ns σ (variablesOf ns) (bindingWords ns σ)
+  unfolding bindingWords
+  words-computed = computed (variablesOf ns) (variables-present ns)
+
+  -- and the substitution is read from them
+  reads-word : (x v : ℕ) → Present ns x → IsWord ns σ x v → σ x ≡ readNodeAs σ (termOf ns v) (nodeAt ns v)
+  unfolding readNodeAs
+  reads-word x v q (bound e l) = sym (l .holds .same-value) ∙ ap (readNodeAs σ (termOf ns v)) (sym (l .holds .applied))
+  reads-word x v q (free {z = z} {y = y} e l m) =
+      let d : y ≡ z = least-one l (n .lowest x z q e) in
+      e ∙ ap var (sym d) ∙ ap (readNodeAs σ (termOf ns v)) (sym (m .holds .1))
+
+  reads-words : {xs vs : List ℕ} → ((x : ℕ) → List·Memᴰ x xs → Present ns x) → AreWords ns σ xs vs → ReadsFrom ns σ xs vs
+  reads-words q none = end
+  reads-words q (word {x = x} {w = v} a r) =
+      read (reads-word x v (q x (List·Memᴰ·head refl)) a) (reads-words (λ y m. q y (List·Memᴰ·tail m)) r)
+
+  pub words-read : Reads ns (bindingWords ns σ) σ
+  words-read = reads-words (variables-present ns) words-computed
+
+module _ (ns : List Node) (w : WellFormed ns) (ps : List (ℕ × ℕ)) (h : Inside ns ps) (head order : ℕ → ℕ) (s : Solved ns ps head order) (k : ℕ) (enough : (i : ℕ) → i < length ns → order (head i) < k) where
+  -- the variable's node, and what its head is
+  at : (x : ℕ) → Present ns x → nodeOf ns x < length ns
+  at x q = node-of ns x q .holds .0
+
+  spelt : (x : ℕ) → Present ns x → solution k ns head x ≡ spell (resolved k ns head) (nodeAt ns (head (nodeOf ns x)))
+  unfolding solution
+  spelt x q = resolved-node ns w ps h head order s k enough (nodeOf ns x) (at x q)
+
+  -- a head has the value of its node
+  head-value : (x : ℕ) → Present ns x → value ns (solution k ns head) (head (nodeOf ns x)) ≡ solution k ns head x
+  unfolding solution
+  head-value x q =
+      value-resolved ns w ps h head order s k enough (head (nodeOf ns x)) (s .inside (nodeOf ns x) (at x q)) ∙ sym (resolved-head k ns head _ _ (joined-head ns w ps h head order s (s .joined (nodeOf ns x) (at x q))))
+
+  head-variable : (x z : ℕ) → Present ns x → solution k ns head x ≡ var z → nodeAt ns (head (nodeOf ns x)) ≡ variable z
+  unfolding spell
+  head-variable x z q e = go (nodeAt ns (head (nodeOf ns x))) refl
+    where
+      go : (o : Node) → nodeAt ns (head (nodeOf ns x)) ≡ o → nodeAt ns (head (nodeOf ns x)) ≡ variable z
+      go (variable y) d =
+          let c : var y ≡ var z = sym (spelt x q ∙ ap (spell (resolved k ns head)) d) ∙ e in
+          let b : y ≡ z = cc in
+          d ∙ ap variable b
+      go (application f us) d = not-both (solution k ns head x) f z _ (spelt x q ∙ ap (spell (resolved k ns head)) d) e
+
+  head-application : (x f : ℕ) (ts : Terms) → Present ns x → solution k ns head x ≡ app f ts → BoundTo ns (solution k ns head) (solution k ns head x) (head (nodeOf ns x))
+  unfolding spell
+  head-application x f ts q e = go (nodeAt ns (head (nodeOf ns x))) refl
+    where
+      go : (o : Node) → nodeAt ns (head (nodeOf ns x)) ≡ o → BoundTo ns (solution k ns head) (solution k ns head x) (head (nodeOf ns x))
+      go (variable y) d = not-both (solution k ns head x) f y ts e (spelt x q ∙ ap (spell (resolved k ns head)) d)
+      go (application g us) d =
+          record {
+            node = s .inside (nodeOf ns x) (at x q);
+            name = g;
+            arguments = us;
+            applied = d;
+            same-value = head-value x q;
+          }
+
+  -- the solution of a solved form is normal
+  pub solution-normal : Normal ns (solution k ns head)
+  solution-normal =
+      record {
+        held = λ x f ts q e. (head (nodeOf ns x), head-application x f ts q e);
+        lowest = λ x z q e.
+            let d = head-variable x z q e in
+            let i = s .inside (nodeOf ns x) (at x q) in
+            record {
+              holds = ((head (nodeOf ns x), i, d), sym (value-variable ns w (solution k ns head) (head (nodeOf ns x)) z i d) ∙ head-value x q);
+              least = λ y b. s .lowest (nodeOf ns y) y z (at y (b .0)) (node-of ns y (b .0) .holds .1) (head-variable y z (b .0) (b .1 ∙ e));
+            };
+      }

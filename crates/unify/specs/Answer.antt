@@ -1,0 +1,48 @@
+-- What `unify` answers, and what it leaves in the lent words.
+use Prim.Native.Nat.{ℕ, zero, suc}
+use mathlib.Core.Bool.{Bool, _||_}
+use mathlib.Core.List.{List, [], _∷_, _++_}
+use lib.Dec.{leb, ltb}
+use lib.ListN.{length, drop}
+use Rattle.table.specs.Refusal.{conditions, firstHeld}
+use Rattle.unify.specs.Node.{Node, nodesIn}
+use Rattle.unify.specs.Words.{variablesOf}
+use Rattle.unify.specs.Outcome.{Outcome, unified, clash, occurs, outcome, wordsOf}
+
+-- "With V variables present"
+unfoldable pub variableCount : List ℕ → ℕ
+variableCount t = length (variablesOf (nodesIn t))
+
+-- 8: "a given number is not a node"
+unfoldable pub notNode : List ℕ → ℕ → Bool
+notNode t i = leb (length (nodesIn t)) i
+
+-- "1 to 7, then 8: a given number is not a node. Then 9: the lent binding words are fewer than V, tested before unifying."
+unfoldable pub unifyConditions : List ℕ → ℕ → ℕ → ℕ → List (ℕ × Bool)
+unifyConditions t a b lent =
+    conditions t ++ (8, notNode t a || notNode t b) ∷ (9, ltb lent (variableCount t)) ∷ []
+
+-- "The answer is unified, clash or occurs", or a refusal by its number.
+pub data Answer : Type 0 where
+  ended : Outcome → Answer
+  refused : ℕ → Answer
+
+-- The answer, by the number of the first condition that holds, 0 where none does.
+unfoldable pub answerAfter : ℕ → Outcome → Answer
+answerAfter zero o = ended o
+answerAfter (suc n) o = refused (suc n)
+
+unfoldable pub unification : List ℕ → ℕ → ℕ → ℕ → Answer
+unification t a b lent =
+    answerAfter (firstHeld (unifyConditions t a b lent)) (outcome (nodesIn t) ((a, b) ∷ []))
+
+-- "Unified fills the first V lent words and no other; the last two change no lent word."
+unfoldable pub wordsAfter : Answer → List ℕ → List ℕ → List ℕ
+wordsAfter (ended unified) words lent = words ++ drop (length words) lent
+wordsAfter (ended clash) words lent = lent
+wordsAfter (ended occurs) words lent = lent
+wordsAfter (refused n) words lent = lent
+
+unfoldable pub lentAfter : List ℕ → ℕ → ℕ → List ℕ → List ℕ
+lentAfter t a b lent =
+    wordsAfter (unification t a b (length lent)) (wordsOf (nodesIn t) ((a, b) ∷ [])) lent

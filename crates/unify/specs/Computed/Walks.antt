@@ -1,0 +1,35 @@
+-- Walks through arguments. One of as many steps as there are nodes comes to a class twice (`walk-cycle`).
+use Prim.Native.Nat.{ℕ, zero, suc}
+use mathlib.Core.Bool.{Bool, true, false, _&&_, _||_}
+use mathlib.Core.List.{List, [], _∷_}
+use lib.Dec.{eqb}
+use lib.ListN.{length, getD}
+use Rattle.table.specs.Some.{someBelow}
+use Rattle.unify.specs.Node.{Node, variable, application, nodeAt, tabulate}
+use Rattle.unify.specs.Computed.Classes.{classOf}
+
+abbrev pub marked : List Bool → ℕ → Bool
+marked ms i = getD ms i false
+
+unfoldable pub someMarked : List Bool → List ℕ → Bool
+someMarked ms [] = false
+someMarked ms (a ∷ us) = marked ms a || someMarked ms us
+
+unfoldable pub leads : List Bool → Node → Bool
+leads ms (variable x) = false
+leads ms (application f us) = someMarked ms us
+
+-- Node j is in the class of node i and has an argument that is marked.
+unfoldable pub leadsAt : List Node → List ℕ → List Bool → ℕ → ℕ → Bool
+leadsAt ns cs ms i j = eqb (classOf cs i) (classOf cs j) && leads ms (nodeAt ns j)
+
+unfoldable pub leadsFrom : List Node → List ℕ → List Bool → ℕ → Bool
+leadsFrom ns cs ms i = someBelow (length ns) (leadsAt ns cs ms i)
+
+-- The nodes from whose class a walk of k steps goes out.
+unfoldable pub walks : ℕ → List Node → List ℕ → List Bool
+walks zero ns cs = tabulate (length ns) (λ i. true)
+walks (suc k) ns cs = tabulate (length ns) (leadsFrom ns cs (walks k ns cs))
+
+unfoldable pub cyclic : List Node → List ℕ → Bool
+cyclic ns cs = someBelow (length ns) (marked (walks (length ns) ns cs))

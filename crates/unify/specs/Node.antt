@@ -1,0 +1,59 @@
+-- The nodes of a table, their terms, and the variables present.
+use Prim.Native.Nat.{ℕ, zero, suc, _<_}
+use mathlib.Core.Bool.{cond}
+use mathlib.Core.List.{List, [], _∷_, _++_, List·Memᴰ}
+use mathlib.Core.Path.{_≡_}
+use lib.Dec.{eqb}
+use lib.ListN.{length, getD, take, drop}
+use Rattle.table.specs.Layout.{nodesOf, argumentsOf, kindOf, nameOf, firstOf, countOf, nodeCount}
+use Rattle.terms.specs.Term.{Term, var, app, Terms, nil, cons}
+
+-- A variable, or an application of a name to argument nodes.
+pub data Node : Type 0 where
+  variable : ℕ → Node
+  application : ℕ → List ℕ → Node
+
+-- The list of f 0 to f (n - 1).
+unfoldable pub tabulate : {A : Type 0} → ℕ → (ℕ → A) → List A
+tabulate zero f = []
+tabulate (suc n) f = tabulate n f ++ (f n ∷ [])
+
+-- Node i of a nodes section. "Kind 0 is a variable"; "Kind 1 is an application".
+unfoldable pub readNode : List ℕ → List ℕ → ℕ → Node
+readNode words arguments i =
+    cond (eqb (kindOf words i) 0)
+    (variable (nameOf words i))
+    (application (nameOf words i) (take (countOf words i) (drop (firstOf words i) arguments)))
+
+-- The nodes of a table.
+unfoldable pub nodesIn : List ℕ → List Node
+nodesIn t = tabulate (nodeCount (nodesOf t)) (readNode (nodesOf t) (argumentsOf t))
+
+abbrev pub nodeAt : List Node → ℕ → Node
+nodeAt ns i = getD ns i (variable 0)
+
+-- "An argument is a node number smaller than that of the node it belongs to." So it is in every accepted table (`well-formed`).
+pub record WellFormed (ns : List Node) : Type 0 where
+  pub smaller : (i f : ℕ) (us : List ℕ) → i < length ns → nodeAt ns i ≡ application f us → (a : ℕ) → List·Memᴰ a us → a < i
+
+-- The terms of a list of nodes, given the term of each node.
+unfoldable pub each : (ℕ → Term) → List ℕ → Terms
+each v [] = nil
+each v (a ∷ us) = cons (v a) (each v us)
+
+-- A node spelt out, given the terms of its arguments.
+unfoldable pub spell : (ℕ → Term) → Node → Term
+spell v (variable x) = var x
+spell v (application f us) = app f (each v us)
+
+-- The term of node i. An argument's number is smaller than that of its node, so that i + 1 steps are enough (`term-node`).
+unfoldable pub termWithin : ℕ → List Node → ℕ → Term
+termWithin zero ns i = var 0
+termWithin (suc k) ns i = spell (termWithin k ns) (nodeAt ns i)
+
+unfoldable pub termOf : List Node → ℕ → Term
+termOf ns i = termWithin (suc i) ns i
+
+-- "variable present in the nodes section"
+abbrev pub Present : List Node → ℕ → Type 0
+Present ns x = (i : ℕ) × (i < length ns) × (nodeAt ns i ≡ variable x)

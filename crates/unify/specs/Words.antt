@@ -1,0 +1,60 @@
+-- "The unifier is given as one word for each variable present in the nodes section, in rising order of variable number."
+use Prim.Native.Nat.{ℕ, _<_, _≤_}
+use mathlib.Core.Bool.{cond}
+use mathlib.Core.List.{List, [], _∷_}
+use mathlib.Core.Path.{_≡_}
+use lib.Dec.{eqb, ltb}
+use lib.ListN.{length}
+use Rattle.terms.specs.Term.{Term, var, app, Terms}
+use Rattle.terms.specs.Substitution.{Substitution, sub}
+use Rattle.unify.specs.Node.{Node, variable, application, nodeAt, termOf, Present}
+use Rattle.unify.specs.Unifier.{value}
+
+-- A number put in its place in a rising list, where it is not there yet.
+unfoldable pub insert : ℕ → List ℕ → List ℕ
+insert x [] = x ∷ []
+insert x (y ∷ ys) = cond (ltb x y) (x ∷ y ∷ ys) (cond (eqb x y) (y ∷ ys) (y ∷ insert x ys))
+
+-- The variables present, in rising order (`variables-rise`, `variables-present`).
+unfoldable pub variablesOf : List Node → List ℕ
+variablesOf [] = []
+variablesOf (variable x ∷ ns) = insert x (variablesOf ns)
+variablesOf (application f us ∷ ns) = variablesOf ns
+
+-- The least number with a property.
+pub record Least (P : ℕ → Type 0) (n : ℕ) : Type 0 where
+  pub holds : P n
+  pub least : (m : ℕ) → P m → n ≤ m
+
+-- Node i is an application whose value is the term t.
+pub record BoundTo (ns : List Node) (σ : Substitution) (t : Term) (i : ℕ) : Type 0 where
+  pub node : i < length ns
+  pub name : ℕ
+  pub arguments : List ℕ
+  pub applied : nodeAt ns i ≡ application name arguments
+  pub same-value : value ns σ i ≡ t
+
+-- The word of variable x under the unifier σ.
+pub data IsWord (ns : List Node) (σ : Substitution) (x : ℕ) : ℕ → Type 0 where
+  -- "Where the variable's value is an application, the word is the least number of an application node whose value under the unifier is the same."
+  bound : {f w : ℕ} {ts : Terms} → σ x ≡ app f ts → Least (BoundTo ns σ (σ x)) w → IsWord ns σ x w
+  -- "Otherwise the word is the least node of the lowest-numbered variable that has the same value."
+  free : {z y w : ℕ} → σ x ≡ var z → Least (λ u. Present ns u × (σ u ≡ σ x)) y → Least (λ i. (i < length ns) × (nodeAt ns i ≡ variable y)) w → IsWord ns σ x w
+
+-- "one word for each variable": the words of a list of variables.
+pub data AreWords (ns : List Node) (σ : Substitution) : List ℕ → List ℕ → Type 0 where
+  none : AreWords ns σ [] []
+  word : {x w : ℕ} {xs ws : List ℕ} → IsWord ns σ x w → AreWords ns σ xs ws → AreWords ns σ (x ∷ xs) (w ∷ ws)
+
+-- "a variable whose word is a variable node has that node's variable as its value; one whose word is an application node has that node's term, with the variables in it replaced by their values in turn"
+unfoldable pub readNodeAs : Substitution → Term → Node → Term
+readNodeAs σ t (variable y) = var y
+readNodeAs σ t (application f us) = sub σ t
+
+pub data ReadsFrom (ns : List Node) (σ : Substitution) : List ℕ → List ℕ → Type 0 where
+  end : ReadsFrom ns σ [] []
+  read : {x w : ℕ} {xs ws : List ℕ} → σ x ≡ readNodeAs σ (termOf ns w) (nodeAt ns w) → ReadsFrom ns σ xs ws → ReadsFrom ns σ (x ∷ xs) (w ∷ ws)
+
+-- The substitution is read from the binding words.
+abbrev pub Reads : List Node → List ℕ → Substitution → Type 0
+Reads ns ws σ = ReadsFrom ns σ (variablesOf ns) ws
