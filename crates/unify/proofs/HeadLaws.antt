@@ -18,7 +18,7 @@ use Rattle.unify.specs.Words.{variablesOf}
 use Rattle.unify.specs.Computed.Classes.{classOf}
 use Rattle.unify.specs.Computed.Walks.{cyclic}
 use Rattle.unify.specs.Computed.Solution.{firstWith, leastNode, isApplication, nodeOf, isApplicationIn, isVariableIn, headIn}
-use Rattle.unify.specs.Code.Solved.{HeadFits, Solved}
+use Rattle.unify.specs.Code.Solved.{HeadFits, Closed, Solved}
 use Rattle.unify.proofs.ListLaws.{together-left, together-right}
 use Rattle.unify.proofs.VariableLaws.{variables-rise, variables-present, present-variables}
 use Rattle.unify.proofs.FirstLaws.{first-in, first-has, first-least, least-below, least-has, node-of}
@@ -103,12 +103,12 @@ module _ (ns : List Node) (ps : List (ℕ × ℕ)) (cs : List ℕ) (from : (i j 
   head-class (applied f us p c e) = c
   head-class (free y p c e l n) = c
 
-  head-lowest : {i h : ℕ} (x y : ℕ) → i < length ns → HeadIs ns cs i h → nodeAt ns i ≡ variable x → nodeAt ns h ≡ variable y → y ≤ x
-  head-lowest x y p (applied f us q c e) d g =
+  lowest-of : {i h : ℕ} (x y : ℕ) → i < length ns → HeadIs ns cs i h → nodeAt ns i ≡ variable x → nodeAt ns h ≡ variable y → y ≤ x
+  lowest-of x y p (applied f us q c e) d g =
       let z : application f us ≡ variable y = sym e ∙ g in
       let o : _≡_ {A = ℕ} 0 1 = cc in
       absurd (omega arith)
-  head-lowest {i} x y p (free v q c e l n) d g =
+  lowest-of {i} x y p (free v q c e l n) d g =
       let z : variable v ≡ variable y = sym e ∙ g in
       let o : v ≡ y = cc in
       let b : v ≤ x = l i x p refl d in
@@ -117,6 +117,10 @@ module _ (ns : List Node) (ps : List (ℕ × ℕ)) (cs : List ℕ) (from : (i j 
   head-applied : {i h : ℕ} (f : ℕ) (us : List ℕ) → i < length ns → HeadIs ns cs i h → nodeAt ns i ≡ application f us → (g : ℕ) × (vs : List ℕ) × (nodeAt ns h ≡ application g vs)
   head-applied f us p (applied g vs q c e) d = (g, vs, e)
   head-applied {i} f us p (free y q c e l n) d = absurd (n i f us p refl d)
+
+  -- a variable that is a head is the lowest of its class
+  pub head-lowest : (i x y : ℕ) → i < length ns → nodeAt ns i ≡ variable x → nodeAt ns (headIn ns cs i) ≡ variable y → y ≤ x
+  head-lowest i x y p d e = lowest-of x y p (head-is i p) d e
 
 module _ (ns : List Node) (w : WellFormed ns) (ps : List (ℕ × ℕ)) (h : Inside ns ps) (cs : List ℕ) (to : (i j : ℕ) → i < length ns → j < length ns → classOf cs i ≡ classOf cs j → Joined ns ps i j) (from : (i j : ℕ) → Joined ns ps i j → classOf cs i ≡ classOf cs j) (no-clash : Clash ns ps → ⊥) (no-cycle : cyclic ns cs ≡ false) where
   is : (i : ℕ) → i < length ns → HeadIs ns cs i (headIn ns cs i)
@@ -166,11 +170,13 @@ module _ (ns : List Node) (w : WellFormed ns) (ps : List (ℕ × ℕ)) (h : Insi
   pub classes-solved : Solved ns ps (headIn ns cs) (longest ns cs)
   classes-solved =
       record {
-        inside = λ i p. head-inside ns ps cs from (is i p);
-        joined = joined-to;
-        given = λ a b m. head-same ns cs a b (from a b (given m));
-        one-variable = λ i j x p q d e. head-same ns cs i j (from i j (one-variable p q d e));
-        applications = fits;
+        closed = record {
+          inside = λ i p. head-inside ns ps cs from (is i p);
+          joined = joined-to;
+          given = λ a b m. head-same ns cs a b (from a b (given m));
+          one-variable = λ i j x p q d e. head-same ns cs i j (from i j (one-variable p q d e));
+          applications = fits;
+        };
         falls = λ i f us p e a m.
             let q = head-inside ns ps cs from (is i p) in
             let l : a < headIn ns cs i = w .smaller (headIn ns cs i) f us q e a m in
@@ -178,5 +184,4 @@ module _ (ns : List Node) (w : WellFormed ns) (ps : List (ℕ × ℕ)) (h : Insi
             let g : longest ns cs a < longest ns cs (headIn ns cs i) = argument-shorter ns w cs no-cycle (headIn ns cs i) (headIn ns cs i) f us q q refl e a m in
             let c : longest ns cs a ≡ longest ns cs (headIn ns cs a) = longest-same ns w cs a (headIn ns cs a) b (head-inside ns ps cs from (is a b)) (head-class ns ps cs from (is a b)) in
             omega arith;
-        lowest = λ i x y p d e. head-lowest ns ps cs from x y p (is i p) d e;
       }

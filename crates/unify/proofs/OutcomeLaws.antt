@@ -17,15 +17,15 @@ use Rattle.unify.specs.Computed.Walks.{cyclic}
 use Rattle.unify.specs.Computed.Solution.{solution, headIn}
 use Rattle.unify.specs.Computed.Binding.{bindingWords}
 use Rattle.unify.specs.Outcome.{Outcome, unified, clash, occurs, outcome, unifier, wordsOf}
-use Rattle.unify.specs.Code.Solved.{Solved}
+use Rattle.unify.specs.Code.Solved.{Closed, Solved}
 use Rattle.unify.proofs.JoinedLaws.{joined-inside, clash-none, cycle-none, more-pairs, more-joined}
 use Rattle.unify.proofs.VariableLaws.{variables-present}
 use Rattle.unify.proofs.ClassLaws.{class-joined, joined-class, clash-found, found-clash}
 use Rattle.unify.proofs.WalkLaws.{longest, longest-bound, cycle-found, found-cycle}
-use Rattle.unify.proofs.SolvedLaws.{solution-most-general}
-use Rattle.unify.proofs.HeadLaws.{classes-solved}
+use Rattle.unify.proofs.SolvedLaws.{closed-no-clash, solution-most-general}
+use Rattle.unify.proofs.HeadLaws.{head-lowest, classes-solved}
 use Rattle.unify.proofs.ReadingLaws.{reads-one, most-general-agree}
-use Rattle.unify.proofs.WordLaws.{words-one, words-same, solution-normal, words-computed, words-read}
+use Rattle.unify.proofs.WordLaws.{words-one, words-same, Held, words-computed, words-read, solution-held, solution-lowest}
 
 -- One of three holds, and neither of the others.
 pub data ExactlyOne (A B C : Type 0) : Type 0 where
@@ -119,6 +119,10 @@ module _ (ns : List Node) (w : WellFormed ns) (ps : List (ℕ × ℕ)) (h : Insi
       back-to (cycled o) c = refl
       back-to (solved s) c = absurd (no-occurs (solved-unifiable s) c)
 
+  -- a class that reaches itself, found where heads leave no clash, decides: occurs
+  pub cycle-decides : (head : ℕ → ℕ) → Closed ns ps head → (i : ℕ) → Reaches ns ps i i → outcome ns ps ≡ occurs
+  cycle-decides head c i r = outcome-occurs .1 (record { no-clash = closed-no-clash ns w ps h head c; class = i; itself = r })
+
   to-solved : {o : Outcome} → Tested o → o ≡ unified → SolvedForm
   unfolding SolvedForm
   to-solved (clashed k) e = let z : _≡_ {A = ℕ} 0 1 = cc in absurd (omega arith)
@@ -138,12 +142,17 @@ module _ (ns : List Node) (w : WellFormed ns) (ps : List (ℕ × ℕ)) (h : Insi
   pub unifier-most-general : outcome ns ps ≡ unified → MostGeneral ns ps (unifier ns ps)
   unifier-most-general e = most-general (to-solved tested e)
 
+  held : outcome ns ps ≡ unified → Held ns (unifier ns ps)
+  unfolding SolvedForm unifier
+  held e =
+      solution-held ns w ps h (headIn ns (classes ns ps)) (longest ns (classes ns ps)) (to-solved tested e) (suc (length ns)) bounded
+
   -- the words can be read back
   pub words-readable : outcome ns ps ≡ unified → Reads ns (wordsOf ns ps) (unifier ns ps)
   unfolding SolvedForm unifier wordsOf
   words-readable e =
-      words-read ns (unifier ns ps)
-      (solution-normal ns w ps h (headIn ns (classes ns ps)) (longest ns (classes ns ps)) (to-solved tested e) (suc (length ns)) bounded)
+      words-read ns (unifier ns ps) (held e)
+      (solution-lowest ns w ps h (headIn ns (classes ns ps)) (longest ns (classes ns ps)) (to-solved tested e) (suc (length ns)) bounded (head-lowest ns ps (classes ns ps) (λ i j q. joined-class ns w ps h q)))
 
   -- and whatever is read from them is a most general unifier, the same on every variable present
   pub reading-most-general : outcome ns ps ≡ unified → (σ : Substitution) → Reads ns (wordsOf ns ps) σ → MostGeneral ns ps σ
@@ -155,9 +164,7 @@ module _ (ns : List Node) (w : WellFormed ns) (ps : List (ℕ × ℕ)) (h : Insi
 
   computed-words : outcome ns ps ≡ unified → AreWords ns (unifier ns ps) (variablesOf ns) (wordsOf ns ps)
   unfolding SolvedForm unifier wordsOf
-  computed-words e =
-      words-computed ns (unifier ns ps)
-      (solution-normal ns w ps h (headIn ns (classes ns ps)) (longest ns (classes ns ps)) (to-solved tested e) (suc (length ns)) bounded)
+  computed-words e = words-computed ns (unifier ns ps) (held e)
 
   -- under every most general unifier each word is the least node that document 01 names
   pub words-least : (σ : Substitution) → MostGeneral ns ps σ → AreWords ns σ (variablesOf ns) (wordsOf ns ps)
@@ -173,7 +180,7 @@ module _ (ns : List Node) (w : WellFormed ns) (ps : List (ℕ × ℕ)) (h : Insi
   pub solved-decides : (head order : ℕ → ℕ) → Solved ns ps head order → (k : ℕ) → ((i : ℕ) → i < length ns → order (head i) < k) → (outcome ns ps ≡ unified) × (wordsOf ns ps ≡ bindingWords ns (solution k ns head))
   solved-decides head order s k l =
       let g = solution-most-general ns w ps h head order s k l in
-      (outcome-unified .1 (solution k ns head, g .unifies), words-decided (solution k ns head) g (bindingWords ns (solution k ns head)) (words-computed ns (solution k ns head) (solution-normal ns w ps h head order s k l)))
+      (outcome-unified .1 (solution k ns head, g .unifies), words-decided (solution k ns head) g (bindingWords ns (solution k ns head)) (words-computed ns (solution k ns head) (solution-held ns w ps h head order s k l)))
 
   -- so any two solved forms give the same words
   pub solved-one : (head order : ℕ → ℕ) → Solved ns ps head order → (k : ℕ) → ((i : ℕ) → i < length ns → order (head i) < k) → (head′ order′ : ℕ → ℕ) → Solved ns ps head′ order′ → (k′ : ℕ) → ((i : ℕ) → i < length ns → order′ (head′ i) < k′) → bindingWords ns (solution k ns head) ≡ bindingWords ns (solution k′ ns head′)

@@ -9,9 +9,9 @@ use Rattle.terms.specs.Term.{Term, var, app}
 use Rattle.terms.specs.Substitution.{Substitution, sub}
 use Rattle.unify.specs.Node.{Node, variable, application, nodeAt, WellFormed, each, spell, Present}
 use Rattle.unify.specs.Unifier.{Inside, value, Unifies, MostGeneral}
-use Rattle.unify.specs.Closure.{together, Joined, given, one-variable, arguments, same, back, on}
+use Rattle.unify.specs.Closure.{together, Joined, given, one-variable, arguments, same, back, on, Clash}
 use Rattle.unify.specs.Computed.Solution.{nodeOf, resolved, solution}
-use Rattle.unify.specs.Code.Solved.{HeadFits, Solved}
+use Rattle.unify.specs.Code.Solved.{HeadFits, Closed, Solved}
 use Rattle.unify.proofs.ListLaws.{together-back, together-through}
 use Rattle.unify.proofs.NodeLaws.{each-same, each-equal, subs-each, spell-same, value-variable, value-application, values-same}
 use Rattle.unify.proofs.JoinedLaws.{joined-inside, joined-equal}
@@ -23,7 +23,7 @@ unfolding resolved
 resolved-head zero ns head i j e = refl
 resolved-head (suc k) ns head i j e = ap (λ (c : ℕ). spell (resolved k ns head) (nodeAt ns c)) e
 
-module _ (ns : List Node) (w : WellFormed ns) (ps : List (ℕ × ℕ)) (h : Inside ns ps) (head order : ℕ → ℕ) (s : Solved ns ps head order) where
+module _ (ns : List Node) (w : WellFormed ns) (ps : List (ℕ × ℕ)) (h : Inside ns ps) (head : ℕ → ℕ) (s : Closed ns ps head) where
   -- joined nodes have one head
   pub joined-head : {i j : ℕ} → Joined ns ps i j → head i ≡ head j
   joined-head (given {a} {b} m) = s .given a b m
@@ -48,11 +48,26 @@ module _ (ns : List Node) (w : WellFormed ns) (ps : List (ℕ × ℕ)) (h : Insi
   joined-head (back q) = sym (joined-head q)
   joined-head (on p q) = joined-head p ∙ joined-head q
 
+  -- heads leave no clash
+  pub closed-no-clash : Clash ns ps → ⊥
+  closed-no-clash k = go (s .applications (k .left) (k .left-name) (k .left-arguments) (p .0) (k .left-application)) (s .applications (k .right) (k .right-name) (k .right-arguments) (p .1) (k .right-application))
+    where
+      p : (k .left < length ns) × (k .right < length ns)
+      p = joined-inside ns w ps h (k .joined)
+
+      go : HeadFits ns head (k .left) (k .left-name) (k .left-arguments) → HeadFits ns head (k .right) (k .right-name) (k .right-arguments) → ⊥
+      go x y =
+          let e : application (k .left-name) (x .arguments) ≡ application (k .right-name) (y .arguments) = sym (x .applied) ∙ ap (nodeAt ns) (joined-head (k .joined)) ∙ y .applied in
+          let f : k .left-name ≡ k .right-name = cc in
+          let g : x .arguments ≡ y .arguments = cc in
+          k .different (f, x .as-long ∙ ap length g ∙ sym (y .as-long))
+
+module _ (ns : List Node) (w : WellFormed ns) (ps : List (ℕ × ℕ)) (h : Inside ns ps) (head order : ℕ → ℕ) (s : Solved ns ps head order) where
   -- an argument of a head is a node, and comes before it
   argument-inside : (i f : ℕ) (us : List ℕ) → i < length ns → nodeAt ns (head i) ≡ application f us → (a : ℕ) → List·Memᴰ a us → a < length ns
   argument-inside i f us p e a m =
-      let l : a < head i = w .smaller (head i) f us (s .inside i p) e a m in
-      let q : head i < length ns = s .inside i p in
+      let l : a < head i = w .smaller (head i) f us (s .closed .inside i p) e a m in
+      let q : head i < length ns = s .closed .inside i p in
       omega arith
 
   -- more steps than the order asks for change nothing
@@ -73,16 +88,16 @@ module _ (ns : List Node) (w : WellFormed ns) (ps : List (ℕ × ℕ)) (h : Insi
   after τ u (suc k) i p l = go (λ a q m. after τ u k a q m) (nodeAt ns (head i)) refl
     where
       to-head : value ns τ (head i) ≡ value ns τ i
-      to-head = sym (joined-equal ns w ps h τ u (s .joined i p))
+      to-head = sym (joined-equal ns w ps h τ u (s .closed .joined i p))
 
       v : ℕ → Term
       v = resolved k ns head
 
       go : ((a : ℕ) → a < length ns → order (head a) < k → sub τ (resolved k ns head a) ≡ value ns τ a) → (n : Node) → nodeAt ns (head i) ≡ n → sub τ (spell (resolved k ns head) (nodeAt ns (head i))) ≡ value ns τ i
       go r (variable y) e =
-          ap (λ (n : Node). sub τ (spell (resolved k ns head) n)) e ∙ sym (value-variable ns w τ (head i) y (s .inside i p) e) ∙ to-head
+          ap (λ (n : Node). sub τ (spell (resolved k ns head) n)) e ∙ sym (value-variable ns w τ (head i) y (s .closed .inside i p) e) ∙ to-head
       go r (application f us) e =
-          ap (λ (n : Node). sub τ (spell (resolved k ns head) n)) e ∙ ap (app f) (subs-each τ (resolved k ns head) us) ∙ ap (app f) (each-same (λ a. sub τ (resolved k ns head a)) (value ns τ) us (λ a m. let q : order (head a) < order (head i) = s .falls i f us p e a m in r a (argument-inside i f us p e a m) (omega arith))) ∙ sym (value-application ns w τ (head i) f us (s .inside i p) e) ∙ to-head
+          ap (λ (n : Node). sub τ (spell (resolved k ns head) n)) e ∙ ap (app f) (subs-each τ (resolved k ns head) us) ∙ ap (app f) (each-same (λ a. sub τ (resolved k ns head a)) (value ns τ) us (λ a m. let q : order (head a) < order (head i) = s .falls i f us p e a m in r a (argument-inside i f us p e a m) (omega arith))) ∙ sym (value-application ns w τ (head i) f us (s .closed .inside i p) e) ∙ to-head
 
   module _ (k : ℕ) (enough : (i : ℕ) → i < length ns → order (head i) < k) where
     -- a node is its head, spelt out
@@ -92,7 +107,7 @@ module _ (ns : List Node) (w : WellFormed ns) (ps : List (ℕ × ℕ)) (h : Insi
 
     resolved-application : (i f : ℕ) (us : List ℕ) → i < length ns → nodeAt ns i ≡ application f us → app f (each (resolved k ns head) us) ≡ resolved k ns head i
     unfolding spell
-    resolved-application i f us p e = go (s .applications i f us p e)
+    resolved-application i f us p e = go (s .closed .applications i f us p e)
       where
         go : HeadFits ns head i f us → app f (each (resolved k ns head) us) ≡ resolved k ns head i
         go x =
@@ -102,7 +117,7 @@ module _ (ns : List Node) (w : WellFormed ns) (ps : List (ℕ × ℕ)) (h : Insi
     unfolding solution
     resolved-variable i x p e =
         let l = node-of ns x (i, p, e) in
-        resolved-head k ns head (nodeOf ns x) i (s .one-variable (nodeOf ns x) i x (l .holds .0) p (l .holds .1) e)
+        resolved-head k ns head (nodeOf ns x) i (s .closed .one-variable (nodeOf ns x) i x (l .holds .0) p (l .holds .1) e)
 
     -- the value of a node under the solution is what it is resolved to
     pub value-resolved : (i : ℕ) → i < length ns → value ns (solution k ns head) i ≡ resolved k ns head i
@@ -113,7 +128,7 @@ module _ (ns : List Node) (w : WellFormed ns) (ps : List (ℕ × ℕ)) (h : Insi
     unfolding solution
     solution-most-general =
         record {
-          unifies = λ a b m. value-resolved a (h a b m .0) ∙ resolved-head k ns head a b (s .given a b m) ∙ sym (value-resolved b (h a b m .1));
+          unifies = λ a b m. value-resolved a (h a b m .0) ∙ resolved-head k ns head a b (s .closed .given a b m) ∙ sym (value-resolved b (h a b m .1));
           factors = λ τ u. (
             τ,
             λ x q.

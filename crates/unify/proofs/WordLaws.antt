@@ -101,10 +101,13 @@ module _ (ns : List Node) (w : WellFormed ns) (ps : List (ℕ × ℕ)) where
   words-same σ τ g h q (word {x = x} {w = v} a r) =
       word (word-same σ τ g h x v (q x (List·Memᴰ·head refl)) a) (words-same σ τ g h (λ y m. q y (List·Memᴰ·tail m)) r)
 
--- What the solution of a solved form has, and words need.
-pub record Normal (ns : List Node) (σ : Substitution) : Type 0 where
-  pub held : (x f : ℕ) (ts : Terms) → Present ns x → σ x ≡ app f ts → (i : ℕ) × BoundTo ns σ (σ x) i
-  pub lowest : (x z : ℕ) → Present ns x → σ x ≡ var z → Least (λ y. Present ns y × (σ y ≡ σ x)) z
+-- The value of a variable that is an application is the value of an application node.
+abbrev pub Held : List Node → Substitution → Type 0
+Held ns σ = (x f : ℕ) (ts : Terms) → Present ns x → σ x ≡ app f ts → (i : ℕ) × BoundTo ns σ (σ x) i
+
+-- A variable whose value is a variable has the lowest one with that value.
+abbrev pub Lowest : List Node → Substitution → Type 0
+Lowest ns σ = (x z : ℕ) → Present ns x → σ x ≡ var z → Least (λ y. Present ns y × (σ y ≡ σ x)) z
 
 bound-true : (ns : List Node) (σ : Substitution) (t : Term) (i : ℕ) → BoundTo ns σ t i → isBoundTo ns σ t i ≡ true
 unfolding isBoundTo isApplication
@@ -127,7 +130,7 @@ true-bound ns σ t i p e = go (nodeAt ns i) refl
           same-value = equal-true (value ns σ i) t (and-true-right (isApplication (nodeAt ns i)) (equal (value ns σ i) t) e);
         }
 
-module _ (ns : List Node) (σ : Substitution) (n : Normal ns σ) where
+module _ (ns : List Node) (σ : Substitution) (held : Held ns σ) where
   free-word : (x z : ℕ) → Present ns x → σ x ≡ var z → IsWord ns σ x (wordFor ns σ (var z))
   unfolding wordFor hasValue
   free-word x z q e =
@@ -153,7 +156,7 @@ module _ (ns : List Node) (σ : Substitution) (n : Normal ns σ) where
   bound-word : (x f : ℕ) (ts : Terms) → Present ns x → σ x ≡ app f ts → IsWord ns σ x (wordFor ns σ (app f ts))
   unfolding wordFor
   bound-word x f ts q e =
-      let h = n .held x f ts q e in
+      let h = held x f ts q e in
       let p = h .1 .node in
       let b : isBoundTo ns σ (app f ts) (h .0) ≡ true = bound-true ns σ (app f ts) (h .0) (rw e at (h .1)) in
       bound {w = leastNode ns (isBoundTo ns σ (app f ts))} e
@@ -179,21 +182,21 @@ module _ (ns : List Node) (σ : Substitution) (n : Normal ns σ) where
   unfolding bindingWords
   words-computed = computed (variablesOf ns) (variables-present ns)
 
-  -- and the substitution is read from them
-  reads-word : (x v : ℕ) → Present ns x → IsWord ns σ x v → σ x ≡ readNodeAs σ (termOf ns v) (nodeAt ns v)
+  -- and where its variables are the lowest, the substitution is read from them
+  reads-word : Lowest ns σ → (x v : ℕ) → Present ns x → IsWord ns σ x v → σ x ≡ readNodeAs σ (termOf ns v) (nodeAt ns v)
   unfolding readNodeAs
-  reads-word x v q (bound e l) = sym (l .holds .same-value) ∙ ap (readNodeAs σ (termOf ns v)) (sym (l .holds .applied))
-  reads-word x v q (free {z = z} {y = y} e l m) =
-      let d : y ≡ z = least-one l (n .lowest x z q e) in
+  reads-word low x v q (bound e l) = sym (l .holds .same-value) ∙ ap (readNodeAs σ (termOf ns v)) (sym (l .holds .applied))
+  reads-word low x v q (free {z = z} {y = y} e l m) =
+      let d : y ≡ z = least-one l (low x z q e) in
       e ∙ ap var (sym d) ∙ ap (readNodeAs σ (termOf ns v)) (sym (m .holds .1))
 
-  reads-words : {xs vs : List ℕ} → ((x : ℕ) → List·Memᴰ x xs → Present ns x) → AreWords ns σ xs vs → ReadsFrom ns σ xs vs
-  reads-words q none = end
-  reads-words q (word {x = x} {w = v} a r) =
-      read (reads-word x v (q x (List·Memᴰ·head refl)) a) (reads-words (λ y m. q y (List·Memᴰ·tail m)) r)
+  reads-words : Lowest ns σ → {xs vs : List ℕ} → ((x : ℕ) → List·Memᴰ x xs → Present ns x) → AreWords ns σ xs vs → ReadsFrom ns σ xs vs
+  reads-words low q none = end
+  reads-words low q (word {x = x} {w = v} a r) =
+      read (reads-word low x v (q x (List·Memᴰ·head refl)) a) (reads-words low (λ y m. q y (List·Memᴰ·tail m)) r)
 
-  pub words-read : Reads ns (bindingWords ns σ) σ
-  words-read = reads-words (variables-present ns) words-computed
+  pub words-read : Lowest ns σ → Reads ns (bindingWords ns σ) σ
+  words-read low = reads-words low (variables-present ns) words-computed
 
 module _ (ns : List Node) (w : WellFormed ns) (ps : List (ℕ × ℕ)) (h : Inside ns ps) (head order : ℕ → ℕ) (s : Solved ns ps head order) (k : ℕ) (enough : (i : ℕ) → i < length ns → order (head i) < k) where
   -- the variable's node, and what its head is
@@ -208,7 +211,7 @@ module _ (ns : List Node) (w : WellFormed ns) (ps : List (ℕ × ℕ)) (h : Insi
   head-value : (x : ℕ) → Present ns x → value ns (solution k ns head) (head (nodeOf ns x)) ≡ solution k ns head x
   unfolding solution
   head-value x q =
-      value-resolved ns w ps h head order s k enough (head (nodeOf ns x)) (s .inside (nodeOf ns x) (at x q)) ∙ sym (resolved-head k ns head _ _ (joined-head ns w ps h head order s (s .joined (nodeOf ns x) (at x q))))
+      value-resolved ns w ps h head order s k enough (head (nodeOf ns x)) (s .closed .inside (nodeOf ns x) (at x q)) ∙ sym (resolved-head k ns head _ _ (joined-head ns w ps h head (s .closed) (s .closed .joined (nodeOf ns x) (at x q))))
 
   head-variable : (x z : ℕ) → Present ns x → solution k ns head x ≡ var z → nodeAt ns (head (nodeOf ns x)) ≡ variable z
   unfolding spell
@@ -229,23 +232,23 @@ module _ (ns : List Node) (w : WellFormed ns) (ps : List (ℕ × ℕ)) (h : Insi
       go (variable y) d = not-both (solution k ns head x) f y ts e (spelt x q ∙ ap (spell (resolved k ns head)) d)
       go (application g us) d =
           record {
-            node = s .inside (nodeOf ns x) (at x q);
+            node = s .closed .inside (nodeOf ns x) (at x q);
             name = g;
             arguments = us;
             applied = d;
             same-value = head-value x q;
           }
 
-  -- the solution of a solved form is normal
-  pub solution-normal : Normal ns (solution k ns head)
-  solution-normal =
+  -- what the words ask of the solution of a solved form
+  pub solution-held : Held ns (solution k ns head)
+  solution-held x f ts q e = (head (nodeOf ns x), head-application x f ts q e)
+
+  -- and what reading them asks, where a variable that is a head is the lowest of its class
+  pub solution-lowest : ((i x y : ℕ) → i < length ns → nodeAt ns i ≡ variable x → nodeAt ns (head i) ≡ variable y → y ≤ x) → Lowest ns (solution k ns head)
+  solution-lowest lowest x z q e =
+      let d = head-variable x z q e in
+      let i = s .closed .inside (nodeOf ns x) (at x q) in
       record {
-        held = λ x f ts q e. (head (nodeOf ns x), head-application x f ts q e);
-        lowest = λ x z q e.
-            let d = head-variable x z q e in
-            let i = s .inside (nodeOf ns x) (at x q) in
-            record {
-              holds = ((head (nodeOf ns x), i, d), sym (value-variable ns w (solution k ns head) (head (nodeOf ns x)) z i d) ∙ head-value x q);
-              least = λ y b. s .lowest (nodeOf ns y) y z (at y (b .0)) (node-of ns y (b .0) .holds .1) (head-variable y z (b .0) (b .1 ∙ e));
-            };
+        holds = ((head (nodeOf ns x), i, d), sym (value-variable ns w (solution k ns head) (head (nodeOf ns x)) z i d) ∙ head-value x q);
+        least = λ y b. lowest (nodeOf ns y) y z (at y (b .0)) (node-of ns y (b .0) .holds .1) (head-variable y z (b .0) (b .1 ∙ e));
       }

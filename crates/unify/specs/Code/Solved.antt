@@ -1,5 +1,5 @@
--- A solved form of a list of pairs: a head for each node, and an order in which arguments come first.
-use Prim.Native.Nat.{ℕ, _<_, _≤_}
+-- Solved forms of a list of pairs: what the code finds.
+use Prim.Native.Nat.{ℕ, _<_}
 use mathlib.Core.List.{List, List·Memᴰ}
 use mathlib.Core.Path.{_≡_}
 use lib.ListN.{length}
@@ -13,7 +13,8 @@ pub record HeadFits (ns : List Node) (head : ℕ → ℕ) (i f : ℕ) (us : List
   pub as-long : length us ≡ length arguments
   pub one-head : (a b : ℕ) → List·Memᴰ (a, b) (together us arguments) → head a ≡ head b
 
-pub record Solved (ns : List Node) (ps : List (ℕ × ℕ)) (head order : ℕ → ℕ) : Type 0 where
+-- Heads that stand for the classes of a list of pairs without clash.
+pub record Closed (ns : List Node) (ps : List (ℕ × ℕ)) (head : ℕ → ℕ) : Type 0 where
   -- a head is joined with its node
   pub inside : (i : ℕ) → i < length ns → head i < length ns
   pub joined : (i : ℕ) → i < length ns → Joined ns ps i (head i)
@@ -21,7 +22,8 @@ pub record Solved (ns : List Node) (ps : List (ℕ × ℕ)) (head order : ℕ �
   pub given : (a b : ℕ) → List·Memᴰ (a, b) ps → head a ≡ head b
   pub one-variable : (i j x : ℕ) → i < length ns → j < length ns → nodeAt ns i ≡ variable x → nodeAt ns j ≡ variable x → head i ≡ head j
   pub applications : (i f : ℕ) (us : List ℕ) → i < length ns → nodeAt ns i ≡ application f us → HeadFits ns head i f us
-  -- arguments come before what they belong to
+
+-- A solved form: such heads, and an order in which the arguments of a head come before it.
+pub record Solved (ns : List Node) (ps : List (ℕ × ℕ)) (head order : ℕ → ℕ) : Type 0 where
+  pub closed : Closed ns ps head
   pub falls : (i f : ℕ) (us : List ℕ) → i < length ns → nodeAt ns (head i) ≡ application f us → (a : ℕ) → List·Memᴰ a us → order (head a) < order (head i)
-  -- a variable that is a head is the lowest of its class
-  pub lowest : (i x y : ℕ) → i < length ns → nodeAt ns i ≡ variable x → nodeAt ns (head i) ≡ variable y → y ≤ x
