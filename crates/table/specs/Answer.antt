@@ -1,7 +1,7 @@
 -- Document 01's number of each answer. Every promise about an answer is said through these.
 use Prim.Native.Nat.{ℕ}
 use Rattle.table.specs.declared.Refusal.{Refusal}
-use Rattle.table.specs.declared.Refusal.the-variants.{TooFewWords, BrokenPair, OverLimit, WrongNode, WrongArgument, WrongTerm, WrongLabel}
+use Rattle.table.specs.declared.Refusal.the-variants.{TooFewWords, BrokenPair, OverLimit, WrongNode, WrongArgument, WrongTerm, WrongLabel, NotANode, TooFewLent}
 use Rattle.table.specs.declared.Checked.{Checked}
 use Rattle.table.specs.declared.Checked.the-variants.{Accepted, Refused}
 
@@ -13,6 +13,8 @@ numberOf WrongNode = 4
 numberOf WrongArgument = 5
 numberOf WrongTerm = 6
 numberOf WrongLabel = 7
+numberOf NotANode = 8
+numberOf TooFewLent = 9
 
 -- What checking a table answers: the refusal's number, and 0 for an accepted table, to which document 01 gives none.
 abbrev pub told : Checked → ℕ

@@ -24,7 +24,7 @@ pub struct Variable(pub u32);
 // A label: document 000's multiset variable. It and a variable of equal number are unrelated.
 pub struct Label(pub u32);
 
-// Why a table is refused, in document 01's order.
+// Why a call is refused, in document 01's order: the first seven by any operation that takes a table.
 pub enum Refusal {
     TooFewWords,
     BrokenPair,
@@ -33,6 +33,8 @@ pub enum Refusal {
     WrongArgument,
     WrongTerm,
     WrongLabel,
+    NotANode,
+    TooFewLent,
 }
 
 // What checking a table answers.
@@ -54,6 +56,8 @@ impl Refusal {
             Refusal::WrongArgument => 5,
             Refusal::WrongTerm => 6,
             Refusal::WrongLabel => 7,
+            Refusal::NotANode => 8,
+            Refusal::TooFewLent => 9,
         }
     }
 }

@@ -15,13 +15,18 @@ use Rattle.table.proofs.BoolLaws.{or-false-left, or-false-right}
 use Rattle.table.proofs.RefusalLaws.{first-means}
 use Rattle.table.proofs.AcceptedLaws.{pass, accepted-first}
 use Rattle.terms.specs.Substitution.{Substitution}
+use Rattle.table.specs.declared.Refusal.{Refusal}
+use Rattle.table.specs.Answer.{numberOf}
+use Rattle.table.proofs.AnswerLaws.{number-apart}
+use Rattle.unify.specs.declared.Unification.{Unification}
 use Rattle.unify.specs.Node.{nodesIn, WellFormed, Present}
 use Rattle.unify.specs.Unifier.{Inside, value, Unifies, MostGeneral}
 use Rattle.unify.specs.Closure.{Clash, Occurs}
-use Rattle.unify.specs.Words.{variablesOf, AreWords, Reads}
+use Rattle.unify.specs.Words.{AreWords, Reads}
+use Rattle.unify.specs.Computed.Variables.{variablesOf}
 use Rattle.unify.specs.Computed.Binding.{wordOf, bindingWords}
 use Rattle.unify.specs.Outcome.{Outcome, unified, clash, occurs, outcome, unifier, wordsOf}
-use Rattle.unify.specs.Answer.{variableCount, notNode, unifyConditions, Answer, ended, refused, answerAfter, unification, wordsAfter, lentAfter}
+use Rattle.unify.specs.Answer.{told, variableCount, notNode, unifyConditions, Answer, ended, refused, answerAfter, unification, wordsAfter, lentAfter}
 use Rattle.unify.proofs.TableLaws.{well-formed}
 use Rattle.unify.proofs.JoinedLaws.{clash-none, cycle-none}
 use Rattle.unify.proofs.ReadingLaws.{reads-one}
@@ -155,3 +160,31 @@ module _ (t : List ℕ) (a b : ℕ) (lent : List ℕ) where
       let w = well-formed t (r .0 .table) in
       let o = outcome-occurs (nodesIn t) w ((a, b) ∷ []) (one-pair (r .0)) .0 (r .1) in
       (o, λ σ q. cycle-none (nodesIn t) w ((a, b) ∷ []) (one-pair (r .0)) σ (unifies-pair σ q) (o .class) (o .itself))
+
+from-outcome : Outcome → Unification
+from-outcome unified = Unification.Unified
+from-outcome clash = Unification.Clash
+from-outcome occurs = Unification.Occurs
+
+ended-apart : (o : Outcome) (s : Unification) → ended o ≡ told s → from-outcome o ≡ s
+unfolding from-outcome
+ended-apart o Unification.Unified e = let d : o ≡ unified = cc in ap from-outcome d
+ended-apart o Unification.Clash e = let d : o ≡ clash = cc in ap from-outcome d
+ended-apart o Unification.Occurs e = let d : o ≡ occurs = cc in ap from-outcome d
+ended-apart o (Unification.Refused r) e = let z : _≡_ {A = ℕ} 0 1 = cc in absurd (omega arith)
+
+refused-apart : (r : Refusal) (s : Unification) → refused (numberOf r) ≡ told s → Unification.Refused r ≡ s
+refused-apart r Unification.Unified e = let z : _≡_ {A = ℕ} 0 1 = cc in absurd (omega arith)
+refused-apart r Unification.Clash e = let z : _≡_ {A = ℕ} 0 1 = cc in absurd (omega arith)
+refused-apart r Unification.Occurs e = let z : _≡_ {A = ℕ} 0 1 = cc in absurd (omega arith)
+refused-apart r (Unification.Refused s) e =
+    let d : numberOf r ≡ numberOf s = cc in
+    ap Unification.Refused (number-apart r s d)
+
+-- answers that stand for one thing are one answer
+pub told-apart : (r s : Unification) → told r ≡ told s → r ≡ s
+unfolding from-outcome
+told-apart Unification.Unified s e = ended-apart unified s e
+told-apart Unification.Clash s e = ended-apart clash s e
+told-apart Unification.Occurs s e = ended-apart occurs s e
+told-apart (Unification.Refused r) s e = refused-apart r s e

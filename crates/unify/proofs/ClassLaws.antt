@@ -13,21 +13,21 @@ use lib.ListN.{length}
 use Rattle.table.proofs.BoolLaws.{and-true-left, and-true-right}
 use Rattle.table.proofs.SomeLaws.{some-means, some-here}
 use Rattle.unify.specs.Node.{Node, variable, application, nodeAt, WellFormed, tabulate}
-use Rattle.unify.specs.Closure.{together, Joined, given, one-variable, arguments, same, back, on, Clash}
+use Rattle.unify.specs.Closure.{together, OneSymbol, Joined, given, one-variable, arguments, same, back, on, Clash, different}
 use Rattle.unify.specs.Unifier.{Inside}
 use Rattle.unify.specs.Computed.Classes.{classOf, join, joinAll, sameSymbol, asks, gather, asked, round, rounds, classes, differ, clashAt, clashWith, clashes}
 use Rattle.unify.proofs.ListLaws.{tabulate-length, tabulate-at, gathered, gathered-from}
 use Rattle.unify.proofs.JoinedLaws.{joined-inside}
 use Rattle.unify.proofs.CountLaws.{Partition, Settled, Lowers, roots, roots-most, roots-some, join-length, join-first, join-second, join-other, join-stays, join-keeps, join-all-lowers}
 
-same-symbol : (f g : ℕ) (us vs : List ℕ) → sameSymbol f us g vs ≡ true → (f ≡ g) × (length us ≡ length vs)
+same-symbol : (f g : ℕ) (us vs : List ℕ) → sameSymbol f us g vs ≡ true → OneSymbol f us g vs
 unfolding sameSymbol
 same-symbol f g us vs e =
     (eqb-true f g (and-true-left (eqb f g) (eqb (length us) (length vs)) e), eqb-true (length us) (length vs) (and-true-right (eqb f g) (eqb (length us) (length vs)) e))
 
-symbol-same : (f g : ℕ) (us vs : List ℕ) → f ≡ g → length us ≡ length vs → sameSymbol f us g vs ≡ true
+symbol-same : (f g : ℕ) (us vs : List ℕ) → OneSymbol f us g vs → sameSymbol f us g vs ≡ true
 unfolding sameSymbol
-symbol-same f g us vs d e = rw (eq-eqb f g d, eq-eqb (length us) (length vs) e)
+symbol-same f g us vs l = rw (eq-eqb f g (l .0), eq-eqb (length us) (length vs) (l .1))
 
 join-all-keeps : (P : List ℕ → Type 0) (qs : List (ℕ × ℕ)) → ((cs : List ℕ) (a b : ℕ) → List·Memᴰ (a, b) qs → P cs → P (join cs (a, b))) → (cs : List ℕ) → P cs → P (joinAll cs qs)
 unfolding joinAll
@@ -79,10 +79,10 @@ asked-variable : (ns : List Node) (cs : List ℕ) (i j x : ℕ) → nodeAt ns i 
 unfolding asked asks
 asked-variable ns cs i j x d e = rw (d, e, eq-eqb x x refl) (List·Memᴰ·head refl)
 
-asked-arguments : (ns : List Node) (cs : List ℕ) (i j f : ℕ) (us vs : List ℕ) → nodeAt ns i ≡ application f us → nodeAt ns j ≡ application f vs → length us ≡ length vs → classOf cs i ≡ classOf cs j → (a b : ℕ) → List·Memᴰ (a, b) (together us vs) → List·Memᴰ (a, b) (asked ns cs i j)
+asked-arguments : (ns : List Node) (cs : List ℕ) (i j f g : ℕ) (us vs : List ℕ) → nodeAt ns i ≡ application f us → nodeAt ns j ≡ application g vs → OneSymbol f us g vs → classOf cs i ≡ classOf cs j → (a b : ℕ) → List·Memᴰ (a, b) (together us vs) → List·Memᴰ (a, b) (asked ns cs i j)
 unfolding asked asks
-asked-arguments ns cs i j f us vs d e l c a b m =
-    rw (d, e, eq-eqb (classOf cs i) (classOf cs j) c, symbol-same f f us vs refl l) m
+asked-arguments ns cs i j f g us vs d e l c a b m =
+    rw (d, e, eq-eqb (classOf cs i) (classOf cs j) c, symbol-same f g us vs l) m
 
 module _ (ns : List Node) (w : WellFormed ns) (ps : List (ℕ × ℕ)) (h : Inside ns ps) where
   -- The classes are a partition, and each node is joined with the one that names its class.
@@ -133,7 +133,7 @@ module _ (ns : List Node) (w : WellFormed ns) (ps : List (ℕ × ℕ)) (h : Insi
       pick : (u : Bool) → (t && sameSymbol k us g vs) ≡ u → Joined ns ps a b
       pick true z =
           let s = same-symbol k g us vs (and-true-right t (sameSymbol k us g vs) z) in
-          arguments d (e ∙ ap (λ (c : ℕ). application c vs) (sym (s .0))) (s .1) (f (and-true-left t (sameSymbol k us g vs) z)) (rw z at q)
+          arguments d e s (f (and-true-left t (sameSymbol k us g vs) z)) (rw z at q)
       pick false z = absurd (List·Memᴰ·not-nil (rw z at q))
 
   wanted-joined : (cs : List ℕ) → Sound cs → (a b : ℕ) → List·Memᴰ (a, b) (wanted ns cs) → Joined ns ps a b
@@ -209,9 +209,9 @@ module _ (ns : List Node) (w : WellFormed ns) (ps : List (ℕ × ℕ)) (h : Insi
   joined-class (given {a} {b} m) = classes-given a b m
   joined-class (one-variable {i} {j} {x} p q d e) =
       classes-settled i j (wanted-here ns (classes ns ps) i j p q i j (asked-variable ns (classes ns ps) i j x d e))
-  joined-class (arguments {i} {j} {f} {a} {b} {us} {vs} d e l q m) =
+  joined-class (arguments {i} {j} {f} {g} {a} {b} {us} {vs} d e l q m) =
       let r = joined-inside ns w ps h q in
-      classes-settled a b (wanted-here ns (classes ns ps) i j (r .0) (r .1) a b (asked-arguments ns (classes ns ps) i j f us vs d e l (joined-class q) a b m))
+      classes-settled a b (wanted-here ns (classes ns ps) i j (r .0) (r .1) a b (asked-arguments ns (classes ns ps) i j f g us vs d e l (joined-class q) a b m))
   joined-class (same p) = refl
   joined-class (back q) = sym (joined-class q)
   joined-class (on p q) = joined-class p ∙ joined-class q
@@ -221,18 +221,7 @@ module _ (ns : List Node) (w : WellFormed ns) (ps : List (ℕ × ℕ)) (h : Insi
   differ-clash i j q (variable x) n d e z = absurd (false≢true z)
   differ-clash i j q (application f us) (variable y) d e z = absurd (false≢true z)
   differ-clash i j q (application f us) (application g vs) d e z =
-      record {
-        left = i;
-        right = j;
-        joined = q;
-        left-name = f;
-        left-arguments = us;
-        right-name = g;
-        right-arguments = vs;
-        left-application = d;
-        right-application = e;
-        different = λ r. false≢true (rw (symbol-same f g us vs (r .0) (r .1)) at z);
-      }
+      different q d e (λ l. false≢true (rw (symbol-same f g us vs l) at z))
 
   -- a clash that is computed is one
   pub clash-found : clashes ns (classes ns ps) ≡ true → Clash ns ps
@@ -250,17 +239,15 @@ module _ (ns : List Node) (w : WellFormed ns) (ps : List (ℕ × ℕ)) (h : Insi
   -- every clash is computed
   pub found-clash : Clash ns ps → clashes ns (classes ns ps) ≡ true
   unfolding clashes clashWith clashAt differ
-  found-clash c = some-here (clashWith ns cs) (c .left) (length ns) (r .0) (some-here (clashAt ns cs (c .left)) (c .right) (length ns) (r .1) at)
+  found-clash (different {i} {j} {f} {g} {us} {vs} q d e n) =
+      some-here (clashWith ns (classes ns ps)) i (length ns) (r .0) (some-here (clashAt ns (classes ns ps) i) j (length ns) (r .1) at)
     where
-      cs : List ℕ
-      cs = classes ns ps
+      r : (i < length ns) × (j < length ns)
+      r = joined-inside ns w ps h q
 
-      r : (c .left < length ns) × (c .right < length ns)
-      r = joined-inside ns w ps h (c .joined)
-
-      symbols : (t : Bool) → sameSymbol (c .left-name) (c .left-arguments) (c .right-name) (c .right-arguments) ≡ t → not t ≡ true
-      symbols true z = absurd (c .different (same-symbol _ _ _ _ z))
+      symbols : (t : Bool) → sameSymbol f us g vs ≡ t → not t ≡ true
+      symbols true z = absurd (n (same-symbol f g us vs z))
       symbols false z = refl
 
-      at : clashAt ns cs (c .left) (c .right) ≡ true
-      at = rw (c .left-application, c .right-application, eq-eqb _ _ (joined-class (c .joined))) (symbols _ refl)
+      at : clashAt ns (classes ns ps) i j ≡ true
+      at = rw (d, e, eq-eqb _ _ (joined-class q)) (symbols _ refl)

@@ -13,8 +13,8 @@ use Rattle.table.proofs.SomeLaws.{some-means, none-some}
 use Rattle.table.proofs.BoolLaws.{and-true-left, and-true-right}
 use Rattle.unify.specs.Node.{Node, variable, application, nodeAt, WellFormed, Present}
 use Rattle.unify.specs.Unifier.{Inside}
-use Rattle.unify.specs.Closure.{together, Joined, given, one-variable, arguments, same, back, on, Clash}
-use Rattle.unify.specs.Words.{variablesOf}
+use Rattle.unify.specs.Closure.{together, OneSymbol, Joined, given, one-variable, arguments, same, back, on, Clash, different}
+use Rattle.unify.specs.Computed.Variables.{variablesOf}
 use Rattle.unify.specs.Computed.Classes.{classOf}
 use Rattle.unify.specs.Computed.Walks.{cyclic}
 use Rattle.unify.specs.Computed.Solution.{firstWith, leastNode, isApplication, nodeOf, isApplicationIn, isVariableIn, headIn}
@@ -130,29 +130,14 @@ module _ (ns : List Node) (w : WellFormed ns) (ps : List (ℕ × ℕ)) (h : Insi
   joined-to i p = to i (headIn ns cs i) p (head-inside ns ps cs from (is i p)) (head-class ns ps cs from (is i p))
 
   -- joined applications have one symbol
-  one-symbol : (i j f g : ℕ) (us vs : List ℕ) → Joined ns ps i j → nodeAt ns i ≡ application f us → nodeAt ns j ≡ application g vs → (f ≡ g) × (length us ≡ length vs)
+  one-symbol : (i j f g : ℕ) (us vs : List ℕ) → Joined ns ps i j → nodeAt ns i ≡ application f us → nodeAt ns j ≡ application g vs → OneSymbol f us g vs
   one-symbol i j f g us vs q d e = go (ℕ-discrete f g) (ℕ-discrete (length us) (length vs))
     where
-      clash : ((f ≡ g) × (length us ≡ length vs) → ⊥) → Clash ns ps
-      clash n =
-          record {
-            left = i;
-            right = j;
-            joined = q;
-            left-name = f;
-            left-arguments = us;
-            right-name = g;
-            right-arguments = vs;
-            left-application = d;
-            right-application = e;
-            different = n;
-          }
-
-      go : Dec (f ≡ g) → Dec (length us ≡ length vs) → (f ≡ g) × (length us ≡ length vs)
+      go : Dec (f ≡ g) → Dec (length us ≡ length vs) → OneSymbol f us g vs
       go (yes a) (yes b) = (a, b)
-      go (yes a) (no b) = absurd (no-clash (clash (λ r. b (r .1))))
-      go (no a) (yes b) = absurd (no-clash (clash (λ r. a (r .0))))
-      go (no a) (no b) = absurd (no-clash (clash (λ r. a (r .0))))
+      go (yes a) (no b) = absurd (no-clash (different q d e (λ r. b (r .1))))
+      go (no a) (yes b) = absurd (no-clash (different q d e (λ r. a (r .0))))
+      go (no a) (no b) = absurd (no-clash (different q d e (λ r. a (r .0))))
 
   fits : (i f : ℕ) (us : List ℕ) → i < length ns → nodeAt ns i ≡ application f us → HeadFits ns (headIn ns cs) i f us
   fits i f us p e =
@@ -163,7 +148,7 @@ module _ (ns : List Node) (w : WellFormed ns) (ps : List (ℕ × ℕ)) (h : Insi
         arguments = a .1;
         applied = d;
         as-long = s .1;
-        one-head = λ b c m. head-same ns cs b c (from b c (arguments e d (s .1) (joined-to i p) m));
+        one-head = λ b c m. head-same ns cs b c (from b c (arguments e d (refl, s .1) (joined-to i p) m));
       }
 
   -- the classes are a solved form

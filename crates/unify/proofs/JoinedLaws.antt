@@ -9,7 +9,7 @@ use Rattle.terms.specs.Substitution.{Substitution, sub}
 use Rattle.terms.proofs.SizeLaws.{size, sizes}
 use Rattle.unify.specs.Node.{Node, variable, application, nodeAt, WellFormed, each}
 use Rattle.unify.specs.Unifier.{Inside, value, Unifies}
-use Rattle.unify.specs.Closure.{together, Joined, given, one-variable, arguments, same, back, on, Clash, Reaches, step, steps, Occurs}
+use Rattle.unify.specs.Closure.{together, OneSymbol, Joined, given, one-variable, arguments, same, back, on, Clash, different, Reaches, step, steps, Occurs}
 use Rattle.unify.proofs.ListLaws.{together-left, together-right}
 use Rattle.unify.proofs.NodeLaws.{each-long, each-at, each-size, value-variable, value-application}
 
@@ -17,7 +17,7 @@ use Rattle.unify.proofs.NodeLaws.{each-long, each-at, each-size, value-
 pub record Rules (ns : List Node) (ps : List (ℕ × ℕ)) (R : ℕ → ℕ → Type 0) : Type 0 where
   pub has-given : (a b : ℕ) → List·Memᴰ (a, b) ps → R a b
   pub has-variable : (i j x : ℕ) → i < length ns → j < length ns → nodeAt ns i ≡ variable x → nodeAt ns j ≡ variable x → R i j
-  pub has-arguments : (i j f : ℕ) (us vs : List ℕ) → nodeAt ns i ≡ application f us → nodeAt ns j ≡ application f vs → length us ≡ length vs → R i j → (a b : ℕ) → List·Memᴰ (a, b) (together us vs) → R a b
+  pub has-arguments : (i j f g : ℕ) (us vs : List ℕ) → nodeAt ns i ≡ application f us → nodeAt ns j ≡ application g vs → OneSymbol f us g vs → R i j → (a b : ℕ) → List·Memᴰ (a, b) (together us vs) → R a b
   pub has-same : (i : ℕ) → i < length ns → R i i
   pub has-back : (i j : ℕ) → R i j → R j i
   pub has-on : (i j k : ℕ) → R i j → R j k → R i k
@@ -26,8 +26,8 @@ pub record Rules (ns : List Node) (ps : List (ℕ × ℕ)) (R : ℕ → ℕ → 
 pub smallest : {ns : List Node} {ps : List (ℕ × ℕ)} (R : ℕ → ℕ → Type 0) → Rules ns ps R → {i j : ℕ} → Joined ns ps i j → R i j
 smallest R r (given {a} {b} m) = r .has-given a b m
 smallest R r (one-variable {i} {j} {x} p q d e) = r .has-variable i j x p q d e
-smallest R r (arguments {i} {j} {f} {a} {b} {us} {vs} d e l q m) =
-    r .has-arguments i j f us vs d e l (smallest R r q) a b m
+smallest R r (arguments {i} {j} {f} {g} {a} {b} {us} {vs} d e l q m) =
+    r .has-arguments i j f g us vs d e l (smallest R r q) a b m
 smallest R r (same {i} p) = r .has-same i p
 smallest R r (back {i} {j} q) = r .has-back i j (smallest R r q)
 smallest R r (on {i} {j} {k} p q) = r .has-on i j k (smallest R r p) (smallest R r q)
@@ -40,9 +40,9 @@ module _ (ns : List Node) (w : WellFormed ns) (ps : List (ℕ × ℕ)) (h : Insi
       (record {
         has-given = h;
         has-variable = λ i j x p q d e. (p, q);
-        has-arguments = λ i j f us vs d e l r a b m.
+        has-arguments = λ i j f g us vs d e l r a b m.
             let p : a < i = w .smaller i f us (r .0) d a (together-left us vs a b m) in
-            let q : b < j = w .smaller j f vs (r .1) e b (together-right us vs a b m) in
+            let q : b < j = w .smaller j g vs (r .1) e b (together-right us vs a b m) in
             let pi : i < length ns = r .0 in
             let qi : j < length ns = r .1 in
             (omega arith, omega arith);
@@ -61,19 +61,19 @@ module _ (ns : List Node) (w : WellFormed ns) (ps : List (ℕ × ℕ)) (h : Insi
     pub joined-equal : {i j : ℕ} → Joined ns ps i j → value ns σ i ≡ value ns σ j
     joined-equal (given {a} {b} m) = u a b m
     joined-equal (one-variable {i} {j} {x} p q d e) = value-variable ns w σ i x p d ∙ sym (value-variable ns w σ j x q e)
-    joined-equal (arguments {i} {j} {f} {a} {b} {us} {vs} d e l q m) =
+    joined-equal (arguments {i} {j} {f} {g} {a} {b} {us} {vs} d e l q m) =
         let p = joined-inside q in
-        each-at (value ns σ) (value ns σ) us vs (equal-arguments i j f f us vs (p .0) (p .1) d e (joined-equal q) .1) a b m
+        each-at (value ns σ) (value ns σ) us vs (equal-arguments i j f g us vs (p .0) (p .1) d e (joined-equal q) .1) a b m
     joined-equal (same p) = refl
     joined-equal (back q) = sym (joined-equal q)
     joined-equal (on p q) = joined-equal p ∙ joined-equal q
 
     -- so a clash stands only where there is no unifier
     pub clash-none : Clash ns ps → ⊥
-    clash-none c =
-        let p = joined-inside (c .joined) in
-        let r = equal-arguments (c .left) (c .right) (c .left-name) (c .right-name) (c .left-arguments) (c .right-arguments) (p .0) (p .1) (c .left-application) (c .right-application) (joined-equal (c .joined)) in
-        c .different (r .0, each-long (value ns σ) (value ns σ) (c .left-arguments) (c .right-arguments) (r .1))
+    clash-none (different {i} {j} {f} {g} {us} {vs} q d e n) =
+        let p = joined-inside q in
+        let r = equal-arguments i j f g us vs (p .0) (p .1) d e (joined-equal q) in
+        n (r .0, each-long (value ns σ) (value ns σ) us vs (r .1))
 
     -- what a class reaches is smaller
     reaches-smaller : {i j : ℕ} → Reaches ns ps i j → size (value ns σ j) < size (value ns σ i)
@@ -104,7 +104,7 @@ more-joined {ns} {ps} qs h =
     (record {
       has-given = λ a b m. given (h (a, b) m);
       has-variable = λ i j x p q d e. one-variable p q d e;
-      has-arguments = λ i j f us vs d e l r a b m. arguments d e l r m;
+      has-arguments = λ i j f g us vs d e l r a b m. arguments d e l r m;
       has-same = λ i p. same p;
       has-back = λ i j r. back r;
       has-on = λ i j k r s. on r s;

@@ -10,8 +10,9 @@ use lib.ListN.{length}
 use Rattle.terms.specs.Substitution.{Substitution}
 use Rattle.unify.specs.Node.{Node, WellFormed, Present}
 use Rattle.unify.specs.Unifier.{Inside, Unifies, Unifiable, MostGeneral}
-use Rattle.unify.specs.Closure.{Joined, Clash, Reaches, Occurs, step, steps}
-use Rattle.unify.specs.Words.{variablesOf, AreWords, Reads}
+use Rattle.unify.specs.Closure.{Joined, Clash, different, Reaches, Occurs, step, steps}
+use Rattle.unify.specs.Words.{AreWords, Reads}
+use Rattle.unify.specs.Computed.Variables.{variablesOf}
 use Rattle.unify.specs.Computed.Classes.{classOf, classes, clashes}
 use Rattle.unify.specs.Computed.Walks.{cyclic}
 use Rattle.unify.specs.Computed.Solution.{solution, headIn}
@@ -196,19 +197,7 @@ pub more-none : (ns : List Node) (ps qs : List (ℕ × ℕ)) → Among ps qs →
 more-none ns ps qs h n u = n (u .0, more-pairs ns ps qs h (u .0) (u .1))
 
 more-clash : (ns : List Node) (ps qs : List (ℕ × ℕ)) → Among ps qs → Clash ns ps → Clash ns qs
-more-clash ns ps qs h k =
-    record {
-      left = k .left;
-      right = k .right;
-      joined = more-joined qs h (k .joined);
-      left-name = k .left-name;
-      left-arguments = k .left-arguments;
-      right-name = k .right-name;
-      right-arguments = k .right-arguments;
-      left-application = k .left-application;
-      right-application = k .right-application;
-      different = k .different;
-    }
+more-clash ns ps qs h (different q d e n) = different (more-joined qs h q) d e n
 
 more-reaches : {ns : List Node} {ps : List (ℕ × ℕ)} (qs : List (ℕ × ℕ)) → Among ps qs → {i j : ℕ} → Reaches ns ps i j → Reaches ns qs i j
 more-reaches qs h (step p e m q) = step (more-joined qs h p) e m (more-joined qs h q)

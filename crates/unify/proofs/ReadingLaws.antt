@@ -11,7 +11,8 @@ use Rattle.terms.specs.Substitution.{Substitution, sub}
 use Rattle.terms.proofs.SizeLaws.{size, sizes}
 use Rattle.unify.specs.Node.{Node, variable, application, nodeAt, WellFormed, each, termOf, Present}
 use Rattle.unify.specs.Unifier.{Inside, value, Unifies, MostGeneral}
-use Rattle.unify.specs.Words.{variablesOf, readNodeAs, ReadsFrom, read, Reads}
+use Rattle.unify.specs.Words.{readNodeAs, ReadsFrom, read, Reads}
+use Rattle.unify.specs.Computed.Variables.{variablesOf}
 use Rattle.unify.proofs.NodeLaws.{each-same, each-size, value-variable, value-application, value-agree}
 use Rattle.unify.proofs.VariableLaws.{present-variables}
 

@@ -9,7 +9,7 @@ use Rattle.terms.specs.Term.{Term, var, app}
 use Rattle.terms.specs.Substitution.{Substitution, sub}
 use Rattle.unify.specs.Node.{Node, variable, application, nodeAt, WellFormed, each, spell, Present}
 use Rattle.unify.specs.Unifier.{Inside, value, Unifies, MostGeneral}
-use Rattle.unify.specs.Closure.{together, Joined, given, one-variable, arguments, same, back, on, Clash}
+use Rattle.unify.specs.Closure.{together, Joined, given, one-variable, arguments, same, back, on, Clash, different}
 use Rattle.unify.specs.Computed.Solution.{nodeOf, resolved, solution}
 use Rattle.unify.specs.Code.Solved.{HeadFits, Closed, Solved}
 use Rattle.unify.proofs.ListLaws.{together-back, together-through}
@@ -24,43 +24,48 @@ resolved-head zero ns head i j e = refl
 resolved-head (suc k) ns head i j e = ap (λ (c : ℕ). spell (resolved k ns head) (nodeAt ns c)) e
 
 module _ (ns : List Node) (w : WellFormed ns) (ps : List (ℕ × ℕ)) (h : Inside ns ps) (head : ℕ → ℕ) (s : Closed ns ps head) where
+  -- one head is one application
+  one-application : (i j f g : ℕ) (us vs : List ℕ) → head i ≡ head j → (x : HeadFits ns head i f us) (y : HeadFits ns head j g vs) → (f ≡ g) × (x .arguments ≡ y .arguments)
+  one-application i j f g us vs z x y =
+      let e : application f (x .arguments) ≡ application g (y .arguments) = sym (x .applied) ∙ ap (nodeAt ns) z ∙ y .applied in
+      (cc, cc)
+
   -- joined nodes have one head
   pub joined-head : {i j : ℕ} → Joined ns ps i j → head i ≡ head j
   joined-head (given {a} {b} m) = s .given a b m
   joined-head (one-variable {i} {j} {x} p q d e) = s .one-variable i j x p q d e
-  joined-head (arguments {i} {j} {f} {a} {b} {us} {vs} d e l q m) = go (joined-head q) (s .applications i f us (p .0) d) (s .applications j f vs (p .1) e)
+  joined-head (arguments {i} {j} {f} {g} {a} {b} {us} {vs} d e l q m) =
+      go (joined-head q) (s .applications i f us (p .0) d) (s .applications j g vs (p .1) e)
     where
       p : (i < length ns) × (j < length ns)
       p = joined-inside ns w ps h q
 
-      go : head i ≡ head j → HeadFits ns head i f us → HeadFits ns head j f vs → head a ≡ head b
+      go : head i ≡ head j → HeadFits ns head i f us → HeadFits ns head j g vs → head a ≡ head b
       go z x y = meet (t .0) (t .1) (t .2)
         where
           t : (c : ℕ) × List·Memᴰ (a, c) (together us (x .arguments)) × List·Memᴰ (c, b) (together (x .arguments) vs)
-          t = together-through us (x .arguments) vs (x .as-long) (sym (x .as-long) ∙ l) a b m
+          t = together-through us (x .arguments) vs (x .as-long) (sym (x .as-long) ∙ l .1) a b m
 
           meet : (c : ℕ) → List·Memᴰ (a, c) (together us (x .arguments)) → List·Memᴰ (c, b) (together (x .arguments) vs) → head a ≡ head b
           meet c k n =
-              let r : application f (x .arguments) ≡ application f (y .arguments) = sym (x .applied) ∙ ap (nodeAt ns) z ∙ y .applied in
-              let g : x .arguments ≡ y .arguments = cc in
-              x .one-head a c k ∙ sym (y .one-head b c (rw g at (together-back (x .arguments) vs c b n)))
+              let r = one-application i j f g us vs z x y in
+              x .one-head a c k ∙ sym (y .one-head b c (rw (r .1) at (together-back (x .arguments) vs c b n)))
   joined-head (same p) = refl
   joined-head (back q) = sym (joined-head q)
   joined-head (on p q) = joined-head p ∙ joined-head q
 
   -- heads leave no clash
   pub closed-no-clash : Clash ns ps → ⊥
-  closed-no-clash k = go (s .applications (k .left) (k .left-name) (k .left-arguments) (p .0) (k .left-application)) (s .applications (k .right) (k .right-name) (k .right-arguments) (p .1) (k .right-application))
+  closed-no-clash (different {i} {j} {f} {g} {us} {vs} q d e n) =
+      go (s .applications i f us (p .0) d) (s .applications j g vs (p .1) e)
     where
-      p : (k .left < length ns) × (k .right < length ns)
-      p = joined-inside ns w ps h (k .joined)
+      p : (i < length ns) × (j < length ns)
+      p = joined-inside ns w ps h q
 
-      go : HeadFits ns head (k .left) (k .left-name) (k .left-arguments) → HeadFits ns head (k .right) (k .right-name) (k .right-arguments) → ⊥
+      go : HeadFits ns head i f us → HeadFits ns head j g vs → ⊥
       go x y =
-          let e : application (k .left-name) (x .arguments) ≡ application (k .right-name) (y .arguments) = sym (x .applied) ∙ ap (nodeAt ns) (joined-head (k .joined)) ∙ y .applied in
-          let f : k .left-name ≡ k .right-name = cc in
-          let g : x .arguments ≡ y .arguments = cc in
-          k .different (f, x .as-long ∙ ap length g ∙ sym (y .as-long))
+          let r = one-application i j f g us vs (joined-head q) x y in
+          n (r .0, x .as-long ∙ ap length (r .1) ∙ sym (y .as-long))
 
 module _ (ns : List Node) (w : WellFormed ns) (ps : List (ℕ × ℕ)) (h : Inside ns ps) (head order : ℕ → ℕ) (s : Solved ns ps head order) where
   -- an argument of a head is a node, and comes before it

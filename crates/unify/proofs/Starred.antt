@@ -12,7 +12,7 @@ use Rattle.terms.specs.Term.{equal}
 use Rattle.terms.specs.Substitution.{sub}
 use Rattle.unify.specs.Node.{tabulate, readNode, nodesIn, each, spell, termWithin, termOf}
 use Rattle.unify.specs.Closure.{together}
-use Rattle.unify.specs.Words.{insert, variablesOf}
+use Rattle.unify.specs.Computed.Variables.{insert, variablesOf}
 use Rattle.unify.specs.Computed.Classes.{renamed, join, joinAll, sameSymbol, asks, gather, asked, round, rounds, classes, differ, clashAt, clashWith, clashes}
 use Rattle.unify.specs.Computed.Walks.{someMarked, leads, leadsAt, leadsFrom, walks, cyclic}
 use Rattle.unify.specs.Computed.Solution.{firstWith, leastNode, isApplication, isVariable, isNodeOf, nodeOf, resolved, solution, isApplicationIn, isVariableIn, headIn}

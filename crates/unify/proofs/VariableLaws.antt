@@ -10,7 +10,7 @@ use borrow.Author.Tests.{ltb-true, ltb-false, eqb-true, eqb-false}
 use lib.Dec.{eqb, ltb}
 use lib.ListN.{length}
 use Rattle.unify.specs.Node.{Node, variable, application, nodeAt, Present}
-use Rattle.unify.specs.Words.{insert, variablesOf}
+use Rattle.unify.specs.Computed.Variables.{insert, variablesOf}
 
 -- each number of a list is below all that come after it
 pub data Rising : List ℕ → Type 0 where

@@ -12,7 +12,8 @@ use Rattle.terms.specs.Substitution.{Substitution, sub, subs}
 use Rattle.terms.proofs.TermLaws.{equal-true, equal-refl}
 use Rattle.unify.specs.Node.{Node, variable, application, nodeAt, WellFormed, spell, each, termOf, Present}
 use Rattle.unify.specs.Unifier.{Inside, value, Unifies, MostGeneral}
-use Rattle.unify.specs.Words.{variablesOf, Least, BoundTo, IsWord, bound, free, AreWords, none, word, readNodeAs, ReadsFrom, end, read, Reads}
+use Rattle.unify.specs.Words.{Least, BoundTo, IsWord, bound, free, AreWords, none, word, readNodeAs, ReadsFrom, end, read, Reads}
+use Rattle.unify.specs.Computed.Variables.{variablesOf}
 use Rattle.unify.specs.Computed.Solution.{firstWith, leastNode, isApplication, nodeOf, resolved, solution}
 use Rattle.unify.specs.Computed.Binding.{isBoundTo, hasValue, wordFor, wordOf, bindingWords}
 use Rattle.unify.specs.Code.Solved.{Solved}
@@ -57,15 +58,9 @@ module _ (ns : List Node) (w : WellFormed ns) (ps : List (ℕ × ℕ)) where
   -- what is equal under a most general unifier is equal under every unifier
   module _ (σ τ : Substitution) (g : MostGeneral ns ps σ) (u : Unifies ns ps τ) (x : ℕ) (q : Present ns x) where
     bound-kept : {i : ℕ} → BoundTo ns σ (σ x) i → BoundTo ns τ (τ x) i
-    bound-kept {i} b =
+    bound-kept {i} (k, us, p, d, e) =
         let f = g .factors τ u in
-        record {
-          node = b .node;
-          name = b .name;
-          arguments = b .arguments;
-          applied = b .applied;
-          same-value = after-value σ τ (f .0) (f .1) i (b .node) ∙ ap (sub (f .0)) (b .same-value) ∙ sym (f .1 x q);
-        }
+        (k, us, p, d, after-value σ τ (f .0) (f .1) i p ∙ ap (sub (f .0)) e ∙ sym (f .1 x q))
 
     present-kept : {y : ℕ} → Present ns y × (σ y ≡ σ x) → Present ns y × (τ y ≡ τ x)
     present-kept {y} (p, e) =
@@ -111,7 +106,7 @@ Lowest ns σ = (x z : ℕ) → Present ns x → σ x ≡ var z → Least (λ y. 
 
 bound-true : (ns : List Node) (σ : Substitution) (t : Term) (i : ℕ) → BoundTo ns σ t i → isBoundTo ns σ t i ≡ true
 unfolding isBoundTo isApplication
-bound-true ns σ t i b = rw (b .applied, b .same-value) (equal-refl t)
+bound-true ns σ t i b = rw (b .3, b .4) (equal-refl t)
 
 true-bound : (ns : List Node) (σ : Substitution) (t : Term) (i : ℕ) → i < length ns → isBoundTo ns σ t i ≡ true → BoundTo ns σ t i
 unfolding isBoundTo isApplication
@@ -122,13 +117,7 @@ true-bound ns σ t i p e = go (nodeAt ns i) refl
         let z : false ≡ true = sym (ap isApplication d) ∙ and-true-left (isApplication (nodeAt ns i)) (equal (value ns σ i) t) e in
         absurd (false≢true z)
     go (application f us) d =
-        record {
-          node = p;
-          name = f;
-          arguments = us;
-          applied = d;
-          same-value = equal-true (value ns σ i) t (and-true-right (isApplication (nodeAt ns i)) (equal (value ns σ i) t) e);
-        }
+        (f, us, p, d, equal-true (value ns σ i) t (and-true-right (isApplication (nodeAt ns i)) (equal (value ns σ i) t) e))
 
 module _ (ns : List Node) (σ : Substitution) (held : Held ns σ) where
   free-word : (x z : ℕ) → Present ns x → σ x ≡ var z → IsWord ns σ x (wordFor ns σ (var z))
@@ -157,12 +146,12 @@ module _ (ns : List Node) (σ : Substitution) (held : Held ns σ) where
   unfolding wordFor
   bound-word x f ts q e =
       let h = held x f ts q e in
-      let p = h .1 .node in
+      let p = h .1 .2 in
       let b : isBoundTo ns σ (app f ts) (h .0) ≡ true = bound-true ns σ (app f ts) (h .0) (rw e at (h .1)) in
       bound {w = leastNode ns (isBoundTo ns σ (app f ts))} e
       (record {
         holds = rw e (true-bound ns σ (app f ts) _ (least-below ns (isBoundTo ns σ (app f ts)) (h .0) p b) (least-has ns (isBoundTo ns σ (app f ts)) (h .0) p b));
-        least = λ m c. least-least ns (isBoundTo ns σ (app f ts)) m (c .node) (bound-true ns σ (app f ts) m (rw e at c));
+        least = λ m c. least-least ns (isBoundTo ns σ (app f ts)) m (c .2) (bound-true ns σ (app f ts) m (rw e at c));
       })
 
   word-computed : (x : ℕ) → Present ns x → IsWord ns σ x (wordOf ns σ x)
@@ -185,7 +174,7 @@ module _ (ns : List Node) (σ : Substitution) (held : Held ns σ) where
   -- and where its variables are the lowest, the substitution is read from them
   reads-word : Lowest ns σ → (x v : ℕ) → Present ns x → IsWord ns σ x v → σ x ≡ readNodeAs σ (termOf ns v) (nodeAt ns v)
   unfolding readNodeAs
-  reads-word low x v q (bound e l) = sym (l .holds .same-value) ∙ ap (readNodeAs σ (termOf ns v)) (sym (l .holds .applied))
+  reads-word low x v q (bound e l) = sym (l .holds .4) ∙ ap (readNodeAs σ (termOf ns v)) (sym (l .holds .3))
   reads-word low x v q (free {z = z} {y = y} e l m) =
       let d : y ≡ z = least-one l (low x z q e) in
       e ∙ ap var (sym d) ∙ ap (readNodeAs σ (termOf ns v)) (sym (m .holds .1))
@@ -230,14 +219,7 @@ module _ (ns : List Node) (w : WellFormed ns) (ps : List (ℕ × ℕ)) (h : Insi
     where
       go : (o : Node) → nodeAt ns (head (nodeOf ns x)) ≡ o → BoundTo ns (solution k ns head) (solution k ns head x) (head (nodeOf ns x))
       go (variable y) d = not-both (solution k ns head x) f y ts e (spelt x q ∙ ap (spell (resolved k ns head)) d)
-      go (application g us) d =
-          record {
-            node = s .closed .inside (nodeOf ns x) (at x q);
-            name = g;
-            arguments = us;
-            applied = d;
-            same-value = head-value x q;
-          }
+      go (application g us) d = (g, us, s .closed .inside (nodeOf ns x) (at x q), d, head-value x q)
 
   -- what the words ask of the solution of a solved form
   pub solution-held : Held ns (solution k ns head)

@@ -5,8 +5,11 @@ use mathlib.Core.List.{List, [], _∷_, _++_}
 use lib.Dec.{leb, ltb}
 use lib.ListN.{length, drop}
 use Rattle.table.specs.Refusal.{conditions, firstHeld}
+use Rattle.table.specs.Answer.{numberOf}
+use Rattle.unify.specs.declared.Unification.{Unification}
+use Rattle.unify.specs.declared.Unification.the-variants.{Unified, Clash, Occurs, Refused}
 use Rattle.unify.specs.Node.{Node, nodesIn}
-use Rattle.unify.specs.Words.{variablesOf}
+use Rattle.unify.specs.Computed.Variables.{variablesOf}
 use Rattle.unify.specs.Outcome.{Outcome, unified, clash, occurs, outcome, wordsOf}
 
 -- "With V variables present"
@@ -26,6 +29,13 @@ unifyConditions t a b lent =
 pub data Answer : Type 0 where
   ended : Outcome → Answer
   refused : ℕ → Answer
+
+-- What an answer of `unify` stands for.
+abbrev pub told : Unification → Answer
+told Unified = ended unified
+told Clash = ended clash
+told Occurs = ended occurs
+told (Refused r) = refused (numberOf r)
 
 -- The answer, by the number of the first condition that holds, 0 where none does.
 unfoldable pub answerAfter : ℕ → Outcome → Answer

@@ -11,6 +11,10 @@ together [] vs = []
 together (a ∷ us) [] = []
 together (a ∷ us) (b ∷ vs) = (a, b) ∷ together us vs
 
+-- "Name and count together are its symbol": f applied to us and g applied to vs have one symbol.
+abbrev pub OneSymbol : ℕ → List ℕ → ℕ → List ℕ → Type 0
+OneSymbol f us g vs = (f ≡ g) × (length us ≡ length vs)
+
 -- "the smallest equivalence on nodes that [..]"
 pub data Joined (ns : List Node) (ps : List (ℕ × ℕ)) : ℕ → ℕ → Type 0 where
   -- "joins the two given nodes": here those of each given pair
@@ -18,24 +22,15 @@ pub data Joined (ns : List Node) (ps : List (ℕ × ℕ)) : ℕ → ℕ → Type
   -- "joins nodes of one variable"
   one-variable : {i j x : ℕ} → i < length ns → j < length ns → nodeAt ns i ≡ variable x → nodeAt ns j ≡ variable x → Joined ns ps i j
   -- "joins, position by position, the arguments of joined applications with one symbol"
-  arguments : {i j f a b : ℕ} {us vs : List ℕ} → nodeAt ns i ≡ application f us → nodeAt ns j ≡ application f vs → length us ≡ length vs → Joined ns ps i j → List·Memᴰ (a, b) (together us vs) → Joined ns ps a b
+  arguments : {i j f g a b : ℕ} {us vs : List ℕ} → nodeAt ns i ≡ application f us → nodeAt ns j ≡ application g vs → OneSymbol f us g vs → Joined ns ps i j → List·Memᴰ (a, b) (together us vs) → Joined ns ps a b
   -- an equivalence
   same : {i : ℕ} → i < length ns → Joined ns ps i i
   back : {i j : ℕ} → Joined ns ps i j → Joined ns ps j i
   on : {i j k : ℕ} → Joined ns ps i j → Joined ns ps j k → Joined ns ps i k
 
 -- "Clash: two applications of different symbols are joined."
-pub record Clash (ns : List Node) (ps : List (ℕ × ℕ)) : Type 0 where
-  pub left : ℕ
-  pub right : ℕ
-  pub joined : Joined ns ps left right
-  pub left-name : ℕ
-  pub left-arguments : List ℕ
-  pub right-name : ℕ
-  pub right-arguments : List ℕ
-  pub left-application : nodeAt ns left ≡ application left-name left-arguments
-  pub right-application : nodeAt ns right ≡ application right-name right-arguments
-  pub different : (left-name ≡ right-name) × (length left-arguments ≡ length right-arguments) → ⊥
+pub data Clash (ns : List Node) (ps : List (ℕ × ℕ)) : Type 0 where
+  different : {i j f g : ℕ} {us vs : List ℕ} → Joined ns ps i j → nodeAt ns i ≡ application f us → nodeAt ns j ≡ application g vs → (OneSymbol f us g vs → ⊥) → Clash ns ps
 
 -- The class of i reaches the class of j through arguments, in one step or in more.
 pub data Reaches (ns : List Node) (ps : List (ℕ × ℕ)) : ℕ → ℕ → Type 0 where

@@ -1,38 +1,22 @@
 -- "The unifier is given as one word for each variable present in the nodes section, in rising order of variable number."
 use Prim.Native.Nat.{ℕ, _<_, _≤_}
-use mathlib.Core.Bool.{cond}
 use mathlib.Core.List.{List, [], _∷_}
 use mathlib.Core.Path.{_≡_}
-use lib.Dec.{eqb, ltb}
 use lib.ListN.{length}
 use Rattle.terms.specs.Term.{Term, var, app, Terms}
 use Rattle.terms.specs.Substitution.{Substitution, sub}
 use Rattle.unify.specs.Node.{Node, variable, application, nodeAt, termOf, Present}
 use Rattle.unify.specs.Unifier.{value}
-
--- A number put in its place in a rising list, where it is not there yet.
-unfoldable pub insert : ℕ → List ℕ → List ℕ
-insert x [] = x ∷ []
-insert x (y ∷ ys) = cond (ltb x y) (x ∷ y ∷ ys) (cond (eqb x y) (y ∷ ys) (y ∷ insert x ys))
-
--- The variables present, in rising order (`variables-rise`, `variables-present`).
-unfoldable pub variablesOf : List Node → List ℕ
-variablesOf [] = []
-variablesOf (variable x ∷ ns) = insert x (variablesOf ns)
-variablesOf (application f us ∷ ns) = variablesOf ns
+use Rattle.unify.specs.Computed.Variables.{variablesOf}
 
 -- The least number with a property.
 pub record Least (P : ℕ → Type 0) (n : ℕ) : Type 0 where
   pub holds : P n
   pub least : (m : ℕ) → P m → n ≤ m
 
--- Node i is an application whose value is the term t.
-pub record BoundTo (ns : List Node) (σ : Substitution) (t : Term) (i : ℕ) : Type 0 where
-  pub node : i < length ns
-  pub name : ℕ
-  pub arguments : List ℕ
-  pub applied : nodeAt ns i ≡ application name arguments
-  pub same-value : value ns σ i ≡ t
+-- Node i is an application with the value t.
+abbrev pub BoundTo : List Node → Substitution → Term → ℕ → Type 0
+BoundTo ns σ t i = (f : ℕ) × (us : List ℕ) × (i < length ns) × (nodeAt ns i ≡ application f us) × (value ns σ i ≡ t)
 
 -- The word of variable x under the unifier σ.
 pub data IsWord (ns : List Node) (σ : Substitution) (x : ℕ) : ℕ → Type 0 where

@@ -6,7 +6,7 @@ use Rattle.terms.specs.Term.{Term, var, app, equal}
 use Rattle.terms.specs.Substitution.{Substitution, sub}
 use Rattle.unify.specs.Node.{Node, nodeAt, termOf}
 use Rattle.unify.specs.Unifier.{value}
-use Rattle.unify.specs.Words.{variablesOf}
+use Rattle.unify.specs.Computed.Variables.{variablesOf}
 use Rattle.unify.specs.Computed.Solution.{firstWith, leastNode, isApplication, nodeOf}
 
 unfoldable pub isBoundTo : List Node → Substitution → Term → ℕ → Bool

@@ -8,7 +8,7 @@ use Rattle.table.specs.Some.{someBelow}
 use Rattle.terms.specs.Term.{Term, var}
 use Rattle.terms.specs.Substitution.{Substitution}
 use Rattle.unify.specs.Node.{Node, variable, application, nodeAt, tabulate, spell}
-use Rattle.unify.specs.Words.{variablesOf}
+use Rattle.unify.specs.Computed.Variables.{variablesOf}
 use Rattle.unify.specs.Computed.Classes.{classOf}
 
 -- The first number of a list with a property; d where there is none.
