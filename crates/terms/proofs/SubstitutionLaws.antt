@@ -3,7 +3,7 @@
 use Prim.Native.Nat.{ℕ}
 use mathlib.Core.Path.{_≡_, refl, ap, ap₂}
 use Rattle.terms.specs.Term.{Term, var, app, Terms, nil, cons}
-use Rattle.terms.specs.Substitution.{Substitution, sub, subs, Holds, here, inside, HoldsIn, first, later}
+use Rattle.terms.specs.Substitution.{Substitution, sub, subs}
 
 -- one substitution after another is one substitution
 mutual
@@ -16,6 +16,16 @@ mutual
   subs-subs : (ρ σ : Substitution) (ts : Terms) → subs ρ (subs σ ts) ≡ subs (λ x. sub ρ (σ x)) ts
   subs-subs ρ σ nil = refl
   subs-subs ρ σ (cons t ts) = ap₂ cons (sub-sub ρ σ t) (subs-subs ρ σ ts)
+
+-- The term holds the variable x.
+mutual
+  pub data Holds (x : ℕ) : Term → Type 0 where
+    here : Holds x (var x)
+    inside : {f : ℕ} {ts : Terms} → HoldsIn x ts → Holds x (app f ts)
+
+  pub data HoldsIn (x : ℕ) : Terms → Type 0 where
+    first : {t : Term} {ts : Terms} → Holds x t → HoldsIn x (cons t ts)
+    later : {t : Term} {ts : Terms} → HoldsIn x ts → HoldsIn x (cons t ts)
 
 -- only the variables that a term holds matter
 mutual

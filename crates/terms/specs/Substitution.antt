@@ -15,13 +15,3 @@ unfoldable mutual
   pub subs : Substitution → Terms → Terms
   subs σ nil = nil
   subs σ (cons t ts) = cons (sub σ t) (subs σ ts)
-
--- The term holds the variable x.
-mutual
-  pub data Holds (x : ℕ) : Term → Type 0 where
-    here : Holds x (var x)
-    inside : {f : ℕ} {ts : Terms} → HoldsIn x ts → Holds x (app f ts)
-
-  pub data HoldsIn (x : ℕ) : Terms → Type 0 where
-    first : {t : Term} {ts : Terms} → Holds x t → HoldsIn x (cons t ts)
-    later : {t : Term} {ts : Terms} → HoldsIn x ts → HoldsIn x (cons t ts)

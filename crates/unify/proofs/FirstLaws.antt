@@ -63,13 +63,6 @@ first-least p d (y ∷ ys) (more b s) x m h = go (firstWith p d (y ∷ ys)) (fir
     go w (here e) r = least (List·Memᴰ·cases-cons m)
     go w (later e) r = r (further p x y ys e h m)
 
--- properties that agree on the list give one number
-pub first-same : (p q : ℕ → Bool) (d : ℕ) (xs : List ℕ) → ((x : ℕ) → List·Memᴰ x xs → p x ≡ q x) → firstWith p d xs ≡ firstWith q d xs
-unfolding firstWith
-first-same p q d [] h = refl
-first-same p q d (x ∷ xs) h =
-    rw (h x (List·Memᴰ·head refl), first-same p q d xs (λ y m. h y (List·Memᴰ·tail m)))
-
 -- the numbers below n
 below : (n i : ℕ) → i < n → List·Memᴰ i (tabulate n (λ i. i))
 unfolding tabulate
@@ -117,11 +110,6 @@ least-has ns p i h e = first-has p (length ns) _ i (below (length ns) i h) e
 pub least-least : (ns : List Node) (p : ℕ → Bool) (i : ℕ) → i < length ns → p i ≡ true → leastNode ns p ≤ i
 unfolding leastNode
 least-least ns p i h e = first-least p (length ns) _ (numbers-rise (length ns)) i (below (length ns) i h) e
-
--- properties that agree on the nodes give one node
-pub least-same : (ns : List Node) (p q : ℕ → Bool) → ((i : ℕ) → i < length ns → p i ≡ q i) → leastNode ns p ≡ leastNode ns q
-unfolding leastNode
-least-same ns p q h = first-same p q (length ns) _ (λ i m. h i (is-below (length ns) i m))
 
 is-variable : (x : ℕ) (n : Node) → isVariable x n ≡ true → n ≡ variable x
 unfolding isVariable
