@@ -1,6 +1,5 @@
 -- The size of a term: how many variables and applications it is made of. Assumes nothing.
-use Prim.Native.Nat.{ℕ, suc, _+_, _<_}
-use native.Mathlib.Omega.{arith}
+use Prim.Native.Nat.{ℕ, suc, _+_}
 use Rattle.terms.specs.Term.{Term, var, app, Terms, nil, cons}
 
 unfoldable mutual

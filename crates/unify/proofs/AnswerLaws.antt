@@ -1,8 +1,7 @@
 -- What the answer says of the lent words: unified is answered only if no condition holds, so that there is a word for each variable,
 -- and a binding word is made for each. By cases on the answer. Assumes nothing.
 use Prim.Native.Nat.{ℕ, zero, suc, _<_, _≤_}
-use mathlib.Core.Bool.{Bool, true, false}
-use mathlib.Core.List.{List, [], _∷_, _++_, List·Memᴰ, List·Memᴰ·head, List·Memᴰ·tail, List·Memᴰ·not-nil, List·Memᴰ·eq-of-singleton}
+use mathlib.Core.List.{List, [], _∷_, _++_, List·Memᴰ·eq-of-singleton}
 use mathlib.Core.Logic.{_↔_}
 use mathlib.Core.Path.{_≡_, refl, sym, ap, _∙_}
 use native.Mathlib.Omega.{arith}
@@ -19,7 +18,7 @@ use Rattle.table.specs.declared.Refusal.{Refusal}
 use Rattle.table.specs.Answer.{numberOf}
 use Rattle.table.proofs.AnswerLaws.{number-apart}
 use Rattle.unify.specs.declared.Unification.{Unification}
-use Rattle.unify.specs.Node.{nodesIn, WellFormed, Present}
+use Rattle.unify.specs.Node.{nodesIn}
 use Rattle.unify.specs.Unifier.{Inside, value, Unifies, MostGeneral}
 use Rattle.unify.specs.Closure.{Clash, Occurs}
 use Rattle.unify.specs.Words.{AreWords, Reads}
@@ -29,8 +28,7 @@ use Rattle.unify.specs.Outcome.{Outcome, unified, clash, occurs, outcome
 use Rattle.unify.specs.Answer.{told, variableCount, notNode, unifyConditions, Answer, ended, refused, answerAfter, unification, wordsAfter, lentAfter}
 use Rattle.unify.proofs.TableLaws.{well-formed}
 use Rattle.unify.proofs.JoinedLaws.{clash-none, cycle-none}
-use Rattle.unify.proofs.ReadingLaws.{reads-one}
-use Rattle.unify.proofs.OutcomeLaws.{outcome-clash, outcome-occurs, unifier-most-general, words-readable, reading-most-general, words-least}
+use Rattle.unify.proofs.OutcomeLaws.{outcome-clash, outcome-occurs, words-readable, reading-most-general, words-least}
 
 -- refusal n is given exactly if condition n holds and none before it
 pub unify-refused : (t : List ℕ) (a b lent n : ℕ) → firstHeld (unifyConditions t a b lent) ≡ n ↔ First n (unifyConditions t a b lent)
@@ -136,7 +134,7 @@ module _ (t : List ℕ) (a b : ℕ) (lent : List ℕ) where
     unified-reading σ q =
         reading-most-general (nodesIn t) (well-formed t (r .0 .table)) ((a, b) ∷ []) (one-pair (r .0)) (r .1) σ (rw (unified-words t a b lent e) at q)
 
-    pub unified-least : (σ : Substitution) → MostGeneral (nodesIn t) ((a, b) ∷ []) σ → AreWords (nodesIn t) σ (variablesOf (nodesIn t)) (take (variableCount t) (lentAfter t a b lent))
+    pub unified-least : (σ : Substitution) → MostGeneral (nodesIn t) ((a, b) ∷ []) σ → AreWords (nodesIn t) σ (take (variableCount t) (lentAfter t a b lent))
     unified-least σ g =
         rw (unified-words t a b lent e) (words-least (nodesIn t) (well-formed t (r .0 .table)) ((a, b) ∷ []) (one-pair (r .0)) σ g)
 

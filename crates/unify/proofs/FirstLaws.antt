@@ -111,12 +111,13 @@ pub least-least : (ns : List Node) (p : ℕ → Bool) (i : ℕ) → i < length n
 unfolding leastNode
 least-least ns p i h e = first-least p (length ns) _ (numbers-rise (length ns)) i (below (length ns) i h) e
 
-is-variable : (x : ℕ) (n : Node) → isVariable x n ≡ true → n ≡ variable x
+-- what the test of a variable's node says
+pub is-variable : (x : ℕ) (n : Node) → isVariable x n ≡ true → n ≡ variable x
 unfolding isVariable
 is-variable x (variable y) h = ap variable (sym (eqb-true x y h))
 is-variable x (application f us) h = let z : _≡_ {A = ℕ} 0 1 = cc in absurd (omega arith)
 
-of-variable : (x : ℕ) (n : Node) → n ≡ variable x → isVariable x n ≡ true
+pub of-variable : (x : ℕ) (n : Node) → n ≡ variable x → isVariable x n ≡ true
 unfolding isVariable
 of-variable x n e = rw e (eq-eqb x x refl)
 

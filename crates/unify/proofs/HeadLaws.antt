@@ -1,7 +1,7 @@
 -- Classes without clash and cycle are a solved form: heads by `headIn`, ordered by the longest walk. Assumes nothing.
-use Prim.Native.Nat.{ℕ, suc, _<_, _≤_}
+use Prim.Native.Nat.{ℕ, _<_, _≤_}
 use mathlib.Core.Bool.{Bool, true, false, cond, _&&_, false≢true}
-use mathlib.Core.List.{List, List·Memᴰ}
+use mathlib.Core.List.{List}
 use mathlib.Core.Path.{_≡_, refl, sym, ap, _∙_}
 use native.Mathlib.Decide.{ℕ-discrete}
 use native.Mathlib.Omega.{arith}
@@ -11,15 +11,14 @@ use lib.ListN.{length}
 use Rattle.table.specs.Some.{someBelow}
 use Rattle.table.proofs.SomeLaws.{some-means, none-some}
 use Rattle.table.proofs.BoolLaws.{and-true-left, and-true-right}
-use Rattle.unify.specs.Node.{Node, variable, application, nodeAt, WellFormed, Present}
+use Rattle.unify.specs.Node.{Node, variable, application, nodeAt, WellFormed}
 use Rattle.unify.specs.Unifier.{Inside}
-use Rattle.unify.specs.Closure.{together, OneSymbol, Joined, given, one-variable, arguments, same, back, on, Clash, different}
+use Rattle.unify.specs.Closure.{OneSymbol, Joined, given, one-variable, arguments, Clash, different}
 use Rattle.unify.specs.Computed.Variables.{variablesOf}
 use Rattle.unify.specs.Computed.Classes.{classOf}
 use Rattle.unify.specs.Computed.Walks.{cyclic}
 use Rattle.unify.specs.Computed.Solution.{firstWith, leastNode, isApplication, nodeOf, isApplicationIn, isVariableIn, headIn}
-use Rattle.unify.specs.Code.Solved.{HeadFits, Closed, Solved}
-use Rattle.unify.proofs.ListLaws.{together-left, together-right}
+use Rattle.unify.specs.Code.Solved.{HeadFits, Solved}
 use Rattle.unify.proofs.VariableLaws.{variables-rise, variables-present, present-variables}
 use Rattle.unify.proofs.FirstLaws.{first-in, first-has, first-least, least-below, least-has, node-of}
 use Rattle.unify.proofs.WalkLaws.{longest, longest-same, argument-shorter}

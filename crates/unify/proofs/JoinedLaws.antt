@@ -1,15 +1,15 @@
 -- What unifies the given pairs makes joined nodes equal, by induction on how they are joined. Assumes nothing.
-use Prim.Native.Nat.{ℕ, zero, suc, _+_, _<_, _≤_}
-use mathlib.Core.List.{List, [], _∷_, _++_, List·Memᴰ, List·Memᴰ·head, List·Memᴰ·tail, List·Memᴰ·not-nil, Memᴰ·append-left}
+use Prim.Native.Nat.{ℕ, suc, _<_, _≤_}
+use mathlib.Core.List.{List, List·Memᴰ}
 use mathlib.Core.Path.{_≡_, refl, sym, ap, _∙_}
 use native.Mathlib.Omega.{arith}
 use lib.ListN.{length}
-use Rattle.terms.specs.Term.{Term, var, app, Terms, nil, cons}
-use Rattle.terms.specs.Substitution.{Substitution, sub}
+use Rattle.terms.specs.Term.{app}
+use Rattle.terms.specs.Substitution.{Substitution}
 use Rattle.terms.proofs.SizeLaws.{size, sizes}
 use Rattle.unify.specs.Node.{Node, variable, application, nodeAt, WellFormed, each}
 use Rattle.unify.specs.Unifier.{Inside, value, Unifies}
-use Rattle.unify.specs.Closure.{together, OneSymbol, Joined, given, one-variable, arguments, same, back, on, Clash, different, Reaches, step, steps, Occurs}
+use Rattle.unify.specs.Closure.{together, OneSymbol, Joined, given, one-variable, arguments, same, back, on, Clash, different, Reaches, step, steps}
 use Rattle.unify.proofs.ListLaws.{together-left, together-right}
 use Rattle.unify.proofs.NodeLaws.{each-long, each-at, each-size, value-variable, value-application}
 

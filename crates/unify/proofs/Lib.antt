@@ -1,9 +1,11 @@
 -- Laws of the definitions, from the bottom up.
 pub mod ListLaws
+pub mod MatchedLaws
 pub mod NodeLaws
 pub mod JoinedLaws
 pub mod VariableLaws
 pub mod FirstLaws
+pub mod PresentLaws
 pub mod TableLaws
 pub mod PigeonLaws
 pub mod CountLaws

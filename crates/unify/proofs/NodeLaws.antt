@@ -1,11 +1,11 @@
 -- A node's term is made of its arguments' terms, and so is its value under a substitution: arguments have smaller numbers, so that the steps of `termOf` are enough.
 -- Only the variables present matter. Assumes nothing.
-use Prim.Native.Nat.{ℕ, zero, suc, _+_, _<_, _≤_}
+use Prim.Native.Nat.{ℕ, zero, suc, _<_, _≤_}
 use mathlib.Core.List.{List, [], _∷_, List·Memᴰ, List·Memᴰ·head, List·Memᴰ·tail, List·Memᴰ·not-nil}
 use mathlib.Core.Path.{_≡_, refl, sym, ap, _∙_}
 use native.Mathlib.Omega.{arith}
 use lib.ListN.{length}
-use Rattle.terms.specs.Term.{Term, var, app, Terms, nil, cons}
+use Rattle.terms.specs.Term.{Term, app, cons}
 use Rattle.terms.specs.Substitution.{Substitution, sub, subs}
 use Rattle.terms.proofs.SizeLaws.{size, sizes}
 use Rattle.unify.specs.Node.{Node, variable, application, nodeAt, WellFormed, each, spell, termWithin, termOf, Present}

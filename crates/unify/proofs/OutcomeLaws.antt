@@ -1,31 +1,30 @@
 -- What is computed is what document 01 says: clash and occurs where the closure has them, otherwise a most general unifier and its words.
 -- The classes either clash, or have a cycle, or are a solved form. Assumes nothing.
-use Prim.Native.Nat.{ℕ, suc, _<_, _≤_}
+use Prim.Native.Nat.{ℕ, suc, _<_}
 use mathlib.Core.Bool.{Bool, true, false, cond, false≢true}
 use mathlib.Core.List.{List, List·Memᴰ}
 use mathlib.Core.Logic.{_↔_}
-use mathlib.Core.Path.{_≡_, refl, sym, ap, _∙_}
+use mathlib.Core.Path.{_≡_, refl, sym, _∙_}
 use native.Mathlib.Omega.{arith}
 use lib.ListN.{length}
 use Rattle.terms.specs.Substitution.{Substitution}
 use Rattle.unify.specs.Node.{Node, WellFormed, Present}
 use Rattle.unify.specs.Unifier.{Inside, Unifies, Unifiable, MostGeneral}
-use Rattle.unify.specs.Closure.{Joined, Clash, different, Reaches, Occurs, step, steps}
+use Rattle.unify.specs.Closure.{Clash, different, Reaches, Occurs, step, steps}
 use Rattle.unify.specs.Words.{AreWords, Reads}
-use Rattle.unify.specs.Computed.Variables.{variablesOf}
-use Rattle.unify.specs.Computed.Classes.{classOf, classes, clashes}
+use Rattle.unify.specs.Computed.Classes.{classes, clashes}
 use Rattle.unify.specs.Computed.Walks.{cyclic}
 use Rattle.unify.specs.Computed.Solution.{solution, headIn}
 use Rattle.unify.specs.Computed.Binding.{bindingWords}
 use Rattle.unify.specs.Outcome.{Outcome, unified, clash, occurs, outcome, unifier, wordsOf}
 use Rattle.unify.specs.Code.Solved.{Closed, Solved}
 use Rattle.unify.proofs.JoinedLaws.{joined-inside, clash-none, cycle-none, more-pairs, more-joined}
-use Rattle.unify.proofs.VariableLaws.{variables-present}
 use Rattle.unify.proofs.ClassLaws.{class-joined, joined-class, clash-found, found-clash}
 use Rattle.unify.proofs.WalkLaws.{longest, longest-bound, cycle-found, found-cycle}
 use Rattle.unify.proofs.SolvedLaws.{closed-no-clash, solution-most-general}
 use Rattle.unify.proofs.HeadLaws.{head-lowest, classes-solved}
-use Rattle.unify.proofs.ReadingLaws.{reads-one, most-general-agree}
+use Rattle.unify.proofs.PresentLaws.{most-general-agree}
+use Rattle.unify.proofs.ReadingLaws.{reads-one}
 use Rattle.unify.proofs.WordLaws.{words-one, words-same, Held, words-computed, words-read, solution-held, solution-lowest}
 
 -- One of three holds, and neither of the others.
@@ -163,19 +162,19 @@ module _ (ns : List Node) (w : WellFormed ns) (ps : List (ℕ × ℕ)) (h : Insi
   pub one-reading : (σ τ : Substitution) → Reads ns (wordsOf ns ps) σ → Reads ns (wordsOf ns ps) τ → (x : ℕ) → Present ns x → σ x ≡ τ x
   one-reading σ τ r q = reads-one ns w (wordsOf ns ps) σ τ r q
 
-  computed-words : outcome ns ps ≡ unified → AreWords ns (unifier ns ps) (variablesOf ns) (wordsOf ns ps)
+  computed-words : outcome ns ps ≡ unified → AreWords ns (unifier ns ps) (wordsOf ns ps)
   unfolding SolvedForm unifier wordsOf
   computed-words e = words-computed ns (unifier ns ps) (held e)
 
   -- under every most general unifier each word is the least node that document 01 names
-  pub words-least : (σ : Substitution) → MostGeneral ns ps σ → AreWords ns σ (variablesOf ns) (wordsOf ns ps)
+  pub words-least : (σ : Substitution) → MostGeneral ns ps σ → AreWords ns σ (wordsOf ns ps)
   words-least σ g =
       let e = outcome-unified .1 (σ, g .unifies) in
-      words-same ns w ps (unifier ns ps) σ (unifier-most-general e) g (variables-present ns) (computed-words e)
+      words-same ns w ps (unifier ns ps) σ (unifier-most-general e) g (wordsOf ns ps) (computed-words e)
 
   -- words that are so under one most general unifier are the words
-  pub words-decided : (σ : Substitution) → MostGeneral ns ps σ → (ws : List ℕ) → AreWords ns σ (variablesOf ns) ws → wordsOf ns ps ≡ ws
-  words-decided σ g ws a = words-one (words-least σ g) a
+  pub words-decided : (σ : Substitution) → MostGeneral ns ps σ → (ws : List ℕ) → AreWords ns σ ws → wordsOf ns ps ≡ ws
+  words-decided σ g ws a = words-one ns σ (wordsOf ns ps) ws (words-least σ g) a
 
   -- a solved form, whatever its heads and order, decides: unified, with the words of its solution
   pub solved-decides : (head order : ℕ → ℕ) → Solved ns ps head order → (k : ℕ) → ((i : ℕ) → i < length ns → order (head i) < k) → (outcome ns ps ≡ unified) × (wordsOf ns ps ≡ bindingWords ns (solution k ns head))

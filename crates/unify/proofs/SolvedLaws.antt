@@ -1,13 +1,13 @@
 -- A solved form gives a most general unifier: each node stands for its head, and heads are spelt out in the order.
 -- A unifier makes a node equal to its head, so it is itself what comes after. Assumes nothing.
-use Prim.Native.Nat.{ℕ, zero, suc, _<_, _≤_}
+use Prim.Native.Nat.{ℕ, zero, suc, _<_}
 use mathlib.Core.List.{List, List·Memᴰ}
 use mathlib.Core.Path.{_≡_, refl, sym, ap, _∙_}
 use native.Mathlib.Omega.{arith}
 use lib.ListN.{length}
-use Rattle.terms.specs.Term.{Term, var, app}
+use Rattle.terms.specs.Term.{Term, app}
 use Rattle.terms.specs.Substitution.{Substitution, sub}
-use Rattle.unify.specs.Node.{Node, variable, application, nodeAt, WellFormed, each, spell, Present}
+use Rattle.unify.specs.Node.{Node, variable, application, nodeAt, WellFormed, each, spell}
 use Rattle.unify.specs.Unifier.{Inside, value, Unifies, MostGeneral}
 use Rattle.unify.specs.Closure.{together, Joined, given, one-variable, arguments, same, back, on, Clash, different}
 use Rattle.unify.specs.Computed.Solution.{nodeOf, resolved, solution}

@@ -1,4 +1,4 @@
--- Document 01's starred examples 8 to 12, by computation from the definitions. Assumes nothing.
+-- Document 01's starred examples 8 to 12, and some more, by computation from the definitions. Assumes nothing.
 use Prim.Native.Nat.{ℕ}
 use mathlib.Core.List.{List, [], _∷_, map}
 use mathlib.Core.Path.{_≡_, refl}
@@ -10,7 +10,7 @@ use Rattle.table.specs.Conditions.{tooFewWords, endBefore, offsetIsWrong, broke
 use Rattle.table.specs.Refusal.{conditions, firstHeld}
 use Rattle.terms.specs.Term.{equal}
 use Rattle.terms.specs.Substitution.{sub}
-use Rattle.unify.specs.Node.{tabulate, readNode, nodesIn, each, spell, termWithin, termOf}
+use Rattle.unify.specs.Node.{variable, application, tabulate, readNode, nodesIn, each, spell, termWithin, termOf}
 use Rattle.unify.specs.Closure.{together}
 use Rattle.unify.specs.Computed.Variables.{insert, variablesOf}
 use Rattle.unify.specs.Computed.Classes.{renamed, join, joinAll, sameSymbol, asks, gather, asked, round, rounds, classes, differ, clashAt, clashWith, clashes}
@@ -20,36 +20,94 @@ use Rattle.unify.specs.Computed.Binding.{isBoundTo, hasValue, wordFor, w
 use Rattle.unify.specs.Outcome.{unified, clash, occurs, outcome, unifier, wordsOf}
 use Rattle.unify.specs.Answer.{variableCount, notNode, unifyConditions, Answer, ended, refused, answerAfter, unification, wordsAfter, lentAfter}
 
--- example 8
-abbrev pub example-8 : List ℕ
-example-8 =
+-- 0 x, 1 f(x)
+abbrev pub x-fx : List ℕ
+x-fx =
     12 ∷ 8 ∷ 20 ∷ 1 ∷ 21 ∷ 0 ∷ 21 ∷ 0 ∷ 21 ∷ 0 ∷ 21 ∷ 0 ∷ 0 ∷ 0 ∷ 0 ∷ 0 ∷ 1 ∷ 3 ∷ 0 ∷ 1 ∷ 0 ∷ []
 
--- example 9
-abbrev pub example-9 : List ℕ
-example-9 =
+-- 0 x, 1 a, 2 b, 3 g(x), 4 f(x, a), 5 f(g(x), b)
+abbrev pub clash-and-cycle : List ℕ
+clash-and-cycle =
     12 ∷ 24 ∷ 36 ∷ 5 ∷ 41 ∷ 0 ∷ 41 ∷ 0 ∷ 41 ∷ 0 ∷ 41 ∷ 0 ∷ 0 ∷ 0 ∷ 0 ∷ 0 ∷ 1 ∷ 1 ∷ 0 ∷ 0 ∷ 1 ∷ 2 ∷ 0 ∷ 0 ∷ 1 ∷ 4 ∷ 0 ∷ 1 ∷ 1 ∷ 3 ∷ 1 ∷ 2 ∷ 1 ∷ 3 ∷ 3 ∷ 2 ∷ 0 ∷ 0 ∷ 1 ∷ 3 ∷ 2 ∷ []
 
--- example 10
-abbrev pub example-10 : List ℕ
-example-10 =
+-- 0 x, 1 a, 2 f(x), 3 p(x, x), 4 p(f(x), a)
+abbrev pub p-terms : List ℕ
+p-terms =
     12 ∷ 20 ∷ 32 ∷ 5 ∷ 37 ∷ 0 ∷ 37 ∷ 0 ∷ 37 ∷ 0 ∷ 37 ∷ 0 ∷ 0 ∷ 0 ∷ 0 ∷ 0 ∷ 1 ∷ 1 ∷ 0 ∷ 0 ∷ 1 ∷ 3 ∷ 0 ∷ 1 ∷ 1 ∷ 5 ∷ 1 ∷ 2 ∷ 1 ∷ 5 ∷ 3 ∷ 2 ∷ 0 ∷ 0 ∷ 0 ∷ 2 ∷ 1 ∷ []
 
--- example 11
-abbrev pub example-11 : List ℕ
-example-11 =
+-- 0 a, 1 f(a), 2 f(a, a)
+abbrev pub two-counts : List ℕ
+two-counts =
     12 ∷ 12 ∷ 24 ∷ 3 ∷ 27 ∷ 0 ∷ 27 ∷ 0 ∷ 27 ∷ 0 ∷ 27 ∷ 0 ∷ 1 ∷ 1 ∷ 0 ∷ 0 ∷ 1 ∷ 3 ∷ 0 ∷ 1 ∷ 1 ∷ 3 ∷ 1 ∷ 2 ∷ 0 ∷ 0 ∷ 0 ∷ []
 
--- example 12
-abbrev pub example-12 : List ℕ
-example-12 =
+-- 0 y, 1 x
+abbrev pub y-x : List ℕ
+y-x =
     12 ∷ 8 ∷ 20 ∷ 0 ∷ 20 ∷ 0 ∷ 20 ∷ 0 ∷ 20 ∷ 0 ∷ 20 ∷ 0 ∷ 0 ∷ 1 ∷ 0 ∷ 0 ∷ 0 ∷ 0 ∷ 0 ∷ 0 ∷ []
 
--- What unifying two nodes answers and leaves in three lent words.
-abbrev pub call : List ℕ → ℕ → ℕ → Answer × List ℕ
-call t a b = let lent : List ℕ = 7 ∷ 8 ∷ 9 ∷ [] in (unification t a b (length lent), lentAfter t a b lent)
+-- 0 variable 64
+abbrev pub wrong-name : List ℕ
+wrong-name =
+    12 ∷ 4 ∷ 16 ∷ 0 ∷ 16 ∷ 0 ∷ 16 ∷ 0 ∷ 16 ∷ 0 ∷ 16 ∷ 0 ∷ 0 ∷ 64 ∷ 0 ∷ 0 ∷ []
 
--- "x with f(x): occurs"; "clash"; "clash"; "clash"; "words 1 1"
-pub starred : call example-8 0 1 ∷ call example-9 4 5 ∷ call example-10 3 4 ∷ call example-11 1 2 ∷ call example-12 0 1 ∷ [] ≡ (ended occurs, 7 ∷ 8 ∷ 9 ∷ []) ∷ (ended clash, 7 ∷ 8 ∷ 9 ∷ []) ∷ (ended clash, 7 ∷ 8 ∷ 9 ∷ []) ∷ (ended clash, 7 ∷ 8 ∷ 9 ∷ []) ∷ (ended unified, 1 ∷ 1 ∷ 9 ∷ []) ∷ []
+-- 0 x, 1 y, 2 f(y), 3 f(x), 4 z, 5 p(x, z), 6 p(y, f(x))
+abbrev pub equal-values : List ℕ
+equal-values =
+    12 ∷ 28 ∷ 40 ∷ 6 ∷ 46 ∷ 0 ∷ 46 ∷ 0 ∷ 46 ∷ 0 ∷ 46 ∷ 0 ∷ 0 ∷ 0 ∷ 0 ∷ 0 ∷ 0 ∷ 1 ∷ 0 ∷ 0 ∷ 1 ∷ 3 ∷ 0 ∷ 1 ∷ 1 ∷ 3 ∷ 1 ∷ 1 ∷ 0 ∷ 2 ∷ 0 ∷ 0 ∷ 1 ∷ 5 ∷ 2 ∷ 2 ∷ 1 ∷ 5 ∷ 4 ∷ 2 ∷ 1 ∷ 0 ∷ 0 ∷ 4 ∷ 1 ∷ 3 ∷ []
+
+-- 0 x, 1 a, 2 a, 3 x, 4 a, 5 f(a, x), 6 f(a, a)
+abbrev pub repeats : List ℕ
+repeats =
+    12 ∷ 28 ∷ 40 ∷ 4 ∷ 44 ∷ 0 ∷ 44 ∷ 0 ∷ 44 ∷ 0 ∷ 44 ∷ 0 ∷ 0 ∷ 0 ∷ 0 ∷ 0 ∷ 1 ∷ 1 ∷ 0 ∷ 0 ∷ 1 ∷ 1 ∷ 0 ∷ 0 ∷ 0 ∷ 0 ∷ 0 ∷ 0 ∷ 1 ∷ 1 ∷ 0 ∷ 0 ∷ 1 ∷ 3 ∷ 0 ∷ 2 ∷ 1 ∷ 3 ∷ 2 ∷ 2 ∷ 1 ∷ 3 ∷ 2 ∷ 4 ∷ []
+
+-- 0 a, 1 variable 9, 2 variable 4
+abbrev pub apart : List ℕ
+apart =
+    12 ∷ 12 ∷ 24 ∷ 0 ∷ 24 ∷ 0 ∷ 24 ∷ 0 ∷ 24 ∷ 0 ∷ 24 ∷ 0 ∷ 1 ∷ 1 ∷ 0 ∷ 0 ∷ 0 ∷ 9 ∷ 0 ∷ 0 ∷ 0 ∷ 4 ∷ 0 ∷ 0 ∷ []
+
+-- A table, two of its nodes and lent words; then the answer and the lent words after the call.
+abbrev pub Example : Type 0
+Example = List ℕ × ℕ × ℕ × List ℕ × Answer × List ℕ
+
+abbrev pub examples : List Example
+examples =
+    -- 8: "x with f(x): occurs"
+    (x-fx, 0, 1, 7 ∷ 8 ∷ 9 ∷ [], ended occurs, 7 ∷ 8 ∷ 9 ∷ []) ∷
+    -- 9: "f(x, a) with f(g(x), b): clash"
+    (clash-and-cycle, 4, 5, 7 ∷ 8 ∷ 9 ∷ [], ended clash, 7 ∷ 8 ∷ 9 ∷ []) ∷
+    -- 10: "p(x, x) with p(f(x), a): clash"
+    (p-terms, 3, 4, 7 ∷ 8 ∷ 9 ∷ [], ended clash, 7 ∷ 8 ∷ 9 ∷ []) ∷
+    -- 11: "f(a) with f(a, a): clash"
+    (two-counts, 1, 2, 7 ∷ 8 ∷ 9 ∷ [], ended clash, 7 ∷ 8 ∷ 9 ∷ []) ∷
+    -- 12: "Node 0 y, node 1 x; node 0 with node 1: words 1 1"
+    (y-x, 0, 1, 7 ∷ 8 ∷ 9 ∷ [], ended unified, 1 ∷ 1 ∷ 9 ∷ []) ∷
+    -- as many words as variables
+    (y-x, 0, 1, 7 ∷ 8 ∷ [], ended unified, 1 ∷ 1 ∷ []) ∷
+    -- a word too few
+    (y-x, 0, 1, 7 ∷ [], refused 9, 7 ∷ []) ∷
+    -- 9 is tested before unifying
+    (x-fx, 0, 1, [], refused 9, []) ∷
+    -- 8 goes before 9
+    (y-x, 0, 2, 7 ∷ [], refused 8, 7 ∷ []) ∷
+    -- 4 goes before 8
+    (wrong-name, 0, 1, 7 ∷ [], refused 4, 7 ∷ []) ∷
+    -- z gets the value of node 3, and the word of the least node with that value, which nothing joins with node 3
+    (equal-values, 5, 6, 7 ∷ 8 ∷ 9 ∷ [], ended unified, 0 ∷ 0 ∷ 2 ∷ []) ∷
+    -- the least of three nodes of one constant
+    (repeats, 5, 6, 7 ∷ [], ended unified, 1 ∷ []) ∷
+    -- variables in neither term, in rising order
+    (apart, 0, 0, 7 ∷ 8 ∷ [], ended unified, 2 ∷ 1 ∷ []) ∷
+    []
+
+abbrev pub computed : Example → Answer × List ℕ
+computed e = (unification (e .0) (e .1) (e .2) (length (e .3)), lentAfter (e .0) (e .1) (e .2) (e .3))
+
+-- what the definitions compute is what the examples say
+pub starred : map computed examples ≡ map (λ e. (e .4, e .5)) examples
 unfolding ℕ-discrete countsBefore someBelow tooFewWords endBefore offsetIsWrong brokenPair sectionIsLong overLimit rightVariable startOf rightApplication rightNode nodeIsWrong nodesAreWrong wrongNode argumentIsWrong runIsWrong wrongArgument termIsWrong wrongTerm labelsAreEqual labelIsWrong wrongLabel conditions firstHeld equal sub tabulate readNode nodesIn each spell termWithin termOf together insert variablesOf renamed join joinAll sameSymbol asks gather asked round rounds classes differ clashAt clashWith clashes someMarked leads leadsAt leadsFrom walks cyclic firstWith leastNode isApplication isVariable isNodeOf nodeOf resolved solution isApplicationIn isVariableIn headIn isBoundTo hasValue wordFor wordOf bindingWords outcome unifier wordsOf variableCount notNode unifyConditions answerAfter unification wordsAfter lentAfter
 starred = refl
+
+-- x with a and x with b, together: {x, x} and {a, b} has no entry
+pub pairs-together : outcome (variable 0 ∷ application 1 [] ∷ application 2 [] ∷ []) ((0, 1) ∷ (0, 2) ∷ []) ≡ clash
+unfolding someBelow tabulate together renamed join joinAll sameSymbol asks gather asked round rounds classes differ clashAt clashWith clashes someMarked leads leadsAt leadsFrom walks cyclic outcome
+pairs-together = refl

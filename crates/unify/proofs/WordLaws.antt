@@ -1,8 +1,8 @@
 -- The word of a variable is one number, the same under every most general unifier: two of them make the same nodes equal.
 -- Under the solution of a solved form it exists, is what `wordOf` computes, and is read back as the solution. Assumes nothing.
-use Prim.Native.Nat.{ℕ, zero, suc, _<_, _≤_}
-use mathlib.Core.Bool.{Bool, true, false, _&&_, false≢true}
-use mathlib.Core.List.{List, [], _∷_, map, List·Memᴰ, List·Memᴰ·head, List·Memᴰ·tail}
+use Prim.Native.Nat.{ℕ, _<_, _≤_}
+use mathlib.Core.Bool.{true, false, false≢true}
+use mathlib.Core.List.{List, List·Memᴰ}
 use mathlib.Core.Path.{_≡_, refl, sym, ap, _∙_}
 use native.Mathlib.Omega.{arith}
 use lib.ListN.{length}
@@ -10,17 +10,18 @@ use Rattle.table.proofs.BoolLaws.{and-true-left, and-true-right}
 use Rattle.terms.specs.Term.{Term, var, app, Terms, equal}
 use Rattle.terms.specs.Substitution.{Substitution, sub, subs}
 use Rattle.terms.proofs.TermLaws.{equal-true, equal-refl}
-use Rattle.unify.specs.Node.{Node, variable, application, nodeAt, WellFormed, spell, each, termOf, Present}
+use Rattle.unify.specs.Node.{Node, variable, application, nodeAt, WellFormed, spell, Present}
 use Rattle.unify.specs.Unifier.{Inside, value, Unifies, MostGeneral}
-use Rattle.unify.specs.Words.{Least, BoundTo, IsWord, bound, free, AreWords, none, word, readNodeAs, ReadsFrom, end, read, Reads}
+use Rattle.unify.specs.Words.{Least, BoundTo, IsWord, bound, free, AreWords, IsRead, of-variable, of-application, Reads}
 use Rattle.unify.specs.Computed.Variables.{variablesOf}
 use Rattle.unify.specs.Computed.Solution.{firstWith, leastNode, isApplication, nodeOf, resolved, solution}
 use Rattle.unify.specs.Computed.Binding.{isBoundTo, hasValue, wordFor, wordOf, bindingWords}
 use Rattle.unify.specs.Code.Solved.{Solved}
+use Rattle.unify.proofs.MatchedLaws.{matched-map, matched-one, matched-by}
 use Rattle.unify.proofs.NodeLaws.{subs-each, value-variable, value-application, values-same}
 use Rattle.unify.proofs.VariableLaws.{variables-rise, variables-present, present-variables}
 use Rattle.unify.proofs.FirstLaws.{first-in, first-has, first-least, least-below, least-has, least-least, node-of}
-use Rattle.unify.proofs.SolvedLaws.{resolved-head, joined-head, resolved-node, value-resolved, solution-most-general}
+use Rattle.unify.proofs.SolvedLaws.{resolved-head, joined-head, resolved-node, value-resolved}
 
 least-one : {P : ℕ → Type 0} {m n : ℕ} → Least P m → Least P n → m ≡ n
 least-one {P} {m} {n} a b =
@@ -39,13 +40,9 @@ word-one {ns} {σ} {x} (free d a b) (bound e c) = not-both (σ x) _ _ _ e d
 word-one {ns} (free {w = v} d a b) (free {w = w} e c f) =
     least-one b (rw (least-one c a) at f)
 
--- a list of variables has one list of words
-pub words-one : {ns : List Node} {σ : Substitution} {xs vs ws : List ℕ} → AreWords ns σ xs vs → AreWords ns σ xs ws → vs ≡ ws
-words-one none none = refl
-words-one (word a as-a) (word b bs-b) =
-    let e = word-one a b in
-    let r = words-one as-a bs-b in
-    rw (e, r)
+-- a unifier has one list of words
+pub words-one : (ns : List Node) (σ : Substitution) (vs ws : List ℕ) → AreWords ns σ vs → AreWords ns σ ws → vs ≡ ws
+words-one ns σ vs ws = matched-one (λ x v w a b. word-one a b)
 
 module _ (ns : List Node) (w : WellFormed ns) (ps : List (ℕ × ℕ)) where
   after-value : (σ τ ρ : Substitution) → ((x : ℕ) → Present ns x → τ x ≡ sub ρ (σ x)) → (i : ℕ) → i < length ns → value ns τ i ≡ sub ρ (value ns σ i)
@@ -91,10 +88,8 @@ module _ (ns : List Node) (w : WellFormed ns) (ps : List (ℕ × ℕ)) where
           })
           n
 
-  pub words-same : (σ τ : Substitution) → MostGeneral ns ps σ → MostGeneral ns ps τ → {xs vs : List ℕ} → ((x : ℕ) → List·Memᴰ x xs → Present ns x) → AreWords ns σ xs vs → AreWords ns τ xs vs
-  words-same σ τ g h q none = none
-  words-same σ τ g h q (word {x = x} {w = v} a r) =
-      word (word-same σ τ g h x v (q x (List·Memᴰ·head refl)) a) (words-same σ τ g h (λ y m. q y (List·Memᴰ·tail m)) r)
+  pub words-same : (σ τ : Substitution) → MostGeneral ns ps σ → MostGeneral ns ps τ → (vs : List ℕ) → AreWords ns σ vs → AreWords ns τ vs
+  words-same σ τ g h vs = matched-map (λ x v m a. word-same σ τ g h x v (variables-present ns x m) a)
 
 -- The value of a variable that is an application is the value of an application node.
 abbrev pub Held : List Node → Substitution → Type 0
@@ -162,30 +157,19 @@ module _ (ns : List Node) (σ : Substitution) (held : Held ns σ) where
       go (var z) e = free-word x z q e
       go (app f ts) e = bound-word x f ts q e
 
-  computed : (xs : List ℕ) → ((x : ℕ) → List·Memᴰ x xs → Present ns x) → AreWords ns σ xs (map (wordOf ns σ) xs)
-  computed [] q = none
-  computed (x ∷ xs) q = word (word-computed x (q x (List·Memᴰ·head refl))) (computed xs (λ y m. q y (List·Memᴰ·tail m)))
-
   -- what `bindingWords` computes are the words
-  pub words-computed : AreWords ns σ (variablesOf ns) (bindingWords ns σ)
+  pub words-computed : AreWords ns σ (bindingWords ns σ)
   unfolding bindingWords
-  words-computed = computed (variablesOf ns) (variables-present ns)
+  words-computed = matched-by (wordOf ns σ) (variablesOf ns) (λ x m. word-computed x (variables-present ns x m))
 
   -- and where its variables are the lowest, the substitution is read from them
-  reads-word : Lowest ns σ → (x v : ℕ) → Present ns x → IsWord ns σ x v → σ x ≡ readNodeAs σ (termOf ns v) (nodeAt ns v)
-  unfolding readNodeAs
-  reads-word low x v q (bound e l) = sym (l .holds .4) ∙ ap (readNodeAs σ (termOf ns v)) (sym (l .holds .3))
+  reads-word : Lowest ns σ → (x v : ℕ) → Present ns x → IsWord ns σ x v → IsRead ns σ x v
+  reads-word low x v q (bound e l) = of-application (l .holds .2) (l .holds .3) (sym (l .holds .4))
   reads-word low x v q (free {z = z} {y = y} e l m) =
-      let d : y ≡ z = least-one l (low x z q e) in
-      e ∙ ap var (sym d) ∙ ap (readNodeAs σ (termOf ns v)) (sym (m .holds .1))
-
-  reads-words : Lowest ns σ → {xs vs : List ℕ} → ((x : ℕ) → List·Memᴰ x xs → Present ns x) → AreWords ns σ xs vs → ReadsFrom ns σ xs vs
-  reads-words low q none = end
-  reads-words low q (word {x = x} {w = v} a r) =
-      read (reads-word low x v (q x (List·Memᴰ·head refl)) a) (reads-words low (λ y m. q y (List·Memᴰ·tail m)) r)
+      of-variable (m .holds .0) (m .holds .1) (e ∙ ap var (sym (least-one l (low x z q e))))
 
   pub words-read : Lowest ns σ → Reads ns (bindingWords ns σ) σ
-  words-read low = reads-words low (variables-present ns) words-computed
+  words-read low = matched-map (λ x v m a. reads-word low x v (variables-present ns x m) a) words-computed
 
 module _ (ns : List Node) (w : WellFormed ns) (ps : List (ℕ × ℕ)) (h : Inside ns ps) (head order : ℕ → ℕ) (s : Solved ns ps head order) (k : ℕ) (enough : (i : ℕ) → i < length ns → order (head i) < k) where
   -- the variable's node, and what its head is

@@ -8,7 +8,7 @@ use Rattle.table.specs.Refusal.{conditions, firstHeld}
 use Rattle.table.specs.Answer.{numberOf}
 use Rattle.unify.specs.declared.Unification.{Unification}
 use Rattle.unify.specs.declared.Unification.the-variants.{Unified, Clash, Occurs, Refused}
-use Rattle.unify.specs.Node.{Node, nodesIn}
+use Rattle.unify.specs.Node.{nodesIn}
 use Rattle.unify.specs.Computed.Variables.{variablesOf}
 use Rattle.unify.specs.Outcome.{Outcome, unified, clash, occurs, outcome, wordsOf}
 

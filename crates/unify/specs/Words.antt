@@ -4,8 +4,8 @@ use mathlib.Core.List.{List, [], _∷_}
 use mathlib.Core.Path.{_≡_}
 use lib.ListN.{length}
 use Rattle.terms.specs.Term.{Term, var, app, Terms}
-use Rattle.terms.specs.Substitution.{Substitution, sub}
-use Rattle.unify.specs.Node.{Node, variable, application, nodeAt, termOf, Present}
+use Rattle.terms.specs.Substitution.{Substitution}
+use Rattle.unify.specs.Node.{Node, variable, application, nodeAt, Present}
 use Rattle.unify.specs.Unifier.{value}
 use Rattle.unify.specs.Computed.Variables.{variablesOf}
 
@@ -25,20 +25,22 @@ pub data IsWord (ns : List Node) (σ : Substitution) (x : ℕ) : ℕ → Type 0 
   -- "Otherwise the word is the least node of the lowest-numbered variable that has the same value."
   free : {z y w : ℕ} → σ x ≡ var z → Least (λ u. Present ns u × (σ u ≡ σ x)) y → Least (λ i. (i < length ns) × (nodeAt ns i ≡ variable y)) w → IsWord ns σ x w
 
--- "one word for each variable": the words of a list of variables.
-pub data AreWords (ns : List Node) (σ : Substitution) : List ℕ → List ℕ → Type 0 where
-  none : AreWords ns σ [] []
-  word : {x w : ℕ} {xs ws : List ℕ} → IsWord ns σ x w → AreWords ns σ xs ws → AreWords ns σ (x ∷ xs) (w ∷ ws)
+-- How a word is read: the value of variable x by its word w.
+pub data IsRead (ns : List Node) (σ : Substitution) (x w : ℕ) : Type 0 where
+  -- "a variable whose word is a variable node has that node's variable as its value"
+  of-variable : {y : ℕ} → w < length ns → nodeAt ns w ≡ variable y → σ x ≡ var y → IsRead ns σ x w
+  -- "one whose word is an application node has that node's term, with the variables in it replaced by their values in turn"
+  of-application : {f : ℕ} {us : List ℕ} → w < length ns → nodeAt ns w ≡ application f us → σ x ≡ value ns σ w → IsRead ns σ x w
 
--- "a variable whose word is a variable node has that node's variable as its value; one whose word is an application node has that node's term, with the variables in it replaced by their values in turn"
-unfoldable pub readNodeAs : Substitution → Term → Node → Term
-readNodeAs σ t (variable y) = var y
-readNodeAs σ t (application f us) = sub σ t
+-- "one word for each variable": the relation holds of the numbers at one position.
+pub data Matched (R : ℕ → ℕ → Type 0) : List ℕ → List ℕ → Type 0 where
+  none : Matched R [] []
+  next : {x w : ℕ} {xs ws : List ℕ} → R x w → Matched R xs ws → Matched R (x ∷ xs) (w ∷ ws)
 
-pub data ReadsFrom (ns : List Node) (σ : Substitution) : List ℕ → List ℕ → Type 0 where
-  end : ReadsFrom ns σ [] []
-  read : {x w : ℕ} {xs ws : List ℕ} → σ x ≡ readNodeAs σ (termOf ns w) (nodeAt ns w) → ReadsFrom ns σ xs ws → ReadsFrom ns σ (x ∷ xs) (w ∷ ws)
+-- The binding words of a unifier.
+abbrev pub AreWords : List Node → Substitution → List ℕ → Type 0
+AreWords ns σ ws = Matched (IsWord ns σ) (variablesOf ns) ws
 
 -- The substitution is read from the binding words.
 abbrev pub Reads : List Node → List ℕ → Substitution → Type 0
-Reads ns ws σ = ReadsFrom ns σ (variablesOf ns) ws
+Reads ns ws σ = Matched (IsRead ns σ) (variablesOf ns) ws

@@ -3,8 +3,8 @@ use Prim.Native.Nat.{ℕ}
 use mathlib.Core.Bool.{Bool, _&&_}
 use mathlib.Core.List.{List, map}
 use Rattle.terms.specs.Term.{Term, var, app, equal}
-use Rattle.terms.specs.Substitution.{Substitution, sub}
-use Rattle.unify.specs.Node.{Node, nodeAt, termOf}
+use Rattle.terms.specs.Substitution.{Substitution}
+use Rattle.unify.specs.Node.{Node, nodeAt}
 use Rattle.unify.specs.Unifier.{value}
 use Rattle.unify.specs.Computed.Variables.{variablesOf}
 use Rattle.unify.specs.Computed.Solution.{firstWith, leastNode, isApplication, nodeOf}
