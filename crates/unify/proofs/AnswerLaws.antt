@@ -24,7 +24,8 @@ use Rattle.unify.specs.Closure.{Clash, Occurs}
 use Rattle.unify.specs.Words.{AreWords, Reads}
 use Rattle.unify.specs.Computed.Variables.{variablesOf}
 use Rattle.unify.specs.Computed.Binding.{wordOf, bindingWords}
-use Rattle.unify.specs.Outcome.{Outcome, unified, clash, occurs, outcome, unifier, wordsOf}
+use Rattle.unify.specs.Outcome.{Outcome, unified, clash, occurs}
+use Rattle.unify.specs.Computed.Unifying.{outcome, unifier, wordsOf}
 use Rattle.unify.specs.Answer.{told, variableCount, notNode, unifyConditions, Answer, ended, refused, answerAfter, unification, wordsAfter, lentAfter}
 use Rattle.unify.proofs.TableLaws.{well-formed}
 use Rattle.unify.proofs.JoinedLaws.{clash-none, cycle-none}

@@ -16,7 +16,8 @@ use Rattle.unify.specs.Computed.Classes.{classes, clashes}
 use Rattle.unify.specs.Computed.Walks.{cyclic}
 use Rattle.unify.specs.Computed.Solution.{solution, headIn}
 use Rattle.unify.specs.Computed.Binding.{bindingWords}
-use Rattle.unify.specs.Outcome.{Outcome, unified, clash, occurs, outcome, unifier, wordsOf}
+use Rattle.unify.specs.Outcome.{Outcome, unified, clash, occurs}
+use Rattle.unify.specs.Computed.Unifying.{outcome, unifier, wordsOf}
 use Rattle.unify.specs.Code.Solved.{Closed, Solved}
 use Rattle.unify.proofs.JoinedLaws.{joined-inside, clash-none, cycle-none, more-pairs, more-joined}
 use Rattle.unify.proofs.ClassLaws.{class-joined, joined-class, clash-found, found-clash}

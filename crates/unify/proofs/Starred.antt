@@ -17,7 +17,8 @@ use Rattle.unify.specs.Computed.Classes.{renamed, join, joinAll, sameSym
 use Rattle.unify.specs.Computed.Walks.{someMarked, leads, leadsAt, leadsFrom, walks, cyclic}
 use Rattle.unify.specs.Computed.Solution.{firstWith, leastNode, isApplication, isVariable, isNodeOf, nodeOf, resolved, solution, isApplicationIn, isVariableIn, headIn}
 use Rattle.unify.specs.Computed.Binding.{isBoundTo, hasValue, wordFor, wordOf, bindingWords}
-use Rattle.unify.specs.Outcome.{unified, clash, occurs, outcome, unifier, wordsOf}
+use Rattle.unify.specs.Outcome.{unified, clash, occurs}
+use Rattle.unify.specs.Computed.Unifying.{outcome, unifier, wordsOf}
 use Rattle.unify.specs.Answer.{variableCount, notNode, unifyConditions, Answer, ended, refused, answerAfter, unification, wordsAfter, lentAfter}
 
 -- 0 x, 1 f(x)

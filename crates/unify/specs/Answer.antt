@@ -10,7 +10,8 @@ use Rattle.unify.specs.declared.Unification.{Unification}
 use Rattle.unify.specs.declared.Unification.the-variants.{Unified, Clash, Occurs, Refused}
 use Rattle.unify.specs.Node.{nodesIn}
 use Rattle.unify.specs.Computed.Variables.{variablesOf}
-use Rattle.unify.specs.Outcome.{Outcome, unified, clash, occurs, outcome, wordsOf}
+use Rattle.unify.specs.Outcome.{Outcome, unified, clash, occurs}
+use Rattle.unify.specs.Computed.Unifying.{outcome, wordsOf}
 
 -- "With V variables present"
 unfoldable pub variableCount : List ℕ → ℕ

@@ -4,3 +4,4 @@ pub mod Classes
 pub mod Walks
 pub mod Solution
 pub mod Binding
+pub mod Unifying

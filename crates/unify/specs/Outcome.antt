@@ -1,28 +1,7 @@
--- What unifying a list of pairs of nodes comes to, as definitions that compute.
-use Prim.Native.Nat.{ℕ, suc}
-use mathlib.Core.Bool.{cond}
-use mathlib.Core.List.{List}
-use lib.ListN.{length}
-use Rattle.terms.specs.Substitution.{Substitution}
-use Rattle.unify.specs.Node.{Node}
-use Rattle.unify.specs.Computed.Classes.{classes, clashes}
-use Rattle.unify.specs.Computed.Walks.{cyclic}
-use Rattle.unify.specs.Computed.Solution.{solution, headIn}
-use Rattle.unify.specs.Computed.Binding.{bindingWords}
+-- What unifying a list of pairs of nodes comes to.
 
+-- "The answer is unified, clash or occurs."
 pub data Outcome : Type 0 where
   unified : Outcome
   clash : Outcome
   occurs : Outcome
-
--- "Here clash goes first."
-unfoldable pub outcome : List Node → List (ℕ × ℕ) → Outcome
-outcome ns ps = cond (clashes ns (classes ns ps)) clash (cond (cyclic ns (classes ns ps)) occurs unified)
-
--- The most general unifier of pairs that are unified.
-unfoldable pub unifier : List Node → List (ℕ × ℕ) → Substitution
-unifier ns ps = solution (suc (length ns)) ns (headIn ns (classes ns ps))
-
--- Its binding words.
-unfoldable pub wordsOf : List Node → List (ℕ × ℕ) → List ℕ
-wordsOf ns ps = bindingWords ns (unifier ns ps)

@@ -1,4 +1,4 @@
--- The binding words of a unifier (`words-mean`).
+-- The binding words of a unifier (`words-computed`).
 use Prim.Native.Nat.{ℕ}
 use mathlib.Core.Bool.{Bool, _&&_}
 use mathlib.Core.List.{List, map}

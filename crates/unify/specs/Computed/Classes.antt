@@ -1,4 +1,4 @@
--- The classes of the closure, as a list that names one node of each node's class (`joined-means`), and whether they clash.
+-- The classes of the closure, as a list that names one node of each node's class (`class-joined`, `joined-class`), and whether they clash.
 use Prim.Native.Nat.{ℕ, zero, suc}
 use mathlib.Core.Bool.{Bool, false, not, cond, _&&_}
 use mathlib.Core.List.{List, [], _∷_, _++_, map}

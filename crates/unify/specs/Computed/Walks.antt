@@ -1,4 +1,4 @@
--- Walks through arguments. One of as many steps as there are nodes comes to a class twice (`walk-cycle`).
+-- Walks through arguments. One of as many steps as there are nodes comes to a class twice (`cycle-found`, `found-cycle`).
 use Prim.Native.Nat.{ℕ, zero, suc}
 use mathlib.Core.Bool.{Bool, true, false, _&&_, _||_}
 use mathlib.Core.List.{List, [], _∷_}
