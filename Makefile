@@ -4,6 +4,6 @@
 test:
 	@tools/test
 
-# The files that a reader has to believe, with their lines.
+# The files that a reader has to believe, with their lines of definitions.
 believed:
 	@tools/believed
