@@ -93,10 +93,6 @@ module _ (ns : List Node) (w : WellFormed ns) (ps : List (ℕ × ℕ)) (h : Insi
     pub cycle-none : (i : ℕ) → Reaches ns ps i i → ⊥
     cycle-none i r = let l : size (value ns σ i) < size (value ns σ i) = reaches-smaller r in omega arith
 
--- a list of pairs that has no unifier has none with more pairs added
-pub more-pairs : (ns : List Node) (ps qs : List (ℕ × ℕ)) → ((p : ℕ × ℕ) → List·Memᴰ p ps → List·Memᴰ p qs) → (σ : Substitution) → Unifies ns qs σ → Unifies ns ps σ
-more-pairs ns ps qs h σ u a b m = u a b (h (a, b) m)
-
 -- with more pairs more is joined
 pub more-joined : {ns : List Node} {ps : List (ℕ × ℕ)} (qs : List (ℕ × ℕ)) → ((p : ℕ × ℕ) → List·Memᴰ p ps → List·Memᴰ p qs) → {i j : ℕ} → Joined ns ps i j → Joined ns qs i j
 more-joined {ns} {ps} qs h =

@@ -16,5 +16,6 @@ pub mod HeadLaws
 pub mod ReadingLaws
 pub mod WordLaws
 pub mod OutcomeLaws
+pub mod PairLaws
 pub mod AnswerLaws
 pub mod Starred

@@ -2,15 +2,15 @@
 -- The classes either clash, or have a cycle, or are a solved form. Assumes nothing.
 use Prim.Native.Nat.{ℕ, suc, _<_}
 use mathlib.Core.Bool.{Bool, true, false, cond, false≢true}
-use mathlib.Core.List.{List, List·Memᴰ}
+use mathlib.Core.List.{List}
 use mathlib.Core.Logic.{_↔_}
 use mathlib.Core.Path.{_≡_, refl, sym, _∙_}
 use native.Mathlib.Omega.{arith}
 use lib.ListN.{length}
 use Rattle.terms.specs.Substitution.{Substitution}
 use Rattle.unify.specs.Node.{Node, WellFormed, Present}
-use Rattle.unify.specs.Unifier.{Inside, Unifies, Unifiable, MostGeneral}
-use Rattle.unify.specs.Closure.{Clash, different, Reaches, Occurs, step, steps}
+use Rattle.unify.specs.Unifier.{Inside, Unifiable, MostGeneral}
+use Rattle.unify.specs.Closure.{Clash, Reaches, Occurs}
 use Rattle.unify.specs.Words.{AreWords, Reads}
 use Rattle.unify.specs.Computed.Classes.{classes, clashes}
 use Rattle.unify.specs.Computed.Walks.{cyclic}
@@ -19,9 +19,9 @@ use Rattle.unify.specs.Computed.Binding.{bindingWords}
 use Rattle.unify.specs.Outcome.{Outcome, unified, clash, occurs}
 use Rattle.unify.specs.Computed.Unifying.{outcome, unifier, wordsOf}
 use Rattle.unify.specs.Code.Solved.{Closed, Solved}
-use Rattle.unify.proofs.JoinedLaws.{joined-inside, clash-none, cycle-none, more-pairs, more-joined}
+use Rattle.unify.proofs.JoinedLaws.{joined-inside, clash-none, cycle-none}
 use Rattle.unify.proofs.ClassLaws.{class-joined, joined-class, clash-found, found-clash}
-use Rattle.unify.proofs.WalkLaws.{longest, longest-bound, cycle-found, found-cycle}
+use Rattle.unify.proofs.WalkLaws.{longest, longest-bound, cycle-found}
 use Rattle.unify.proofs.SolvedLaws.{closed-no-clash, solution-most-general}
 use Rattle.unify.proofs.HeadLaws.{head-lowest, classes-solved}
 use Rattle.unify.proofs.PresentLaws.{most-general-agree}
@@ -39,15 +39,15 @@ module _ (ns : List Node) (w : WellFormed ns) (ps : List (ℕ × ℕ)) (h : Insi
   to-cycle =
       cycle-found ns w ps (classes ns ps) (class-joined ns w ps h) (λ i j q. joined-class ns w ps h q) (λ i j q. joined-inside ns w ps h q)
 
-  from-cycle : (i : ℕ) → Reaches ns ps i i → cyclic ns (classes ns ps) ≡ true
-  from-cycle =
-      found-cycle ns w ps (classes ns ps) (class-joined ns w ps h) (λ i j q. joined-class ns w ps h q) (λ i j q. joined-inside ns w ps h q)
+  -- The classes are a solved form.
+  abbrev SolvedForm : Type 0
+  SolvedForm = Solved ns ps (headIn ns (classes ns ps)) (longest ns (classes ns ps))
 
   -- What the tests say of the outcome.
   data Tested : Outcome → Type 0 where
     clashed : Clash ns ps → Tested clash
     cycled : Occurs ns ps → Tested occurs
-    solved : Solved ns ps (headIn ns (classes ns ps)) (longest ns (classes ns ps)) → Tested unified
+    solved : SolvedForm → Tested unified
 
   tested : Tested (outcome ns ps)
   unfolding outcome
@@ -64,11 +64,8 @@ module _ (ns : List Node) (w : WellFormed ns) (ps : List (ℕ × ℕ)) (h : Insi
   bounded : (i : ℕ) → i < length ns → longest ns (classes ns ps) (headIn ns (classes ns ps) i) < suc (length ns)
   bounded i p = let l = longest-bound ns w (classes ns ps) (headIn ns (classes ns ps) i) in omega (arith, l)
 
-  SolvedForm : Type 0
-  SolvedForm = Solved ns ps (headIn ns (classes ns ps)) (longest ns (classes ns ps))
-
   most-general : SolvedForm → MostGeneral ns ps (unifier ns ps)
-  unfolding SolvedForm unifier
+  unfolding unifier
   most-general s = solution-most-general ns w ps h (headIn ns (classes ns ps)) (longest ns (classes ns ps)) s (suc (length ns)) bounded
 
   no-clash : Unifiable ns ps → Clash ns ps → ⊥
@@ -82,7 +79,6 @@ module _ (ns : List Node) (w : WellFormed ns) (ps : List (ℕ × ℕ)) (h : Insi
 
   -- exactly one of unified, clash and occurs holds
   pub exactly-one : ExactlyOne (Unifiable ns ps) (Clash ns ps) (Occurs ns ps)
-  unfolding SolvedForm
   exactly-one = go tested
     where
       go : {o : Outcome} → Tested o → ExactlyOne (Unifiable ns ps) (Clash ns ps) (Occurs ns ps)
@@ -92,7 +88,6 @@ module _ (ns : List Node) (w : WellFormed ns) (ps : List (ℕ × ℕ)) (h : Insi
 
   -- clash is computed exactly where there is one
   pub outcome-clash : outcome ns ps ≡ clash ↔ Clash ns ps
-  unfolding SolvedForm
   outcome-clash = (λ e. there tested e, λ k. back-to tested k)
     where
       there : {o : Outcome} → Tested o → o ≡ clash → Clash ns ps
@@ -107,7 +102,6 @@ module _ (ns : List Node) (w : WellFormed ns) (ps : List (ℕ × ℕ)) (h : Insi
 
   -- occurs is computed exactly where there is no clash, and a class reaches itself
   pub outcome-occurs : outcome ns ps ≡ occurs ↔ Occurs ns ps
-  unfolding SolvedForm
   outcome-occurs = (λ e. there tested e, λ k. back-to tested k)
     where
       there : {o : Outcome} → Tested o → o ≡ occurs → Occurs ns ps
@@ -125,7 +119,6 @@ module _ (ns : List Node) (w : WellFormed ns) (ps : List (ℕ × ℕ)) (h : Insi
   cycle-decides head c i r = outcome-occurs .1 (record { no-clash = closed-no-clash ns w ps h head c; class = i; itself = r })
 
   to-solved : {o : Outcome} → Tested o → o ≡ unified → SolvedForm
-  unfolding SolvedForm
   to-solved (clashed k) e = let z : _≡_ {A = ℕ} 0 1 = cc in absurd (omega arith)
   to-solved (cycled o) e = let z : _≡_ {A = ℕ} 0 1 = cc in absurd (omega arith)
   to-solved (solved s) e = s
@@ -144,13 +137,13 @@ module _ (ns : List Node) (w : WellFormed ns) (ps : List (ℕ × ℕ)) (h : Insi
   unifier-most-general e = most-general (to-solved tested e)
 
   held : outcome ns ps ≡ unified → Held ns (unifier ns ps)
-  unfolding SolvedForm unifier
+  unfolding unifier
   held e =
       solution-held ns w ps h (headIn ns (classes ns ps)) (longest ns (classes ns ps)) (to-solved tested e) (suc (length ns)) bounded
 
   -- the words can be read back
   pub words-readable : outcome ns ps ≡ unified → Reads ns (wordsOf ns ps) (unifier ns ps)
-  unfolding SolvedForm unifier wordsOf
+  unfolding unifier wordsOf
   words-readable e =
       words-read ns (unifier ns ps) (held e)
       (solution-lowest ns w ps h (headIn ns (classes ns ps)) (longest ns (classes ns ps)) (to-solved tested e) (suc (length ns)) bounded (head-lowest ns ps (classes ns ps) (λ i j q. joined-class ns w ps h q)))
@@ -164,7 +157,7 @@ module _ (ns : List Node) (w : WellFormed ns) (ps : List (ℕ × ℕ)) (h : Insi
   one-reading σ τ r q = reads-one ns w (wordsOf ns ps) σ τ r q
 
   computed-words : outcome ns ps ≡ unified → AreWords ns (unifier ns ps) (wordsOf ns ps)
-  unfolding SolvedForm unifier wordsOf
+  unfolding unifier wordsOf
   computed-words e = words-computed ns (unifier ns ps) (held e)
 
   -- under every most general unifier each word is the least node that document 01 names
@@ -187,46 +180,3 @@ module _ (ns : List Node) (w : WellFormed ns) (ps : List (ℕ × ℕ)) (h : Insi
   pub solved-one : (head order : ℕ → ℕ) → Solved ns ps head order → (k : ℕ) → ((i : ℕ) → i < length ns → order (head i) < k) → (head′ order′ : ℕ → ℕ) → Solved ns ps head′ order′ → (k′ : ℕ) → ((i : ℕ) → i < length ns → order′ (head′ i) < k′) → bindingWords ns (solution k ns head) ≡ bindingWords ns (solution k′ ns head′)
   solved-one head order s k l head′ order′ s′ k′ l′ =
       sym (solved-decides head order s k l .1) ∙ solved-decides head′ order′ s′ k′ l′ .1
-
--- The pairs of the first list are all in the second.
-abbrev pub Among : List (ℕ × ℕ) → List (ℕ × ℕ) → Type 0
-Among ps qs = (p : ℕ × ℕ) → List·Memᴰ p ps → List·Memᴰ p qs
-
--- pairs that have no unifier have none with more pairs added
-pub more-none : (ns : List Node) (ps qs : List (ℕ × ℕ)) → Among ps qs → (Unifiable ns ps → ⊥) → Unifiable ns qs → ⊥
-more-none ns ps qs h n u = n (u .0, more-pairs ns ps qs h (u .0) (u .1))
-
-more-clash : (ns : List Node) (ps qs : List (ℕ × ℕ)) → Among ps qs → Clash ns ps → Clash ns qs
-more-clash ns ps qs h (different q d e n) = different (more-joined qs h q) d e n
-
-more-reaches : {ns : List Node} {ps : List (ℕ × ℕ)} (qs : List (ℕ × ℕ)) → Among ps qs → {i j : ℕ} → Reaches ns ps i j → Reaches ns qs i j
-more-reaches qs h (step p e m q) = step (more-joined qs h p) e m (more-joined qs h q)
-more-reaches qs h (steps p q) = steps (more-reaches qs h p) (more-reaches qs h q)
-
-module _ (ns : List Node) (w : WellFormed ns) (ps qs : List (ℕ × ℕ)) (h : Inside ns ps) (k : Inside ns qs) where
-  -- pairs with the same unifiers have the same words
-  pub same-unifiers : ((σ : Substitution) → Unifies ns ps σ ↔ Unifies ns qs σ) → Unifiable ns ps → wordsOf ns ps ≡ wordsOf ns qs
-  same-unifiers e u =
-      let g = unifier-most-general ns w ps h (outcome-unified ns w ps h .1 u) in
-      words-decided ns w ps h (unifier ns ps) g (wordsOf ns qs)
-      (words-least ns w qs k (unifier ns ps)
-      (record {
-        unifies = e (unifier ns ps) .0 (g .unifies);
-        factors = λ τ v. g .factors τ (e τ .1 v);
-      }))
-
-  -- what is answered depends on the pairs only as a set
-  pub same-outcome : Among ps qs → Among qs ps → outcome ns ps ≡ outcome ns qs
-  same-outcome a b = go (exactly-one ns w ps h)
-    where
-      go : ExactlyOne (Unifiable ns ps) (Clash ns ps) (Occurs ns ps) → outcome ns ps ≡ outcome ns qs
-      go (first u x y) =
-          outcome-unified ns w ps h .1 u ∙ sym (outcome-unified ns w qs k .1 (u .0, more-pairs ns qs ps b (u .0) (u .1)))
-      go (second x c y) = outcome-clash ns w ps h .1 c ∙ sym (outcome-clash ns w qs k .1 (more-clash ns ps qs a c))
-      go (third x y o) =
-          outcome-occurs ns w ps h .1 o ∙ sym (outcome-occurs ns w qs k .1 (record { no-clash = λ c. o .no-clash (more-clash ns qs ps b c); class = o .class; itself = more-reaches qs a (o .itself) }))
-
-  -- and so do the words
-  pub same-words : Among ps qs → Among qs ps → Unifiable ns ps → wordsOf ns ps ≡ wordsOf ns qs
-  same-words a b =
-      same-unifiers (λ σ. (more-pairs ns qs ps b σ, more-pairs ns ps qs a σ))
