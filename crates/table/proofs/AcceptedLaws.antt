@@ -57,17 +57,20 @@ clear : (t : List ℕ) → refusal t ≡ 0 → Clear t
 unfolding conditions
 clear t e = clear-first t [] (refused t 0 .0 e) .0
 
-clear-none : (t : List ℕ) → Clear t → refusal t ≡ 0
+first-clear : (t : List ℕ) (cs : List (ℕ × Bool)) → Clear t → First 0 cs → First 0 (conditions t ++ cs)
 unfolding conditions
-clear-none t c =
-    refused t 0 .1
-    (later (c .sectioned .words)
+first-clear t cs c z =
+    later (c .sectioned .words)
     (later (c .sectioned .pairs)
     (later (c .sectioned .limits)
     (later (c .right-nodes)
     (later (c .right-arguments)
     (later (c .right-terms)
-    (later (c .right-labels) (none refl))))))))
+    (later (c .right-labels) z))))))
+
+clear-none : (t : List ℕ) → Clear t → refusal t ≡ 0
+unfolding conditions
+clear-none t c = refused t 0 .1 (first-clear t [] c (none refl))
 
 accepts : (t : List ℕ) → Clear t → Accepted t
 unfolding wrongNode
@@ -133,9 +136,10 @@ clears t a =
 pub accepted : (t : List ℕ) → refusal t ≡ 0 ↔ Accepted t
 accepted t = ((λ e. accepts t (clear t e)), (λ a. clear-none t (clears t a)))
 
--- where no condition holds, of the table or after them, the table is accepted
-pub accepted-first : (t : List ℕ) (cs : List (ℕ × Bool)) → First 0 (conditions t ++ cs) → Accepted t × First 0 cs
-accepted-first t cs z = let c = clear-first t cs z in (accepts t (c .0), c .1)
+-- no condition holds, of the table or after them, exactly if the table is accepted and none holds after them
+pub accepted-first : (t : List ℕ) (cs : List (ℕ × Bool)) → First 0 (conditions t ++ cs) ↔ (Accepted t × First 0 cs)
+accepted-first t cs =
+    ((λ z. let c = clear-first t cs z in (accepts t (c .0), c .1)), (λ a. first-clear t cs (clears t (a .0)) (a .1)))
 
 -- The sections lie end to end: the header and the six sections, one after the other, are the table.
 module _ (t : List ℕ) (a : Accepted t) where

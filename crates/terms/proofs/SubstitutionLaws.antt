@@ -5,6 +5,18 @@ use mathlib.Core.Path.{_≡_, refl, ap, ap₂}
 use Rattle.terms.specs.Term.{Term, var, app, Terms, nil, cons}
 use Rattle.terms.specs.Substitution.{Substitution, sub, subs}
 
+-- a variable that stays is one whose term is itself
+mutual
+  unfolding sub
+
+  pub sub-var : (t : Term) → sub var t ≡ t
+  sub-var (var x) = refl
+  sub-var (app f ts) = ap (app f) (subs-var ts)
+
+  subs-var : (ts : Terms) → subs var ts ≡ ts
+  subs-var nil = refl
+  subs-var (cons t ts) = ap₂ cons (sub-var t) (subs-var ts)
+
 -- one substitution after another is one substitution
 mutual
   unfolding sub

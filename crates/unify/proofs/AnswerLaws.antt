@@ -1,16 +1,15 @@
 -- What the answer says of the lent words: unified is answered only if no condition holds, so that there is a word for each variable,
 -- and a binding word is made for each. By cases on the answer. Assumes nothing.
 use Prim.Native.Nat.{ℕ, zero, suc, _<_, _≤_}
-use mathlib.Core.List.{List, [], _∷_, _++_, List·Memᴰ·eq-of-singleton}
+use mathlib.Core.List.{List, [], _∷_, _++_, List·Memᴰ·head, List·Memᴰ·eq-of-singleton}
 use mathlib.Core.Logic.{_↔_}
 use mathlib.Core.Path.{_≡_, refl, sym, ap, _∙_}
 use native.Mathlib.Omega.{arith}
-use borrow.Author.Tests.{ltb-false, leb-false}
+use borrow.Author.Tests.{ltb-false, leb-false, lt-leb, le-ltb}
 use lib.ListN.{length, take, drop, length-map, length-append, length-drop}
 use lib.Seq.{take-at, drop-at}
-use Rattle.table.specs.Refusal.{firstHeld, First}
-use Rattle.table.specs.Accepted.{Accepted}
-use Rattle.table.proofs.BoolLaws.{or-false-left, or-false-right}
+use Rattle.table.specs.Refusal.{firstHeld, First, later, none}
+use Rattle.table.proofs.BoolLaws.{or-false-left, or-false-right, or-both-false}
 use Rattle.table.proofs.RefusalLaws.{first-means}
 use Rattle.table.proofs.AcceptedLaws.{pass, accepted-first}
 use Rattle.terms.specs.Substitution.{Substitution}
@@ -18,7 +17,7 @@ use Rattle.table.specs.declared.Refusal.{Refusal}
 use Rattle.table.specs.Answer.{numberOf}
 use Rattle.table.proofs.AnswerLaws.{number-apart}
 use Rattle.unify.specs.declared.Unification.{Unification}
-use Rattle.unify.specs.Node.{nodesIn}
+use Rattle.unify.specs.Node.{nodesIn, Present}
 use Rattle.unify.specs.Unifier.{Inside, value, Unifies, MostGeneral}
 use Rattle.unify.specs.Closure.{Clash, Occurs}
 use Rattle.unify.specs.Words.{AreWords, Reads}
@@ -26,26 +25,34 @@ use Rattle.unify.specs.Computed.Variables.{variablesOf}
 use Rattle.unify.specs.Computed.Binding.{wordOf, bindingWords}
 use Rattle.unify.specs.Outcome.{Outcome, unified, clash, occurs}
 use Rattle.unify.specs.Computed.Unifying.{outcome, unifier, wordsOf}
-use Rattle.unify.specs.Answer.{told, variableCount, notNode, unifyConditions, Answer, ended, refused, answerAfter, unification, wordsAfter, lentAfter}
+use Rattle.unify.specs.Answer.{told, variableCount, notNode, unifyConditions, Unrefused, Answer, ended, refused, answerAfter, unification, wordsAfter, lentAfter}
 use Rattle.unify.proofs.TableLaws.{well-formed}
 use Rattle.unify.proofs.JoinedLaws.{clash-none, cycle-none}
-use Rattle.unify.proofs.OutcomeLaws.{outcome-clash, outcome-occurs, words-readable, reading-most-general, words-least}
+use Rattle.unify.proofs.ReadingLaws.{reads-one}
+use Rattle.unify.proofs.OutcomeLaws.{outcome-unified, outcome-clash, outcome-occurs, words-readable, reading-most-general, words-least}
 
--- refusal n is given exactly if condition n holds and none before it
-pub unify-refused : (t : List ℕ) (a b lent n : ℕ) → firstHeld (unifyConditions t a b lent) ≡ n ↔ First n (unifyConditions t a b lent)
-unify-refused t a b lent n = first-means n (unifyConditions t a b lent)
+after-refused : (m : ℕ) (o : Outcome) (n : ℕ) → answerAfter m o ≡ refused n ↔ ((0 < n) × (m ≡ n))
+unfolding answerAfter
+after-refused zero o n = ((λ e. let z : _≡_ {A = ℕ} 0 1 = cc in absurd (omega arith)), (λ r. absurd (omega (arith, r .0, r .1))))
+after-refused (suc m) o n = ((λ e. let d : suc m ≡ n = cc in (omega arith, d)), (λ r. ap refused (r .1)))
 
--- What holds where the answer is no refusal.
-record Unrefused (t : List ℕ) (a b lent : ℕ) : Type 0 where
-  table : Accepted t
-  left : a < length (nodesIn t)
-  right : b < length (nodesIn t)
-  enough : variableCount t ≤ lent
+after-ended : (m : ℕ) (o p : Outcome) → answerAfter m o ≡ ended p ↔ ((m ≡ 0) × (o ≡ p))
+unfolding answerAfter
+after-ended zero o p = ((λ e. (refl, cc)), (λ r. ap ended (r .1)))
+after-ended (suc m) o p = ((λ e. let z : _≡_ {A = ℕ} 0 1 = cc in absurd (omega arith)), (λ r. absurd (omega (arith, r .0))))
 
-unrefused : (t : List ℕ) (a b lent : ℕ) → firstHeld (unifyConditions t a b lent) ≡ 0 → Unrefused t a b lent
+-- refusal n is answered exactly if condition n holds and none before it
+pub refused-exactly : (t : List ℕ) (a b lent n : ℕ) → unification t a b lent ≡ refused n ↔ ((0 < n) × First n (unifyConditions t a b lent))
+unfolding unification
+refused-exactly t a b lent n =
+    let f = first-means n (unifyConditions t a b lent) in
+    let c = after-refused (firstHeld (unifyConditions t a b lent)) (outcome (nodesIn t) ((a, b) ∷ [])) n in
+    ((λ e. let r = c .0 e in (r .0, f .0 (r .1))), (λ r. c .1 (r .0, f .1 (r .1))))
+
+no-condition : (t : List ℕ) (a b lent : ℕ) → firstHeld (unifyConditions t a b lent) ≡ 0 → Unrefused t a b lent
 unfolding unifyConditions notNode
-unrefused t a b lent e =
-    let f = accepted-first t _ (unify-refused t a b lent 0 .0 e) in
+no-condition t a b lent e =
+    let f = accepted-first t _ .0 (first-means 0 (unifyConditions t a b lent) .0 e) in
     let c = pass (f .1) in
     let d = pass (c .1) in
     record {
@@ -55,18 +62,21 @@ unrefused t a b lent e =
       enough = ltb-false lent (variableCount t) (d .0);
     }
 
-no-refusal : (n : ℕ) (o p : Outcome) → answerAfter n o ≡ ended p → (n ≡ 0) × (o ≡ p)
-unfolding answerAfter
-no-refusal zero o p e = (refl, cc)
-no-refusal (suc n) o p e = let z : _≡_ {A = ℕ} 0 1 = cc in absurd (omega arith)
+condition-none : (t : List ℕ) (a b lent : ℕ) → Unrefused t a b lent → firstHeld (unifyConditions t a b lent) ≡ 0
+unfolding unifyConditions notNode
+condition-none t a b lent u =
+    first-means 0 (unifyConditions t a b lent) .1
+    (accepted-first t _ .1 (u .table, later (or-both-false (notNode t a) (notNode t b) (lt-leb (length (nodesIn t)) a (u .left)) (lt-leb (length (nodesIn t)) b (u .right))) (later (le-ltb lent (variableCount t) (u .enough)) (none refl))))
 
--- where the answer is no refusal, it is what unifying the two nodes comes to
-answered : (t : List ℕ) (a b lent : ℕ) (o : Outcome) → unification t a b lent ≡ ended o → Unrefused t a b lent × (outcome (nodesIn t) ((a, b) ∷ []) ≡ o)
+-- a call that is not refused, and no other, is answered by what unifying the two nodes comes to
+pub answered-exactly : (t : List ℕ) (a b lent : ℕ) (o : Outcome) → unification t a b lent ≡ ended o ↔ (Unrefused t a b lent × (outcome (nodesIn t) ((a, b) ∷ []) ≡ o))
 unfolding unification
-answered t a b lent o e = let r = no-refusal _ _ o e in (unrefused t a b lent (r .0), r .1)
+answered-exactly t a b lent o =
+    let c = after-ended (firstHeld (unifyConditions t a b lent)) (outcome (nodesIn t) ((a, b) ∷ [])) o in
+    ((λ e. let r = c .0 e in (no-condition t a b lent (r .0), r .1)), (λ r. c .1 (condition-none t a b lent (r .0), r .1)))
 
 enough : (t : List ℕ) (a b lent : ℕ) → unification t a b lent ≡ ended unified → variableCount t ≤ lent
-enough t a b lent e = answered t a b lent unified e .0 .enough
+enough t a b lent e = answered-exactly t a b lent unified .0 e .0 .enough
 
 -- there is a binding word for each variable
 words-long : (t : List ℕ) (ps : List (ℕ × ℕ)) → length (wordsOf (nodesIn t) ps) ≡ variableCount t
@@ -122,43 +132,70 @@ module _ (t : List ℕ) (a b : ℕ) (lent : List ℕ) where
       let e = List·Memᴰ·eq-of-singleton m in
       (rw (ap (λ (p : ℕ × ℕ). p .0) e) (u .left), rw (ap (λ (p : ℕ × ℕ). p .1) e) (u .right))
 
-  -- unified: the words left are read as a most general unifier of the two nodes, in one way on the variables present
-  module _ (e : unification t a b (length lent) ≡ ended unified) where
-    r : Unrefused t a b (length lent) × (outcome (nodesIn t) ((a, b) ∷ []) ≡ unified)
-    r = answered t a b (length lent) unified e
-
-    pub unified-readable : Reads (nodesIn t) (take (variableCount t) (lentAfter t a b lent)) (unifier (nodesIn t) ((a, b) ∷ []))
-    unified-readable =
-        rw (unified-words t a b lent e) (words-readable (nodesIn t) (well-formed t (r .0 .table)) ((a, b) ∷ []) (one-pair (r .0)) (r .1))
-
-    pub unified-reading : (σ : Substitution) → Reads (nodesIn t) (take (variableCount t) (lentAfter t a b lent)) σ → MostGeneral (nodesIn t) ((a, b) ∷ []) σ
-    unified-reading σ q =
-        reading-most-general (nodesIn t) (well-formed t (r .0 .table)) ((a, b) ∷ []) (one-pair (r .0)) (r .1) σ (rw (unified-words t a b lent e) at q)
-
-    pub unified-least : (σ : Substitution) → MostGeneral (nodesIn t) ((a, b) ∷ []) σ → AreWords (nodesIn t) σ (take (variableCount t) (lentAfter t a b lent))
-    unified-least σ g =
-        rw (unified-words t a b lent e) (words-least (nodesIn t) (well-formed t (r .0 .table)) ((a, b) ∷ []) (one-pair (r .0)) σ g)
-
   unifies-pair : (σ : Substitution) → value (nodesIn t) σ a ≡ value (nodesIn t) σ b → Unifies (nodesIn t) ((a, b) ∷ []) σ
   unifies-pair σ e c d m =
       let q = List·Memᴰ·eq-of-singleton m in
       ap (λ (p : ℕ × ℕ). value (nodesIn t) σ (p .0)) q ∙ e ∙ sym (ap (λ (p : ℕ × ℕ). value (nodesIn t) σ (p .1)) q)
 
-  -- clash: the closure has one, and no substitution makes the two terms equal
-  pub clash-answered : unification t a b (length lent) ≡ ended clash → Clash (nodesIn t) ((a, b) ∷ []) × ((σ : Substitution) → value (nodesIn t) σ a ≡ value (nodesIn t) σ b → ⊥)
-  clash-answered e =
-      let r = answered t a b (length lent) clash e in
-      let w = well-formed t (r .0 .table) in
-      let c = outcome-clash (nodesIn t) w ((a, b) ∷ []) (one-pair (r .0)) .0 (r .1) in
-      (c, λ σ q. clash-none (nodesIn t) w ((a, b) ∷ []) (one-pair (r .0)) σ (unifies-pair σ q) c)
+  -- from what the outcome means to what the answer does
+  exactly : (o : Outcome) (P : Type 0) → (Unrefused t a b (length lent) → outcome (nodesIn t) ((a, b) ∷ []) ≡ o ↔ P) → unification t a b (length lent) ≡ ended o ↔ (Unrefused t a b (length lent) × P)
+  exactly o P means =
+      let x = answered-exactly t a b (length lent) o in
+      ((λ e. let r = x .0 e in (r .0, means (r .0) .0 (r .1))), (λ r. x .1 (r .0, means (r .0) .1 (r .1))))
 
-  -- occurs: likewise
-  pub occurs-answered : unification t a b (length lent) ≡ ended occurs → Occurs (nodesIn t) ((a, b) ∷ []) × ((σ : Substitution) → value (nodesIn t) σ a ≡ value (nodesIn t) σ b → ⊥)
-  occurs-answered e =
-      let r = answered t a b (length lent) occurs e in
-      let w = well-formed t (r .0 .table) in
-      let o = outcome-occurs (nodesIn t) w ((a, b) ∷ []) (one-pair (r .0)) .0 (r .1) in
-      (o, λ σ q. cycle-none (nodesIn t) w ((a, b) ∷ []) (one-pair (r .0)) σ (unifies-pair σ q) (o .class) (o .itself))
+  -- unified is answered exactly if the call is not refused and some substitution makes the two terms equal
+  pub unified-exactly : unification t a b (length lent) ≡ ended unified ↔ (Unrefused t a b (length lent) × ((σ : Substitution) × (value (nodesIn t) σ a ≡ value (nodesIn t) σ b)))
+  unified-exactly =
+      exactly unified ((σ : Substitution) × (value (nodesIn t) σ a ≡ value (nodesIn t) σ b))
+      (λ u.
+        let m = outcome-unified (nodesIn t) (well-formed t (u .table)) ((a, b) ∷ []) (one-pair u) in
+        ((λ e. let v = m .0 e in (v .0, v .1 a b (List·Memᴰ·head refl))), (λ v. m .1 (v .0, unifies-pair (v .0) (v .1)))))
+
+  -- clash exactly if it is not refused and the closure has a clash
+  pub clash-exactly : unification t a b (length lent) ≡ ended clash ↔ (Unrefused t a b (length lent) × Clash (nodesIn t) ((a, b) ∷ []))
+  clash-exactly =
+      exactly clash (Clash (nodesIn t) ((a, b) ∷ []))
+      (λ u. outcome-clash (nodesIn t) (well-formed t (u .table)) ((a, b) ∷ []) (one-pair u))
+
+  -- occurs exactly if it is not refused and the closure has no clash and a class that reaches itself
+  pub occurs-exactly : unification t a b (length lent) ≡ ended occurs ↔ (Unrefused t a b (length lent) × Occurs (nodesIn t) ((a, b) ∷ []))
+  occurs-exactly =
+      exactly occurs (Occurs (nodesIn t) ((a, b) ∷ []))
+      (λ u. outcome-occurs (nodesIn t) (well-formed t (u .table)) ((a, b) ∷ []) (one-pair u))
+
+  -- one of the two failures is answered only where no substitution makes the two terms equal
+  pub clash-fails : unification t a b (length lent) ≡ ended clash → (σ : Substitution) → value (nodesIn t) σ a ≡ value (nodesIn t) σ b → ⊥
+  clash-fails e σ q =
+      let r = clash-exactly .0 e in
+      clash-none (nodesIn t) (well-formed t (r .0 .table)) ((a, b) ∷ []) (one-pair (r .0)) σ (unifies-pair σ q) (r .1)
+
+  pub occurs-fails : unification t a b (length lent) ≡ ended occurs → (σ : Substitution) → value (nodesIn t) σ a ≡ value (nodesIn t) σ b → ⊥
+  occurs-fails e σ q =
+      let r = occurs-exactly .0 e in
+      cycle-none (nodesIn t) (well-formed t (r .0 .table)) ((a, b) ∷ []) (one-pair (r .0)) σ (unifies-pair σ q) (r .1 .class) (r .1 .itself)
+
+  module _ (e : unification t a b (length lent) ≡ ended unified) where
+    r : Unrefused t a b (length lent) × (outcome (nodesIn t) ((a, b) ∷ []) ≡ unified)
+    r = answered-exactly t a b (length lent) unified .0 e
+
+    -- unified: the words left can be read
+    pub unified-readable : Reads (nodesIn t) (take (variableCount t) (lentAfter t a b lent)) (unifier (nodesIn t) ((a, b) ∷ []))
+    unified-readable =
+        rw (unified-words t a b lent e) (words-readable (nodesIn t) (well-formed t (r .0 .table)) ((a, b) ∷ []) (one-pair (r .0)) (r .1))
+
+    -- in one way on the variables present
+    pub unified-one-reading : (σ τ : Substitution) → Reads (nodesIn t) (take (variableCount t) (lentAfter t a b lent)) σ → Reads (nodesIn t) (take (variableCount t) (lentAfter t a b lent)) τ → (x : ℕ) → Present (nodesIn t) x → σ x ≡ τ x
+    unified-one-reading = reads-one (nodesIn t) (well-formed t (r .0 .table)) (take (variableCount t) (lentAfter t a b lent))
+
+    -- as a most general unifier of the two nodes
+    pub unified-reading : (σ : Substitution) → Reads (nodesIn t) (take (variableCount t) (lentAfter t a b lent)) σ → MostGeneral (nodesIn t) ((a, b) ∷ []) σ
+    unified-reading σ q =
+        reading-most-general (nodesIn t) (well-formed t (r .0 .table)) ((a, b) ∷ []) (one-pair (r .0)) (r .1) σ (rw (unified-words t a b lent e) at q)
+
+    -- and each is the least node that document 01 names, under every most general unifier
+    pub unified-least : (σ : Substitution) → MostGeneral (nodesIn t) ((a, b) ∷ []) σ → AreWords (nodesIn t) σ (take (variableCount t) (lentAfter t a b lent))
+    unified-least σ g =
+        rw (unified-words t a b lent e) (words-least (nodesIn t) (well-formed t (r .0 .table)) ((a, b) ∷ []) (one-pair (r .0)) σ g)
 
 from-outcome : Outcome → Unification
 from-outcome unified = Unification.Unified
