@@ -3,7 +3,7 @@
 use Prim.Native.Nat.{ℕ, zero, suc, _<_, _≤_}
 use mathlib.Core.Bool.{Bool, true, false, not, _&&_, false≢true}
 use mathlib.Core.List.{List, [], _∷_, List·Memᴰ, List·Memᴰ·head, List·Memᴰ·tail, List·Memᴰ·not-nil, List·Memᴰ·eq-of-singleton}
-use mathlib.Core.Logic.{inl, inr}
+use mathlib.Core.Logic.{inl, inr, _↔_}
 use mathlib.Core.Path.{_≡_, refl, sym, ap, _∙_}
 use native.Mathlib.Decide.{ℕ-discrete}
 use native.Mathlib.Omega.{arith}
@@ -20,14 +20,11 @@ use Rattle.unify.proofs.ListLaws.{tabulate-length, tabulate-at, gathere
 use Rattle.unify.proofs.JoinedLaws.{joined-inside}
 use Rattle.unify.proofs.CountLaws.{Partition, Settled, Lowers, roots, roots-most, roots-some, join-length, join-first, join-second, join-other, join-stays, join-keeps, join-all-lowers}
 
-same-symbol : (f g : ℕ) (us vs : List ℕ) → sameSymbol f us g vs ≡ true → OneSymbol f us g vs
+-- the test of symbols
+pub symbol-means : (f : ℕ) (us : List ℕ) (g : ℕ) (vs : List ℕ) → sameSymbol f us g vs ≡ true ↔ OneSymbol f us g vs
 unfolding sameSymbol
-same-symbol f g us vs e =
-    (eqb-true f g (and-true-left (eqb f g) (eqb (length us) (length vs)) e), eqb-true (length us) (length vs) (and-true-right (eqb f g) (eqb (length us) (length vs)) e))
-
-symbol-same : (f g : ℕ) (us vs : List ℕ) → OneSymbol f us g vs → sameSymbol f us g vs ≡ true
-unfolding sameSymbol
-symbol-same f g us vs l = rw (eq-eqb f g (l .0), eq-eqb (length us) (length vs) (l .1))
+symbol-means f us g vs =
+    ((λ e. (eqb-true f g (and-true-left (eqb f g) (eqb (length us) (length vs)) e), eqb-true (length us) (length vs) (and-true-right (eqb f g) (eqb (length us) (length vs)) e))), (λ l. rw (eq-eqb f g (l .0), eq-eqb (length us) (length vs) (l .1))))
 
 join-all-keeps : (P : List ℕ → Type 0) (qs : List (ℕ × ℕ)) → ((cs : List ℕ) (a b : ℕ) → List·Memᴰ (a, b) qs → P cs → P (join cs (a, b))) → (cs : List ℕ) → P cs → P (joinAll cs qs)
 unfolding joinAll
@@ -82,7 +79,7 @@ asked-variable ns cs i j x d e = rw (d, e, eq-eqb x x refl) (List·Memᴰ·head 
 asked-arguments : (ns : List Node) (cs : List ℕ) (i j f g : ℕ) (us vs : List ℕ) → nodeAt ns i ≡ application f us → nodeAt ns j ≡ application g vs → OneSymbol f us g vs → classOf cs i ≡ classOf cs j → (a b : ℕ) → List·Memᴰ (a, b) (together us vs) → List·Memᴰ (a, b) (asked ns cs i j)
 unfolding asked asks
 asked-arguments ns cs i j f g us vs d e l c a b m =
-    rw (d, e, eq-eqb (classOf cs i) (classOf cs j) c, symbol-same f g us vs l) m
+    rw (d, e, eq-eqb (classOf cs i) (classOf cs j) c, symbol-means f us g vs .1 l) m
 
 module _ (ns : List Node) (w : WellFormed ns) (ps : List (ℕ × ℕ)) (h : Inside ns ps) where
   -- The classes are a partition, and each node is joined with the one that names its class.
@@ -132,7 +129,7 @@ module _ (ns : List Node) (w : WellFormed ns) (ps : List (ℕ × ℕ)) (h : Insi
     where
       pick : (u : Bool) → (t && sameSymbol k us g vs) ≡ u → Joined ns ps a b
       pick true z =
-          let s = same-symbol k g us vs (and-true-right t (sameSymbol k us g vs) z) in
+          let s = symbol-means k us g vs .0 (and-true-right t (sameSymbol k us g vs) z) in
           arguments d e s (f (and-true-left t (sameSymbol k us g vs) z)) (rw z at q)
       pick false z = absurd (List·Memᴰ·not-nil (rw z at q))
 
@@ -221,7 +218,7 @@ module _ (ns : List Node) (w : WellFormed ns) (ps : List (ℕ × ℕ)) (h : Insi
   differ-clash i j q (variable x) n d e z = absurd (false≢true z)
   differ-clash i j q (application f us) (variable y) d e z = absurd (false≢true z)
   differ-clash i j q (application f us) (application g vs) d e z =
-      different q d e (λ l. false≢true (rw (symbol-same f g us vs l) at z))
+      different q d e (λ l. false≢true (rw (symbol-means f us g vs .1 l) at z))
 
   -- a clash that is computed is one
   pub clash-found : clashes ns (classes ns ps) ≡ true → Clash ns ps
@@ -246,7 +243,7 @@ module _ (ns : List Node) (w : WellFormed ns) (ps : List (ℕ × ℕ)) (h : Insi
       r = joined-inside ns w ps h q
 
       symbols : (t : Bool) → sameSymbol f us g vs ≡ t → not t ≡ true
-      symbols true z = absurd (n (same-symbol f g us vs z))
+      symbols true z = absurd (n (symbol-means f us g vs .0 z))
       symbols false z = refl
 
       at : clashAt ns (classes ns ps) i j ≡ true

@@ -10,9 +10,8 @@ use native.Mathlib.Omega.{arith}
 use borrow.Author.Tests.{eqb-true, eq-eqb}
 use lib.ListN.{length}
 use Rattle.unify.specs.Node.{Node, variable, application, nodeAt, tabulate, Present}
-use Rattle.unify.specs.Words.{Least}
+use Rattle.unify.specs.Words.{Rising, end, before, Least}
 use Rattle.unify.specs.Computed.Solution.{firstWith, leastNode, isVariable, isNodeOf, nodeOf}
-use Rattle.unify.proofs.VariableLaws.{Rising, none, more}
 
 -- what `firstWith` gives: the first with the property, or one further on
 data First (p : ℕ → Bool) (d x : ℕ) (xs : List ℕ) : ℕ → Type 0 where
@@ -53,7 +52,7 @@ first-has p d (y ∷ ys) x m h = go (firstWith p d (y ∷ ys)) (first p d y ys) 
 -- and in a rising list it is the least
 pub first-least : (p : ℕ → Bool) (d : ℕ) (xs : List ℕ) → Rising xs → (x : ℕ) → List·Memᴰ x xs → p x ≡ true → firstWith p d xs ≤ x
 first-least p d [] s x m h = absurd (List·Memᴰ·not-nil m)
-first-least p d (y ∷ ys) (more b s) x m h = go (firstWith p d (y ∷ ys)) (first p d y ys) (λ n. first-least p d ys s x n h)
+first-least p d (y ∷ ys) (before b s) x m h = go (firstWith p d (y ∷ ys)) (first p d y ys) (λ n. first-least p d ys s x n h)
   where
     least : (x ≡ y) ⊎ List·Memᴰ x ys → y ≤ x
     least (inl e) = omega arith
@@ -83,9 +82,9 @@ is-below (suc n) i m = go (is-below n i) (List·Memᴰ·append-cases (tabulate n
     go r (inr k) = let e = List·Memᴰ·eq-of-singleton k in omega (arith, e)
 
 rising-end : (xs : List ℕ) (n : ℕ) → Rising xs → ((x : ℕ) → List·Memᴰ x xs → x < n) → Rising (xs ++ (n ∷ []))
-rising-end [] n none h = more (λ y m. absurd (List·Memᴰ·not-nil m)) none
-rising-end (x ∷ xs) n (more b s) h =
-    more (λ y m. go y (List·Memᴰ·append-cases xs m)) (rising-end xs n s (λ y m. h y (List·Memᴰ·tail m)))
+rising-end [] n end h = before (λ y m. absurd (List·Memᴰ·not-nil m)) end
+rising-end (x ∷ xs) n (before b s) h =
+    before (λ y m. go y (List·Memᴰ·append-cases xs m)) (rising-end xs n s (λ y m. h y (List·Memᴰ·tail m)))
   where
     go : (y : ℕ) → List·Memᴰ y xs ⊎ List·Memᴰ y (n ∷ []) → x < y
     go y (inl m) = b y m
@@ -93,7 +92,7 @@ rising-end (x ∷ xs) n (more b s) h =
 
 numbers-rise : (n : ℕ) → Rising (tabulate n (λ i. i))
 unfolding tabulate
-numbers-rise zero = none
+numbers-rise zero = end
 numbers-rise (suc n) = rising-end (tabulate n (λ i. i)) n (numbers-rise n) (is-below n)
 
 -- with a node that has the property, the least is a node

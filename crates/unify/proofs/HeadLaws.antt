@@ -155,7 +155,6 @@ module _ (ns : List Node) (w : WellFormed ns) (ps : List (ℕ × ℕ)) (h : Insi
   classes-solved =
       record {
         closed = record {
-          inside = λ i p. head-inside ns ps cs from (is i p);
           joined = joined-to;
           given = λ a b m. head-same ns cs a b (from a b (given m));
           one-variable = λ i j x p q d e. head-same ns cs i j (from i j (one-variable p q d e));

@@ -32,6 +32,22 @@ smallest R r (same {i} p) = r .has-same i p
 smallest R r (back {i} {j} q) = r .has-back i j (smallest R r q)
 smallest R r (on {i} {j} {k} p q) = r .has-on i j k (smallest R r p) (smallest R r q)
 
+-- the closure of some pairs has the rules for any of them
+pub closure-rules : {ns : List Node} (ps qs : List (ℕ × ℕ)) → ((p : ℕ × ℕ) → List·Memᴰ p ps → List·Memᴰ p qs) → Rules ns ps (Joined ns qs)
+closure-rules ps qs h =
+    record {
+      has-given = λ a b m. given (h (a, b) m);
+      has-variable = λ i j x p q d e. one-variable p q d e;
+      has-arguments = λ i j f g us vs d e l r a b m. arguments d e l r m;
+      has-same = λ i p. same p;
+      has-back = λ i j r. back r;
+      has-on = λ i j k r s. on r s;
+    }
+
+-- with more pairs more is joined
+pub more-joined : {ns : List Node} {ps : List (ℕ × ℕ)} (qs : List (ℕ × ℕ)) → ((p : ℕ × ℕ) → List·Memᴰ p ps → List·Memᴰ p qs) → {i j : ℕ} → Joined ns ps i j → Joined ns qs i j
+more-joined {ns} {ps} qs h = smallest (Joined ns qs) (closure-rules ps qs h)
+
 module _ (ns : List Node) (w : WellFormed ns) (ps : List (ℕ × ℕ)) (h : Inside ns ps) where
   -- only nodes are joined
   pub joined-inside : {i j : ℕ} → Joined ns ps i j → (i < length ns) × (j < length ns)
@@ -92,16 +108,3 @@ module _ (ns : List Node) (w : WellFormed ns) (ps : List (ℕ × ℕ)) (h : Insi
     -- and so does a class that reaches itself
     pub cycle-none : (i : ℕ) → Reaches ns ps i i → ⊥
     cycle-none i r = let l : size (value ns σ i) < size (value ns σ i) = reaches-smaller r in omega arith
-
--- with more pairs more is joined
-pub more-joined : {ns : List Node} {ps : List (ℕ × ℕ)} (qs : List (ℕ × ℕ)) → ((p : ℕ × ℕ) → List·Memᴰ p ps → List·Memᴰ p qs) → {i j : ℕ} → Joined ns ps i j → Joined ns qs i j
-more-joined {ns} {ps} qs h =
-    smallest (Joined ns qs)
-    (record {
-      has-given = λ a b m. given (h (a, b) m);
-      has-variable = λ i j x p q d e. one-variable p q d e;
-      has-arguments = λ i j f g us vs d e l r a b m. arguments d e l r m;
-      has-same = λ i p. same p;
-      has-back = λ i j r. back r;
-      has-on = λ i j k r s. on r s;
-    })

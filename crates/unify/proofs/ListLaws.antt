@@ -1,7 +1,7 @@
 -- Laws of lists that the definitions are made of: `tabulate`, `gather`, `together`. By induction. Assumes nothing.
 use Prim.Native.Nat.{ℕ, zero, suc, _<_}
 use mathlib.Core.List.{List, [], _∷_, _++_, List·Memᴰ, List·Memᴰ·head, List·Memᴰ·tail, Memᴰ·append-left, Memᴰ·append-right, List·Memᴰ·append-cases, List·Memᴰ·not-nil}
-use mathlib.Core.Logic.{_⊎_, inl, inr}
+use mathlib.Core.Logic.{_⊎_, inl, inr, _↔_}
 use mathlib.Core.Path.{_≡_, refl, ap, _∙_}
 use native.Mathlib.Decide.{decLt}
 use native.Mathlib.Omega.{arith}
@@ -47,6 +47,27 @@ gathered-from {A} (suc n) f x m = go (gathered-from n f x) (List·Memᴰ·append
     go : (List·Memᴰ x (gather n f) → (i : ℕ) × (i < n) × List·Memᴰ x (f i)) → List·Memᴰ x (gather n f) ⊎ List·Memᴰ x (f n) → (i : ℕ) × (i < suc n) × List·Memᴰ x (f i)
     go r (inl q) = let s = r q in (s .0, omega arith, s .2)
     go r (inr q) = (n, omega arith, q)
+
+together-place : (us vs : List ℕ) (a b : ℕ) → List·Memᴰ (a, b) (together us vs) → (j : ℕ) × (j < length us) × (j < length vs) × (a ≡ getD us j 0) × (b ≡ getD vs j 0)
+unfolding together
+together-place [] vs a b m = absurd (List·Memᴰ·not-nil m)
+together-place (u ∷ us) [] a b m = absurd (List·Memᴰ·not-nil m)
+together-place (u ∷ us) (v ∷ vs) a b (List·Memᴰ·head e) =
+    (0, omega arith, omega arith, ap (λ (p : ℕ × ℕ). p .0) e, ap (λ (p : ℕ × ℕ). p .1) e)
+together-place (u ∷ us) (v ∷ vs) a b (List·Memᴰ·tail m) =
+    let r = together-place us vs a b m in
+    (suc (r .0), omega (arith, r .1), omega (arith, r .2), r .3, r .4)
+
+placed-together : (us vs : List ℕ) (j : ℕ) → j < length us → j < length vs → List·Memᴰ (getD us j 0, getD vs j 0) (together us vs)
+unfolding together
+placed-together [] vs j h k = absurd (omega arith)
+placed-together (u ∷ us) [] j h k = absurd (omega arith)
+placed-together (u ∷ us) (v ∷ vs) zero h k = List·Memᴰ·head refl
+placed-together (u ∷ us) (v ∷ vs) (suc j) h k = List·Memᴰ·tail (placed-together us vs j (omega arith) (omega arith))
+
+-- "position by position": the pairs of two lists are those of the elements at one position
+pub together-at : (us vs : List ℕ) (a b : ℕ) → List·Memᴰ (a, b) (together us vs) ↔ ((j : ℕ) × (j < length us) × (j < length vs) × (a ≡ getD us j 0) × (b ≡ getD vs j 0))
+together-at us vs a b = (together-place us vs a b, λ r. rw (r .3, r .4) (placed-together us vs (r .0) (r .1) (r .2)))
 
 -- the pairs of two lists are of an element of each
 pub together-left : (us vs : List ℕ) (a b : ℕ) → List·Memᴰ (a, b) (together us vs) → List·Memᴰ a us

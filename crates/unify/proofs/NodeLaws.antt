@@ -115,3 +115,11 @@ module _ (ns : List Node) (w : WellFormed ns) where
       values-same σ (value ns τ)
       (λ i x l e. h x (i, l, e) ∙ sym (value-variable τ i x l e))
       (λ i f us l e. sym (value-application τ i f us l e))
+
+  -- the value of a node under one substitution and then another
+  pub value-after : (σ τ ρ : Substitution) → ((x : ℕ) → Present ns x → τ x ≡ sub ρ (σ x)) → (i : ℕ) → i < length ns → value ns τ i ≡ sub ρ (value ns σ i)
+  unfolding sub
+  value-after σ τ ρ h =
+      values-same τ (λ i. sub ρ (value ns σ i))
+      (λ i x p e. h x (i, p, e) ∙ ap (sub ρ) (sym (value-variable σ i x p e)))
+      (λ i f us p e. sym (ap (sub ρ) (value-application σ i f us p e) ∙ ap (app f) (subs-each ρ (value ns σ) us)))

@@ -4,12 +4,12 @@ use Prim.Native.Nat.{ℕ, suc, _<_}
 use mathlib.Core.Bool.{Bool, true, false, cond, false≢true}
 use mathlib.Core.List.{List}
 use mathlib.Core.Logic.{_↔_}
-use mathlib.Core.Path.{_≡_, refl, sym, _∙_}
+use mathlib.Core.Path.{_≡_, refl, sym, ap, _∙_}
 use native.Mathlib.Omega.{arith}
 use lib.ListN.{length}
-use Rattle.terms.specs.Substitution.{Substitution}
+use Rattle.terms.specs.Substitution.{Substitution, sub}
 use Rattle.unify.specs.Node.{Node, WellFormed, Present}
-use Rattle.unify.specs.Unifier.{Inside, Unifiable, MostGeneral}
+use Rattle.unify.specs.Unifier.{Inside, Unifies, Unifiable, MostGeneral}
 use Rattle.unify.specs.Closure.{Clash, Reaches, Occurs}
 use Rattle.unify.specs.Words.{AreWords, Reads}
 use Rattle.unify.specs.Computed.Classes.{classes, clashes}
@@ -22,9 +22,9 @@ use Rattle.unify.specs.Code.Solved.{Closed, Solved}
 use Rattle.unify.proofs.JoinedLaws.{joined-inside, clash-none, cycle-none}
 use Rattle.unify.proofs.ClassLaws.{class-joined, joined-class, clash-found, found-clash}
 use Rattle.unify.proofs.WalkLaws.{longest, longest-bound, cycle-found}
-use Rattle.unify.proofs.SolvedLaws.{closed-no-clash, solution-most-general}
+use Rattle.unify.proofs.SolvedLaws.{closed-no-clash, solution-first, solution-most-general}
 use Rattle.unify.proofs.HeadLaws.{head-lowest, classes-solved}
-use Rattle.unify.proofs.PresentLaws.{most-general-agree}
+use Rattle.unify.proofs.PresentLaws.{restricted, restricted-present, restricted-absent, present-or-not, most-general-agree}
 use Rattle.unify.proofs.ReadingLaws.{reads-one}
 use Rattle.unify.proofs.WordLaws.{words-one, words-same, Held, words-computed, words-read, solution-held, solution-lowest}
 
@@ -152,6 +152,16 @@ module _ (ns : List Node) (w : WellFormed ns) (ps : List (ℕ × ℕ)) (h : Insi
   pub reading-most-general : outcome ns ps ≡ unified → (σ : Substitution) → Reads ns (wordsOf ns ps) σ → MostGeneral ns ps σ
   reading-most-general e σ r =
       most-general-agree ns w ps h (unifier ns ps) σ (reads-one ns w (wordsOf ns ps) (unifier ns ps) σ (words-readable e) r) (unifier-most-general e)
+
+  -- taken at the variables present alone, it comes before every unifier at every variable there is
+  pub reading-everywhere : outcome ns ps ≡ unified → (σ : Substitution) → Reads ns (wordsOf ns ps) σ → (τ : Substitution) → Unifies ns ps τ → (x : ℕ) → τ x ≡ sub τ (restricted ns σ x)
+  unfolding unifier sub
+  reading-everywhere e σ r τ u x = go (present-or-not ns x)
+    where
+      go : Dec (Present ns x) → τ x ≡ sub τ (restricted ns σ x)
+      go (yes p) =
+          solution-first ns w ps h (headIn ns (classes ns ps)) (longest ns (classes ns ps)) (to-solved tested e) (suc (length ns)) bounded τ u x p ∙ ap (sub τ) (reads-one ns w (wordsOf ns ps) (unifier ns ps) σ (words-readable e) r x p ∙ restricted-present ns σ x p)
+      go (no p) = sym (ap (sub τ) (restricted-absent ns σ x p))
 
   pub one-reading : (σ τ : Substitution) → Reads ns (wordsOf ns ps) σ → Reads ns (wordsOf ns ps) τ → (x : ℕ) → Present ns x → σ x ≡ τ x
   one-reading σ τ r q = reads-one ns w (wordsOf ns ps) σ τ r q

@@ -7,7 +7,7 @@ use native.Mathlib.Omega.{arith}
 use lib.ListN.{length}
 use Rattle.terms.specs.Term.{Term, app}
 use Rattle.terms.specs.Substitution.{Substitution, sub}
-use Rattle.unify.specs.Node.{Node, variable, application, nodeAt, WellFormed, each, spell}
+use Rattle.unify.specs.Node.{Node, variable, application, nodeAt, WellFormed, each, spell, Present}
 use Rattle.unify.specs.Unifier.{Inside, value, Unifies, MostGeneral}
 use Rattle.unify.specs.Closure.{together, Joined, given, one-variable, arguments, same, back, on, Clash, different}
 use Rattle.unify.specs.Computed.Solution.{nodeOf, resolved, solution}
@@ -24,6 +24,10 @@ resolved-head zero ns head i j e = refl
 resolved-head (suc k) ns head i j e = ap (λ (c : ℕ). spell (resolved k ns head) (nodeAt ns c)) e
 
 module _ (ns : List Node) (w : WellFormed ns) (ps : List (ℕ × ℕ)) (h : Inside ns ps) (head : ℕ → ℕ) (s : Closed ns ps head) where
+  -- a head is a node
+  pub closed-inside : (i : ℕ) → i < length ns → head i < length ns
+  closed-inside i p = joined-inside ns w ps h (s .joined i p) .1
+
   -- one head is one application
   one-application : (i j f g : ℕ) (us vs : List ℕ) → head i ≡ head j → (x : HeadFits ns head i f us) (y : HeadFits ns head j g vs) → (f ≡ g) × (x .arguments ≡ y .arguments)
   one-application i j f g us vs z x y =
@@ -68,11 +72,14 @@ module _ (ns : List Node) (w : WellFormed ns) (ps : List (ℕ × ℕ)) (h : Insi
           n (r .0, x .as-long ∙ ap length (r .1) ∙ sym (y .as-long))
 
 module _ (ns : List Node) (w : WellFormed ns) (ps : List (ℕ × ℕ)) (h : Inside ns ps) (head order : ℕ → ℕ) (s : Solved ns ps head order) where
+  inside : (i : ℕ) → i < length ns → head i < length ns
+  inside = closed-inside ns w ps h head (s .closed)
+
   -- an argument of a head is a node, and comes before it
   argument-inside : (i f : ℕ) (us : List ℕ) → i < length ns → nodeAt ns (head i) ≡ application f us → (a : ℕ) → List·Memᴰ a us → a < length ns
   argument-inside i f us p e a m =
-      let l : a < head i = w .smaller (head i) f us (s .closed .inside i p) e a m in
-      let q : head i < length ns = s .closed .inside i p in
+      let l : a < head i = w .smaller (head i) f us (inside i p) e a m in
+      let q : head i < length ns = inside i p in
       omega arith
 
   -- more steps than the order asks for change nothing
@@ -100,9 +107,9 @@ module _ (ns : List Node) (w : WellFormed ns) (ps : List (ℕ × ℕ)) (h : Insi
 
       go : ((a : ℕ) → a < length ns → order (head a) < k → sub τ (resolved k ns head a) ≡ value ns τ a) → (n : Node) → nodeAt ns (head i) ≡ n → sub τ (spell (resolved k ns head) (nodeAt ns (head i))) ≡ value ns τ i
       go r (variable y) e =
-          ap (λ (n : Node). sub τ (spell (resolved k ns head) n)) e ∙ sym (value-variable ns w τ (head i) y (s .closed .inside i p) e) ∙ to-head
+          ap (λ (n : Node). sub τ (spell (resolved k ns head) n)) e ∙ sym (value-variable ns w τ (head i) y (inside i p) e) ∙ to-head
       go r (application f us) e =
-          ap (λ (n : Node). sub τ (spell (resolved k ns head) n)) e ∙ ap (app f) (subs-each τ (resolved k ns head) us) ∙ ap (app f) (each-same (λ a. sub τ (resolved k ns head a)) (value ns τ) us (λ a m. let q : order (head a) < order (head i) = s .falls i f us p e a m in r a (argument-inside i f us p e a m) (omega arith))) ∙ sym (value-application ns w τ (head i) f us (s .closed .inside i p) e) ∙ to-head
+          ap (λ (n : Node). sub τ (spell (resolved k ns head) n)) e ∙ ap (app f) (subs-each τ (resolved k ns head) us) ∙ ap (app f) (each-same (λ a. sub τ (resolved k ns head a)) (value ns τ) us (λ a m. let q : order (head a) < order (head i) = s .falls i f us p e a m in r a (argument-inside i f us p e a m) (omega arith))) ∙ sym (value-application ns w τ (head i) f us (inside i p) e) ∙ to-head
 
   module _ (k : ℕ) (enough : (i : ℕ) → i < length ns → order (head i) < k) where
     -- a node is its head, spelt out
@@ -128,16 +135,17 @@ module _ (ns : List Node) (w : WellFormed ns) (ps : List (ℕ × ℕ)) (h : Insi
     pub value-resolved : (i : ℕ) → i < length ns → value ns (solution k ns head) i ≡ resolved k ns head i
     value-resolved = values-same ns w (solution k ns head) (resolved k ns head) resolved-variable resolved-application
 
-    -- the solution is a most general unifier
-    pub solution-most-general : MostGeneral ns ps (solution k ns head)
+    -- every unifier comes after the solution, and is itself what comes after
+    pub solution-first : (τ : Substitution) → Unifies ns ps τ → (x : ℕ) → Present ns x → τ x ≡ sub τ (solution k ns head x)
     unfolding solution
+    solution-first τ u x q =
+        let l = node-of ns x q in
+        sym (after τ u k (nodeOf ns x) (l .holds .0) (enough (nodeOf ns x) (l .holds .0)) ∙ value-variable ns w τ (nodeOf ns x) x (l .holds .0) (l .holds .1))
+
+    -- so the solution is a most general unifier
+    pub solution-most-general : MostGeneral ns ps (solution k ns head)
     solution-most-general =
         record {
           unifies = λ a b m. value-resolved a (h a b m .0) ∙ resolved-head k ns head a b (s .closed .given a b m) ∙ sym (value-resolved b (h a b m .1));
-          factors = λ τ u. (
-            τ,
-            λ x q.
-                let l = node-of ns x q in
-                sym (after τ u k (nodeOf ns x) (l .holds .0) (enough (nodeOf ns x) (l .holds .0)) ∙ value-variable ns w τ (nodeOf ns x) x (l .holds .0) (l .holds .1)),
-          );
+          factors = λ τ u. (τ, solution-first τ u);
         }

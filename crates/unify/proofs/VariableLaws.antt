@@ -1,25 +1,21 @@
 -- The list `variablesOf` is rising and holds exactly the variables present: `insert` puts a number in its place, once.
 -- By induction on the list, and by cases on how the number compares with the first. Assumes nothing.
-use Prim.Native.Nat.{ℕ, zero, suc, _<_}
+use Prim.Native.Nat.{ℕ, zero, suc, _<_, _≤_}
 use mathlib.Core.Bool.{Bool, true, false, cond}
 use mathlib.Core.List.{List, [], _∷_, List·Memᴰ, List·Memᴰ·head, List·Memᴰ·tail, List·Memᴰ·cases-cons, List·Memᴰ·not-nil}
-use mathlib.Core.Logic.{_⊎_, inl, inr}
+use mathlib.Core.Logic.{_⊎_, inl, inr, _↔_}
 use mathlib.Core.Path.{_≡_, refl, sym, ap}
 use native.Mathlib.Omega.{arith}
 use borrow.Author.Tests.{ltb-true, ltb-false, eqb-true, eqb-false}
 use lib.Dec.{eqb, ltb}
 use lib.ListN.{length}
 use Rattle.unify.specs.Node.{Node, variable, application, nodeAt, Present}
+use Rattle.unify.specs.Words.{Rising, end, before, AreVariables}
 use Rattle.unify.specs.Computed.Variables.{insert, variablesOf}
-
--- each number of a list is below all that come after it
-pub data Rising : List ℕ → Type 0 where
-  none : Rising []
-  more : {x : ℕ} {xs : List ℕ} → ((y : ℕ) → List·Memᴰ y xs → x < y) → Rising xs → Rising (x ∷ xs)
 
 -- what `insert` gives, by how the number compares with the first
 data Inserted (x y : ℕ) (ys : List ℕ) : List ℕ → Type 0 where
-  before : x < y → Inserted x y ys (x ∷ y ∷ ys)
+  ahead : x < y → Inserted x y ys (x ∷ y ∷ ys)
   there : x ≡ y → Inserted x y ys (y ∷ ys)
   after : y < x → Inserted x y ys (y ∷ insert x ys)
 
@@ -28,7 +24,7 @@ unfolding insert
 inserted x y ys = pick (ltb x y) refl (eqb x y) refl
   where
     pick : (a : Bool) → ltb x y ≡ a → (b : Bool) → eqb x y ≡ b → Inserted x y ys (cond (ltb x y) (x ∷ y ∷ ys) (cond (eqb x y) (y ∷ ys) (y ∷ insert x ys)))
-    pick true p b q = rw p (before (ltb-true x y p))
+    pick true p b q = rw p (ahead (ltb-true x y p))
     pick false p true q = rw (p, q) (there (eqb-true x y q))
     pick false p false q =
         let h = ltb-false x y p in
@@ -41,7 +37,7 @@ insert-from x [] z m = List·Memᴰ·cases-cons m
 insert-from x (y ∷ ys) z m = go (insert x (y ∷ ys)) (inserted x y ys) m (insert-from x ys z)
   where
     go : (l : List ℕ) → Inserted x y ys l → List·Memᴰ z l → (List·Memᴰ z (insert x ys) → (z ≡ x) ⊎ List·Memᴰ z ys) → (z ≡ x) ⊎ List·Memᴰ z (y ∷ ys)
-    go l (before h) n r = List·Memᴰ·cases-cons n
+    go l (ahead h) n r = List·Memᴰ·cases-cons n
     go l (there h) n r = inr n
     go l (after h) (List·Memᴰ·head e) r = inr (List·Memᴰ·head e)
     go l (after h) (List·Memᴰ·tail n) r = deeper (r n)
@@ -56,7 +52,7 @@ insert-here x [] = List·Memᴰ·head refl
 insert-here x (y ∷ ys) = go (insert x (y ∷ ys)) (inserted x y ys) (insert-here x ys)
   where
     go : (l : List ℕ) → Inserted x y ys l → List·Memᴰ x (insert x ys) → List·Memᴰ x l
-    go l (before h) r = List·Memᴰ·head refl
+    go l (ahead h) r = List·Memᴰ·head refl
     go l (there h) r = List·Memᴰ·head h
     go l (after h) r = List·Memᴰ·tail r
 
@@ -66,24 +62,24 @@ insert-keeps x [] z m = absurd (List·Memᴰ·not-nil m)
 insert-keeps x (y ∷ ys) z m = go (insert x (y ∷ ys)) (inserted x y ys) m (insert-keeps x ys z)
   where
     go : (l : List ℕ) → Inserted x y ys l → List·Memᴰ z (y ∷ ys) → (List·Memᴰ z ys → List·Memᴰ z (insert x ys)) → List·Memᴰ z l
-    go l (before h) n r = List·Memᴰ·tail n
+    go l (ahead h) n r = List·Memᴰ·tail n
     go l (there h) n r = n
     go l (after h) (List·Memᴰ·head e) r = List·Memᴰ·head e
     go l (after h) (List·Memᴰ·tail n) r = List·Memᴰ·tail (r n)
 
 insert-rises : (x : ℕ) (ys : List ℕ) → Rising ys → Rising (insert x ys)
 unfolding insert
-insert-rises x [] r = more (λ y m. absurd (List·Memᴰ·not-nil m)) none
+insert-rises x [] r = before (λ y m. absurd (List·Memᴰ·not-nil m)) end
 insert-rises x (y ∷ ys) r = go (insert x (y ∷ ys)) (inserted x y ys) r (insert-rises x ys)
   where
     go : (l : List ℕ) → Inserted x y ys l → Rising (y ∷ ys) → (Rising ys → Rising (insert x ys)) → Rising l
-    go l (before h) (more b s) f = more (λ z m. first z (List·Memᴰ·cases-cons m)) (more b s)
+    go l (ahead h) (before b s) f = before (λ z m. first z (List·Memᴰ·cases-cons m)) (before b s)
       where
         first : (z : ℕ) → (z ≡ y) ⊎ List·Memᴰ z ys → x < z
         first z (inl e) = omega arith
         first z (inr m) = let k = b z m in omega (arith, k)
     go l (there h) s f = s
-    go l (after h) (more b s) f = more (λ z m. rest z (insert-from x ys z m)) (f s)
+    go l (after h) (before b s) f = before (λ z m. rest z (insert-from x ys z m)) (f s)
       where
         rest : (z : ℕ) → (z ≡ x) ⊎ List·Memᴰ z ys → y < z
         rest z (inl e) = omega arith
@@ -92,7 +88,7 @@ insert-rises x (y ∷ ys) r = go (insert x (y ∷ ys)) (inserted x y ys) r (inse
 -- the list is rising
 pub variables-rise : (ns : List Node) → Rising (variablesOf ns)
 unfolding variablesOf
-variables-rise [] = none
+variables-rise [] = end
 variables-rise (variable x ∷ ns) = insert-rises x (variablesOf ns) (variables-rise ns)
 variables-rise (application f us ∷ ns) = variables-rise ns
 
@@ -121,3 +117,35 @@ variable-at (application f us ∷ ns) x (suc i) h e = variable-at ns x i (omega 
 -- what is present is in the list
 pub present-variables : (ns : List Node) (x : ℕ) → Present ns x → List·Memᴰ x (variablesOf ns)
 present-variables ns x p = variable-at ns x (p .0) (p .1) (p .2)
+
+-- the list is the variables present in rising order
+pub variables-are : (ns : List Node) → AreVariables ns (variablesOf ns)
+variables-are ns =
+    record { rising = variables-rise ns; present = λ x. (variables-present ns x, present-variables ns x) }
+
+-- the first of a rising list is the least
+head-least : (x y : ℕ) (ys : List ℕ) → Rising (y ∷ ys) → List·Memᴰ x (y ∷ ys) → y ≤ x
+head-least x y ys (before b r) (List·Memᴰ·head e) = omega arith
+head-least x y ys (before b r) (List·Memᴰ·tail m) = let k = b x m in omega (arith, k)
+
+not-first : (x y : ℕ) (ys : List ℕ) → y < x → List·Memᴰ x (y ∷ ys) → List·Memᴰ x ys
+not-first x y ys h (List·Memᴰ·head e) = absurd (omega arith)
+not-first x y ys h (List·Memᴰ·tail m) = m
+
+-- rising lists with the same members are one list
+rising-one : (xs ys : List ℕ) → Rising xs → Rising ys → ((x : ℕ) → List·Memᴰ x xs ↔ List·Memᴰ x ys) → xs ≡ ys
+rising-one [] [] r s h = refl
+rising-one [] (y ∷ ys) r s h = absurd (List·Memᴰ·not-nil (h y .1 (List·Memᴰ·head refl)))
+rising-one (x ∷ xs) [] r s h = absurd (List·Memᴰ·not-nil (h x .0 (List·Memᴰ·head refl)))
+rising-one (x ∷ xs) (y ∷ ys) (before b r) (before c s) h =
+    let p : y ≤ x = head-least x y ys (before c s) (h x .0 (List·Memᴰ·head refl)) in
+    let q : x ≤ y = head-least y x xs (before b r) (h y .1 (List·Memᴰ·head refl)) in
+    let e : x ≡ y = omega arith in
+    let t : xs ≡ ys = rising-one xs ys r s (λ z. ((λ m. let k = b z m in not-first z y ys (omega (arith, k)) (h z .0 (List·Memᴰ·tail m))), (λ m. let k = c z m in not-first z x xs (omega (arith, k)) (h z .1 (List·Memᴰ·tail m))))) in
+    rw (e, t)
+
+-- and it is the only such list
+pub variables-one : (ns : List Node) (xs : List ℕ) → AreVariables ns xs → xs ≡ variablesOf ns
+variables-one ns xs v =
+    rising-one xs (variablesOf ns) (v .rising) (variables-rise ns)
+    (λ x. ((λ m. present-variables ns x (v .present x .0 m)), (λ m. v .present x .1 (variables-present ns x m))))

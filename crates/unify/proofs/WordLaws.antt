@@ -18,10 +18,10 @@ use Rattle.unify.specs.Computed.Solution.{firstWith, leastNode, isApplic
 use Rattle.unify.specs.Computed.Binding.{isBoundTo, hasValue, wordFor, wordOf, bindingWords}
 use Rattle.unify.specs.Code.Solved.{Solved}
 use Rattle.unify.proofs.MatchedLaws.{matched-map, matched-one, matched-by}
-use Rattle.unify.proofs.NodeLaws.{subs-each, value-variable, value-application, values-same}
+use Rattle.unify.proofs.NodeLaws.{value-variable, value-after}
 use Rattle.unify.proofs.VariableLaws.{variables-rise, variables-present, present-variables}
 use Rattle.unify.proofs.FirstLaws.{first-in, first-has, first-least, least-below, least-has, least-least, node-of}
-use Rattle.unify.proofs.SolvedLaws.{resolved-head, joined-head, resolved-node, value-resolved}
+use Rattle.unify.proofs.SolvedLaws.{closed-inside, resolved-head, joined-head, resolved-node, value-resolved}
 
 least-one : {P : ℕ → Type 0} {m n : ℕ} → Least P m → Least P n → m ≡ n
 least-one {P} {m} {n} a b =
@@ -45,19 +45,12 @@ pub words-one : (ns : List Node) (σ : Substitution) (vs ws : List ℕ) → AreW
 words-one ns σ vs ws = matched-one (λ x v w a b. word-one a b)
 
 module _ (ns : List Node) (w : WellFormed ns) (ps : List (ℕ × ℕ)) where
-  after-value : (σ τ ρ : Substitution) → ((x : ℕ) → Present ns x → τ x ≡ sub ρ (σ x)) → (i : ℕ) → i < length ns → value ns τ i ≡ sub ρ (value ns σ i)
-  unfolding sub
-  after-value σ τ ρ h =
-      values-same ns w τ (λ i. sub ρ (value ns σ i))
-      (λ i x p e. h x (i, p, e) ∙ ap (sub ρ) (sym (value-variable ns w σ i x p e)))
-      (λ i f us p e. sym (ap (sub ρ) (value-application ns w σ i f us p e) ∙ ap (app f) (subs-each ρ (value ns σ) us)))
-
   -- what is equal under a most general unifier is equal under every unifier
   module _ (σ τ : Substitution) (g : MostGeneral ns ps σ) (u : Unifies ns ps τ) (x : ℕ) (q : Present ns x) where
     bound-kept : {i : ℕ} → BoundTo ns σ (σ x) i → BoundTo ns τ (τ x) i
     bound-kept {i} (k, us, p, d, e) =
         let f = g .factors τ u in
-        (k, us, p, d, after-value σ τ (f .0) (f .1) i p ∙ ap (sub (f .0)) e ∙ sym (f .1 x q))
+        (k, us, p, d, value-after ns w σ τ (f .0) (f .1) i p ∙ ap (sub (f .0)) e ∙ sym (f .1 x q))
 
     present-kept : {y : ℕ} → Present ns y × (σ y ≡ σ x) → Present ns y × (τ y ≡ τ x)
     present-kept {y} (p, e) =
@@ -184,7 +177,7 @@ module _ (ns : List Node) (w : WellFormed ns) (ps : List (ℕ × ℕ)) (h : Insi
   head-value : (x : ℕ) → Present ns x → value ns (solution k ns head) (head (nodeOf ns x)) ≡ solution k ns head x
   unfolding solution
   head-value x q =
-      value-resolved ns w ps h head order s k enough (head (nodeOf ns x)) (s .closed .inside (nodeOf ns x) (at x q)) ∙ sym (resolved-head k ns head _ _ (joined-head ns w ps h head (s .closed) (s .closed .joined (nodeOf ns x) (at x q))))
+      value-resolved ns w ps h head order s k enough (head (nodeOf ns x)) (closed-inside ns w ps h head (s .closed) (nodeOf ns x) (at x q)) ∙ sym (resolved-head k ns head _ _ (joined-head ns w ps h head (s .closed) (s .closed .joined (nodeOf ns x) (at x q))))
 
   head-variable : (x z : ℕ) → Present ns x → solution k ns head x ≡ var z → nodeAt ns (head (nodeOf ns x)) ≡ variable z
   unfolding spell
@@ -203,7 +196,7 @@ module _ (ns : List Node) (w : WellFormed ns) (ps : List (ℕ × ℕ)) (h : Insi
     where
       go : (o : Node) → nodeAt ns (head (nodeOf ns x)) ≡ o → BoundTo ns (solution k ns head) (solution k ns head x) (head (nodeOf ns x))
       go (variable y) d = not-both (solution k ns head x) f y ts e (spelt x q ∙ ap (spell (resolved k ns head)) d)
-      go (application g us) d = (g, us, s .closed .inside (nodeOf ns x) (at x q), d, head-value x q)
+      go (application g us) d = (g, us, closed-inside ns w ps h head (s .closed) (nodeOf ns x) (at x q), d, head-value x q)
 
   -- what the words ask of the solution of a solved form
   pub solution-held : Held ns (solution k ns head)
@@ -213,7 +206,7 @@ module _ (ns : List Node) (w : WellFormed ns) (ps : List (ℕ × ℕ)) (h : Insi
   pub solution-lowest : ((i x y : ℕ) → i < length ns → nodeAt ns i ≡ variable x → nodeAt ns (head i) ≡ variable y → y ≤ x) → Lowest ns (solution k ns head)
   solution-lowest lowest x z q e =
       let d = head-variable x z q e in
-      let i = s .closed .inside (nodeOf ns x) (at x q) in
+      let i = closed-inside ns w ps h head (s .closed) (nodeOf ns x) (at x q) in
       record {
         holds = ((head (nodeOf ns x), i, d), sym (value-variable ns w (solution k ns head) (head (nodeOf ns x)) z i d) ∙ head-value x q);
         least = λ y b. lowest (nodeOf ns y) y z (at y (b .0)) (node-of ns y (b .0) .holds .1) (head-variable y z (b .0) (b .1 ∙ e));

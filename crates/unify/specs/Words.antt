@@ -1,6 +1,7 @@
 -- "The unifier is given as one word for each variable present in the nodes section, in rising order of variable number."
 use Prim.Native.Nat.{ℕ, _<_, _≤_}
-use mathlib.Core.List.{List, [], _∷_}
+use mathlib.Core.List.{List, [], _∷_, List·Memᴰ}
+use mathlib.Core.Logic.{_↔_}
 use mathlib.Core.Path.{_≡_}
 use lib.ListN.{length}
 use Rattle.terms.specs.Term.{Term, var, app, Terms}
@@ -8,6 +9,16 @@ use Rattle.terms.specs.Substitution.{Substitution}
 use Rattle.unify.specs.Node.{Node, variable, application, nodeAt, Present}
 use Rattle.unify.specs.Unifier.{value}
 use Rattle.unify.specs.Computed.Variables.{variablesOf}
+
+-- "in rising order": each number is below all that come after it.
+pub data Rising : List ℕ → Type 0 where
+  end : Rising []
+  before : {x : ℕ} {xs : List ℕ} → ((y : ℕ) → List·Memᴰ y xs → x < y) → Rising xs → Rising (x ∷ xs)
+
+-- "each variable present in the nodes section, in rising order of variable number"
+pub record AreVariables (ns : List Node) (xs : List ℕ) : Type 0 where
+  pub rising : Rising xs
+  pub present : (x : ℕ) → List·Memᴰ x xs ↔ Present ns x
 
 -- The least number with a property.
 pub record Least (P : ℕ → Type 0) (n : ℕ) : Type 0 where

@@ -16,7 +16,6 @@ pub record HeadFits (ns : List Node) (head : ℕ → ℕ) (i f : ℕ) (us : List
 -- Heads that stand for the classes of a list of pairs without clash.
 pub record Closed (ns : List Node) (ps : List (ℕ × ℕ)) (head : ℕ → ℕ) : Type 0 where
   -- a head is joined with its node
-  pub inside : (i : ℕ) → i < length ns → head i < length ns
   pub joined : (i : ℕ) → i < length ns → Joined ns ps i (head i)
   -- what the closure joins has one head
   pub given : (a b : ℕ) → List·Memᴰ (a, b) ps → head a ≡ head b
