@@ -148,8 +148,8 @@ module _ (t : List ℕ) (a b : ℕ) (lent : List ℕ) where
   unified-exactly =
       exactly unified ((σ : Substitution) × (value (nodesIn t) σ a ≡ value (nodesIn t) σ b))
       (λ u.
-        let m = outcome-unified (nodesIn t) (well-formed t (u .table)) ((a, b) ∷ []) (one-pair u) in
-        ((λ e. let v = m .0 e in (v .0, v .1 a b (List·Memᴰ·head refl))), (λ v. m .1 (v .0, unifies-pair (v .0) (v .1)))))
+      let m = outcome-unified (nodesIn t) (well-formed t (u .table)) ((a, b) ∷ []) (one-pair u) in
+      ((λ e. let v = m .0 e in (v .0, v .1 a b (List·Memᴰ·head refl))), (λ v. m .1 (v .0, unifies-pair (v .0) (v .1)))))
 
   -- clash exactly if it is not refused and the closure has a clash
   pub clash-exactly : unification t a b (length lent) ≡ ended clash ↔ (Unrefused t a b (length lent) × Clash (nodesIn t) ((a, b) ∷ []))

@@ -17,5 +17,6 @@ pub mod ReadingLaws
 pub mod WordLaws
 pub mod OutcomeLaws
 pub mod PairLaws
+pub mod ValuedLaws
 pub mod AnswerLaws
 pub mod Starred

@@ -75,8 +75,8 @@ module _ (ns : List Node) (w : WellFormed ns) (ps : List (ℕ × ℕ)) (h : Insi
   inside : (i : ℕ) → i < length ns → head i < length ns
   inside = closed-inside ns w ps h head (s .closed)
 
-  -- an argument of a head is a node, and comes before it
-  argument-inside : (i f : ℕ) (us : List ℕ) → i < length ns → nodeAt ns (head i) ≡ application f us → (a : ℕ) → List·Memᴰ a us → a < length ns
+  -- an argument of a head is a node
+  pub argument-inside : (i f : ℕ) (us : List ℕ) → i < length ns → nodeAt ns (head i) ≡ application f us → (a : ℕ) → List·Memᴰ a us → a < length ns
   argument-inside i f us p e a m =
       let l : a < head i = w .smaller (head i) f us (inside i p) e a m in
       let q : head i < length ns = inside i p in
