@@ -61,10 +61,15 @@ abbrev pub repeats : List ℕ
 repeats =
     12 ∷ 28 ∷ 40 ∷ 4 ∷ 44 ∷ 0 ∷ 44 ∷ 0 ∷ 44 ∷ 0 ∷ 44 ∷ 0 ∷ 0 ∷ 0 ∷ 0 ∷ 0 ∷ 1 ∷ 1 ∷ 0 ∷ 0 ∷ 1 ∷ 1 ∷ 0 ∷ 0 ∷ 0 ∷ 0 ∷ 0 ∷ 0 ∷ 1 ∷ 1 ∷ 0 ∷ 0 ∷ 1 ∷ 3 ∷ 0 ∷ 2 ∷ 1 ∷ 3 ∷ 2 ∷ 2 ∷ 1 ∷ 3 ∷ 2 ∷ 4 ∷ []
 
--- 0 a, 1 variable 9, 2 variable 4
+-- 0 a, 1 variable 63, 2 variable 4
 abbrev pub apart : List ℕ
 apart =
-    12 ∷ 12 ∷ 24 ∷ 0 ∷ 24 ∷ 0 ∷ 24 ∷ 0 ∷ 24 ∷ 0 ∷ 24 ∷ 0 ∷ 1 ∷ 1 ∷ 0 ∷ 0 ∷ 0 ∷ 9 ∷ 0 ∷ 0 ∷ 0 ∷ 4 ∷ 0 ∷ 0 ∷ []
+    12 ∷ 12 ∷ 24 ∷ 0 ∷ 24 ∷ 0 ∷ 24 ∷ 0 ∷ 24 ∷ 0 ∷ 24 ∷ 0 ∷ 1 ∷ 1 ∷ 0 ∷ 0 ∷ 0 ∷ 63 ∷ 0 ∷ 0 ∷ 0 ∷ 4 ∷ 0 ∷ 0 ∷ []
+
+-- 0 x, 1 x
+abbrev pub x-twice : List ℕ
+x-twice =
+    12 ∷ 8 ∷ 20 ∷ 0 ∷ 20 ∷ 0 ∷ 20 ∷ 0 ∷ 20 ∷ 0 ∷ 20 ∷ 0 ∷ 0 ∷ 0 ∷ 0 ∷ 0 ∷ 0 ∷ 0 ∷ 0 ∷ 0 ∷ []
 
 -- A table, two of its nodes and lent words; then the answer and the lent words after the call.
 abbrev pub Example : Type 0
@@ -98,6 +103,8 @@ examples =
     (repeats, 5, 6, 7 ∷ [], ended unified, 1 ∷ []) ∷
     -- variables in neither term, in rising order
     (apart, 0, 0, 7 ∷ 8 ∷ [], ended unified, 2 ∷ 1 ∷ []) ∷
+    -- the least of two nodes of one variable
+    (x-twice, 1, 1, 7 ∷ [], ended unified, 0 ∷ []) ∷
     []
 
 abbrev pub computed : Example → Answer × List ℕ
