@@ -1,5 +1,5 @@
--- What the answer says of the lent words: unified is answered only if no condition holds, so that there is a word for each variable,
--- and a binding word is made for each. By cases on the answer. Assumes nothing.
+-- What a call answers and leaves in the lent words, for any table: whether it is refused is settled by the conditions, and the rest by what unifying the two nodes comes to.
+-- By cases on the answer. Assumes nothing.
 use Prim.Native.Nat.{ℕ, zero, suc, _<_, _≤_}
 use mathlib.Core.List.{List, [], _∷_, _++_, List·Memᴰ·head, List·Memᴰ·eq-of-singleton}
 use mathlib.Core.Logic.{_↔_}
@@ -8,14 +8,14 @@ use native.Mathlib.Omega.{arith}
 use borrow.Author.Tests.{ltb-false, leb-false, lt-leb, le-ltb}
 use lib.ListN.{length, take, drop, length-map, length-append, length-drop}
 use lib.Seq.{take-at, drop-at}
+use Rattle.table.specs.declared.Refusal.{Refusal}
+use Rattle.table.specs.Answer.{numberOf}
 use Rattle.table.specs.Refusal.{firstHeld, First, later, none}
 use Rattle.table.proofs.BoolLaws.{or-false-left, or-false-right, or-both-false}
 use Rattle.table.proofs.RefusalLaws.{first-means}
 use Rattle.table.proofs.AcceptedLaws.{pass, accepted-first}
-use Rattle.terms.specs.Substitution.{Substitution}
-use Rattle.table.specs.declared.Refusal.{Refusal}
-use Rattle.table.specs.Answer.{numberOf}
 use Rattle.table.proofs.AnswerLaws.{number-apart}
+use Rattle.terms.specs.Substitution.{Substitution}
 use Rattle.unify.specs.declared.Unification.{Unification}
 use Rattle.unify.specs.Node.{nodesIn, Present}
 use Rattle.unify.specs.Unifier.{Inside, value, Unifies, MostGeneral}
@@ -49,6 +49,7 @@ refused-exactly t a b lent n =
     let c = after-refused (firstHeld (unifyConditions t a b lent)) (outcome (nodesIn t) ((a, b) ∷ [])) n in
     ((λ e. let r = c .0 e in (r .0, f .0 (r .1))), (λ r. c .1 (r .0, f .1 (r .1))))
 
+-- no condition holds: what a call that is not refused has
 no-condition : (t : List ℕ) (a b lent : ℕ) → firstHeld (unifyConditions t a b lent) ≡ 0 → Unrefused t a b lent
 unfolding unifyConditions notNode
 no-condition t a b lent e =
@@ -62,6 +63,7 @@ no-condition t a b lent e =
       enough = ltb-false lent (variableCount t) (d .0);
     }
 
+-- and the other way round
 condition-none : (t : List ℕ) (a b lent : ℕ) → Unrefused t a b lent → firstHeld (unifyConditions t a b lent) ≡ 0
 unfolding unifyConditions notNode
 condition-none t a b lent u =

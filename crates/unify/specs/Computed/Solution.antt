@@ -1,4 +1,4 @@
--- The substitution that the classes give.
+-- The substitution that classes give, each named by a head (`solution-most-general`).
 use Prim.Native.Nat.{ℕ, zero, suc}
 use mathlib.Core.Bool.{Bool, true, false, cond, _&&_}
 use mathlib.Core.List.{List, [], _∷_}
@@ -28,10 +28,11 @@ unfoldable pub isVariable : ℕ → Node → Bool
 isVariable x (variable y) = eqb x y
 isVariable x (application f us) = false
 
--- The least node of a variable.
+-- Node i is of variable x.
 unfoldable pub isNodeOf : List Node → ℕ → ℕ → Bool
 isNodeOf ns x i = isVariable x (nodeAt ns i)
 
+-- The least node of a variable (`node-of`).
 unfoldable pub nodeOf : List Node → ℕ → ℕ
 nodeOf ns x = leastNode ns (isNodeOf ns x)
 
@@ -40,16 +41,18 @@ unfoldable pub resolved : ℕ → List Node → (ℕ → ℕ) → ℕ → Term
 resolved zero ns head i = var 0
 resolved (suc k) ns head i = spell (resolved k ns head) (nodeAt ns (head i))
 
+-- The term of a variable is that of its node.
 unfoldable pub solution : ℕ → List Node → (ℕ → ℕ) → Substitution
 solution k ns head x = resolved k ns head (nodeOf ns x)
 
--- The head of node i: the least application of its class, otherwise the least node of the lowest variable of its class.
+-- Node j is an application in the class of node i; variable x has a node in the class of node i.
 unfoldable pub isApplicationIn : List Node → List ℕ → ℕ → ℕ → Bool
 isApplicationIn ns cs i j = eqb (classOf cs i) (classOf cs j) && isApplication (nodeAt ns j)
 
 unfoldable pub isVariableIn : List Node → List ℕ → ℕ → ℕ → Bool
 isVariableIn ns cs i x = eqb (classOf cs i) (classOf cs (nodeOf ns x))
 
+-- The head of node i: the least application of its class, otherwise the least node of the lowest variable of its class.
 unfoldable pub headIn : List Node → List ℕ → ℕ → ℕ
 headIn ns cs i =
     cond (someBelow (length ns) (isApplicationIn ns cs i))
