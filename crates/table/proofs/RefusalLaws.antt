@@ -1,9 +1,10 @@
 -- A refusal is given exactly if its condition holds and none before it. By induction on the conditions. Assumes nothing.
-use Prim.Native.Nat.{ℕ}
+use Prim.Native.Nat.{ℕ, _≤_}
 use mathlib.Core.Bool.{Bool, true, false}
 use mathlib.Core.Path.{_≡_, refl, sym}
 use mathlib.Core.Logic.{_↔_}
 use mathlib.Core.List.{List, [], _∷_}
+use native.Mathlib.Omega.{arith}
 use lib.ListN.{drop}
 use Rattle.table.specs.Refusal.{conditions, firstHeld, refusal, First, here, later, none}
 
@@ -30,6 +31,19 @@ first-means n cs = (held-first n cs, first-held n)
 pub refused : (t : List ℕ) (n : ℕ) → refusal t ≡ n ↔ First n (conditions t)
 unfolding refusal
 refused t n = first-means n (conditions t)
+
+below : {n m : ℕ} {b : Bool} {cs : List (ℕ × Bool)} → m ≤ 7 → (First n cs → n ≤ 7) → First n ((m, b) ∷ cs) → n ≤ 7
+below h f (here e z) = omega arith
+below h f (later z r) = f r
+
+last : {n : ℕ} → First n [] → n ≤ 7
+last (none e) = omega arith
+
+-- checking a table gives none of the refusals that other operations add
+pub refusal-most : (t : List ℕ) → refusal t ≤ 7
+unfolding conditions
+refusal-most t =
+    below (omega arith) (below (omega arith) (below (omega arith) (below (omega arith) (below (omega arith) (below (omega arith) (below (omega arith) last)))))) (refused t (refusal t) .0 refl)
 
 -- the step from one condition to the next
 pub not-held : (c : ℕ × Bool) (cs : List (ℕ × Bool)) → c .1 ≡ false → firstHeld (c ∷ cs) ≡ firstHeld cs

@@ -1,7 +1,7 @@
 -- `firstWith` finds the first number with a property: by induction on the list. The numbers below n, in order, are a rising list.
 -- So the first node with a property is the least. Assumes nothing.
 use Prim.Native.Nat.{ℕ, zero, suc, _<_, _≤_}
-use mathlib.Core.Bool.{Bool, true, false, cond}
+use mathlib.Core.Bool.{Bool, true, false, cond, false≢true}
 use mathlib.Core.List.{List, [], _∷_, _++_, List·Memᴰ, List·Memᴰ·head, List·Memᴰ·tail, Memᴰ·append-left, Memᴰ·append-right, List·Memᴰ·append-cases, List·Memᴰ·cases-cons, List·Memᴰ·eq-of-singleton, List·Memᴰ·not-nil}
 use mathlib.Core.Logic.{_⊎_, inl, inr}
 use mathlib.Core.Path.{_≡_, refl, sym, ap}
@@ -11,7 +11,7 @@ use borrow.Author.Tests.{eqb-true, eq-eqb}
 use lib.ListN.{length}
 use Rattle.unify.specs.Node.{Node, variable, application, nodeAt, tabulate, Present}
 use Rattle.unify.specs.Words.{Rising, end, before, Least}
-use Rattle.unify.specs.Computed.Solution.{firstWith, leastNode, isVariable, isNodeOf, nodeOf}
+use Rattle.unify.specs.Computed.Solution.{firstWith, leastNode, isApplication, isVariable, isNodeOf, nodeOf}
 
 -- what `firstWith` gives: the first with the property, or one further on
 data First (p : ℕ → Bool) (d x : ℕ) (xs : List ℕ) : ℕ → Type 0 where
@@ -109,6 +109,12 @@ least-has ns p i h e = first-has p (length ns) _ i (below (length ns) i h) e
 pub least-least : (ns : List Node) (p : ℕ → Bool) (i : ℕ) → i < length ns → p i ≡ true → leastNode ns p ≤ i
 unfolding leastNode
 least-least ns p i h e = first-least p (length ns) _ (numbers-rise (length ns)) i (below (length ns) i h) e
+
+-- what the test of an application says
+pub is-application : (n : Node) → isApplication n ≡ true → (f : ℕ) × (us : List ℕ) × (n ≡ application f us)
+unfolding isApplication
+is-application (variable x) h = absurd (false≢true h)
+is-application (application f us) h = (f, us, refl)
 
 -- what the test of a variable's node says
 pub is-variable : (x : ℕ) (n : Node) → isVariable x n ≡ true → n ≡ variable x

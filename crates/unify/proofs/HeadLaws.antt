@@ -12,7 +12,6 @@ use Rattle.table.specs.Some.{someBelow}
 use Rattle.table.proofs.SomeLaws.{some-means, none-some}
 use Rattle.table.proofs.BoolLaws.{and-true-left, and-true-right}
 use Rattle.unify.specs.Node.{Node, variable, application, nodeAt, WellFormed}
-use Rattle.unify.specs.Unifier.{Inside}
 use Rattle.unify.specs.Closure.{OneSymbol, Joined, given, one-variable, arguments, Clash, different}
 use Rattle.unify.specs.Computed.Variables.{variablesOf}
 use Rattle.unify.specs.Computed.Classes.{classOf}
@@ -20,13 +19,37 @@ use Rattle.unify.specs.Computed.Walks.{cyclic}
 use Rattle.unify.specs.Computed.Solution.{firstWith, leastNode, isApplication, nodeOf, isApplicationIn, isVariableIn, headIn}
 use Rattle.unify.specs.Code.Solved.{HeadFits, Solved}
 use Rattle.unify.proofs.VariableLaws.{variables-rise, variables-present, present-variables}
-use Rattle.unify.proofs.FirstLaws.{first-in, first-has, first-least, least-below, least-has, node-of}
+use Rattle.unify.proofs.FirstLaws.{is-application, first-in, first-has, first-least, least-below, least-has, node-of}
 use Rattle.unify.proofs.WalkLaws.{longest, longest-same, argument-shorter}
 
 -- The head of node i is h: an application of its class, or where there is none, a node of the lowest variable of its class.
 data HeadIs (ns : List Node) (cs : List ℕ) (i h : ℕ) : Type 0 where
   applied : (f : ℕ) (us : List ℕ) → h < length ns → classOf cs i ≡ classOf cs h → nodeAt ns h ≡ application f us → HeadIs ns cs i h
   free : (y : ℕ) → h < length ns → classOf cs i ≡ classOf cs h → nodeAt ns h ≡ variable y → ((j x : ℕ) → j < length ns → classOf cs i ≡ classOf cs j → nodeAt ns j ≡ variable x → y ≤ x) → ((j f : ℕ) (us : List ℕ) → j < length ns → classOf cs i ≡ classOf cs j → nodeAt ns j ≡ application f us → ⊥) → HeadIs ns cs i h
+
+-- what a head has: it is a node of the class, the lowest if it is a variable, and an application if its node is one
+head-inside : {ns : List Node} {cs : List ℕ} {i h : ℕ} → HeadIs ns cs i h → h < length ns
+head-inside (applied f us p c e) = p
+head-inside (free y p c e l n) = p
+
+head-class : {ns : List Node} {cs : List ℕ} {i h : ℕ} → HeadIs ns cs i h → classOf cs i ≡ classOf cs h
+head-class (applied f us p c e) = c
+head-class (free y p c e l n) = c
+
+lowest-of : {ns : List Node} {cs : List ℕ} {i h : ℕ} (x y : ℕ) → i < length ns → HeadIs ns cs i h → nodeAt ns i ≡ variable x → nodeAt ns h ≡ variable y → y ≤ x
+lowest-of x y p (applied f us q c e) d g =
+    let z : application f us ≡ variable y = sym e ∙ g in
+    let o : _≡_ {A = ℕ} 0 1 = cc in
+    absurd (omega arith)
+lowest-of {i = i} x y p (free v q c e l n) d g =
+    let z : variable v ≡ variable y = sym e ∙ g in
+    let o : v ≡ y = cc in
+    let b : v ≤ x = l i x p refl d in
+    omega arith
+
+head-applied : {ns : List Node} {cs : List ℕ} {i h : ℕ} (f : ℕ) (us : List ℕ) → i < length ns → HeadIs ns cs i h → nodeAt ns i ≡ application f us → (g : ℕ) × (vs : List ℕ) × (nodeAt ns h ≡ application g vs)
+head-applied f us p (applied g vs q c e) d = (g, vs, e)
+head-applied {i = i} f us p (free y q c e l n) d = absurd (n i f us p refl d)
 
 -- nodes of one class have one head
 head-same : (ns : List Node) (cs : List ℕ) (i j : ℕ) → classOf cs i ≡ classOf cs j → headIn ns cs i ≡ headIn ns cs j
@@ -50,12 +73,9 @@ module _ (ns : List Node) (ps : List (ℕ × ℕ)) (cs : List ℕ) (from : (i j 
   in-class-of i j e = eqb-true _ _ (and-true-left (eqb (classOf cs i) (classOf cs j)) (isApplication (nodeAt ns j)) e)
 
   application-of : (i j : ℕ) → isApplicationIn ns cs i j ≡ true → (f : ℕ) × (us : List ℕ) × (nodeAt ns j ≡ application f us)
-  unfolding isApplicationIn isApplication
-  application-of i j e = go (nodeAt ns j) refl
-    where
-      go : (o : Node) → nodeAt ns j ≡ o → (f : ℕ) × (us : List ℕ) × (nodeAt ns j ≡ application f us)
-      go (variable y) d = absurd (false≢true (sym (ap isApplication d) ∙ and-true-right (eqb (classOf cs i) (classOf cs j)) (isApplication (nodeAt ns j)) e))
-      go (application f us) d = (f, us, d)
+  unfolding isApplicationIn
+  application-of i j e =
+      is-application (nodeAt ns j) (and-true-right (eqb (classOf cs i) (classOf cs j)) (isApplication (nodeAt ns j)) e)
 
   variable-class : (i j x : ℕ) → i < length ns → j < length ns → nodeAt ns j ≡ variable x → classOf cs i ≡ classOf cs j → isVariableIn ns cs i x ≡ true
   unfolding isVariableIn
@@ -94,39 +114,16 @@ module _ (ns : List Node) (ps : List (ℕ × ℕ)) (cs : List ℕ) (from : (i j 
               (λ j y l c g. first-least (isVariableIn ns cs i) 0 (variablesOf ns) (variables-rise ns) y (present-variables ns y (j, l, g)) (variable-class i j y p l g c))
               none
 
-  head-inside : {i h : ℕ} → HeadIs ns cs i h → h < length ns
-  head-inside (applied f us p c e) = p
-  head-inside (free y p c e l n) = p
-
-  head-class : {i h : ℕ} → HeadIs ns cs i h → classOf cs i ≡ classOf cs h
-  head-class (applied f us p c e) = c
-  head-class (free y p c e l n) = c
-
-  lowest-of : {i h : ℕ} (x y : ℕ) → i < length ns → HeadIs ns cs i h → nodeAt ns i ≡ variable x → nodeAt ns h ≡ variable y → y ≤ x
-  lowest-of x y p (applied f us q c e) d g =
-      let z : application f us ≡ variable y = sym e ∙ g in
-      let o : _≡_ {A = ℕ} 0 1 = cc in
-      absurd (omega arith)
-  lowest-of {i} x y p (free v q c e l n) d g =
-      let z : variable v ≡ variable y = sym e ∙ g in
-      let o : v ≡ y = cc in
-      let b : v ≤ x = l i x p refl d in
-      omega arith
-
-  head-applied : {i h : ℕ} (f : ℕ) (us : List ℕ) → i < length ns → HeadIs ns cs i h → nodeAt ns i ≡ application f us → (g : ℕ) × (vs : List ℕ) × (nodeAt ns h ≡ application g vs)
-  head-applied f us p (applied g vs q c e) d = (g, vs, e)
-  head-applied {i} f us p (free y q c e l n) d = absurd (n i f us p refl d)
-
   -- a variable that is a head is the lowest of its class
   pub head-lowest : (i x y : ℕ) → i < length ns → nodeAt ns i ≡ variable x → nodeAt ns (headIn ns cs i) ≡ variable y → y ≤ x
   head-lowest i x y p d e = lowest-of x y p (head-is i p) d e
 
-module _ (ns : List Node) (w : WellFormed ns) (ps : List (ℕ × ℕ)) (h : Inside ns ps) (cs : List ℕ) (to : (i j : ℕ) → i < length ns → j < length ns → classOf cs i ≡ classOf cs j → Joined ns ps i j) (from : (i j : ℕ) → Joined ns ps i j → classOf cs i ≡ classOf cs j) (no-clash : Clash ns ps → ⊥) (no-cycle : cyclic ns cs ≡ false) where
+module _ (ns : List Node) (w : WellFormed ns) (ps : List (ℕ × ℕ)) (cs : List ℕ) (to : (i j : ℕ) → i < length ns → j < length ns → classOf cs i ≡ classOf cs j → Joined ns ps i j) (from : (i j : ℕ) → Joined ns ps i j → classOf cs i ≡ classOf cs j) (no-clash : Clash ns ps → ⊥) (no-cycle : cyclic ns cs ≡ false) where
   is : (i : ℕ) → i < length ns → HeadIs ns cs i (headIn ns cs i)
   is = head-is ns ps cs from
 
   joined-to : (i : ℕ) → i < length ns → Joined ns ps i (headIn ns cs i)
-  joined-to i p = to i (headIn ns cs i) p (head-inside ns ps cs from (is i p)) (head-class ns ps cs from (is i p))
+  joined-to i p = to i (headIn ns cs i) p (head-inside (is i p)) (head-class (is i p))
 
   -- joined applications have one symbol
   one-symbol : (i j f g : ℕ) (us vs : List ℕ) → Joined ns ps i j → nodeAt ns i ≡ application f us → nodeAt ns j ≡ application g vs → OneSymbol f us g vs
@@ -140,7 +137,7 @@ module _ (ns : List Node) (w : WellFormed ns) (ps : List (ℕ × ℕ)) (h : Insi
 
   fits : (i f : ℕ) (us : List ℕ) → i < length ns → nodeAt ns i ≡ application f us → HeadFits ns (headIn ns cs) i f us
   fits i f us p e =
-      let a = head-applied ns ps cs from f us p (is i p) e in
+      let a = head-applied f us p (is i p) e in
       let s = one-symbol i (headIn ns cs i) f (a .0) us (a .1) (joined-to i p) e (a .2) in
       let d : nodeAt ns (headIn ns cs i) ≡ application f (a .1) = a .2 ∙ ap (λ (g : ℕ). application g (a .1)) (sym (s .0)) in
       record {
@@ -161,10 +158,10 @@ module _ (ns : List Node) (w : WellFormed ns) (ps : List (ℕ × ℕ)) (h : Insi
           applications = fits;
         };
         falls = λ i f us p e a m.
-            let q = head-inside ns ps cs from (is i p) in
+            let q = head-inside (is i p) in
             let l : a < headIn ns cs i = w .smaller (headIn ns cs i) f us q e a m in
             let b : a < length ns = omega arith in
             let g : longest ns cs a < longest ns cs (headIn ns cs i) = argument-shorter ns w cs no-cycle (headIn ns cs i) (headIn ns cs i) f us q q refl e a m in
-            let c : longest ns cs a ≡ longest ns cs (headIn ns cs a) = longest-same ns w cs a (headIn ns cs a) b (head-inside ns ps cs from (is a b)) (head-class ns ps cs from (is a b)) in
+            let c : longest ns cs a ≡ longest ns cs (headIn ns cs a) = longest-same ns w cs a (headIn ns cs a) b (head-inside (is a b)) (head-class (is a b)) in
             omega arith;
       }

@@ -32,8 +32,12 @@ smallest R r (same {i} p) = r .has-same i p
 smallest R r (back {i} {j} q) = r .has-back i j (smallest R r q)
 smallest R r (on {i} {j} {k} p q) = r .has-on i j k (smallest R r p) (smallest R r q)
 
+-- The pairs of the first list are all in the second.
+abbrev pub Among : List (ℕ × ℕ) → List (ℕ × ℕ) → Type 0
+Among ps qs = (p : ℕ × ℕ) → List·Memᴰ p ps → List·Memᴰ p qs
+
 -- the closure of some pairs has the rules for any of them
-pub closure-rules : {ns : List Node} (ps qs : List (ℕ × ℕ)) → ((p : ℕ × ℕ) → List·Memᴰ p ps → List·Memᴰ p qs) → Rules ns ps (Joined ns qs)
+pub closure-rules : {ns : List Node} (ps qs : List (ℕ × ℕ)) → Among ps qs → Rules ns ps (Joined ns qs)
 closure-rules ps qs h =
     record {
       has-given = λ a b m. given (h (a, b) m);
@@ -45,7 +49,7 @@ closure-rules ps qs h =
     }
 
 -- with more pairs more is joined
-pub more-joined : {ns : List Node} {ps : List (ℕ × ℕ)} (qs : List (ℕ × ℕ)) → ((p : ℕ × ℕ) → List·Memᴰ p ps → List·Memᴰ p qs) → {i j : ℕ} → Joined ns ps i j → Joined ns qs i j
+pub more-joined : {ns : List Node} {ps : List (ℕ × ℕ)} (qs : List (ℕ × ℕ)) → Among ps qs → {i j : ℕ} → Joined ns ps i j → Joined ns qs i j
 more-joined {ns} {ps} qs h = smallest (Joined ns qs) (closure-rules ps qs h)
 
 module _ (ns : List Node) (w : WellFormed ns) (ps : List (ℕ × ℕ)) (h : Inside ns ps) where
@@ -105,6 +109,6 @@ module _ (ns : List Node) (w : WellFormed ns) (ps : List (ℕ × ℕ)) (h : Insi
         let b : size (value ns σ k) < size (value ns σ j) = reaches-smaller q in
         omega arith
 
-    -- and so does a class that reaches itself
+    -- so a class that reaches itself leaves none either
     pub cycle-none : (i : ℕ) → Reaches ns ps i i → ⊥
     cycle-none i r = let l : size (value ns σ i) < size (value ns σ i) = reaches-smaller r in omega arith

@@ -21,7 +21,7 @@ each-same u v (a ∷ us) h =
     let r : each u us ≡ each v us = each-same u v us (λ b m. h b (List·Memᴰ·tail m)) in
     rw (e, r)
 
--- equal lists of terms are equally long, and equal at each position
+-- equal lists of terms are equally long
 pub each-long : (u v : ℕ → Term) (us vs : List ℕ) → each u us ≡ each v vs → length us ≡ length vs
 unfolding each
 each-long u v [] [] e = refl
@@ -31,6 +31,7 @@ each-long u v (a ∷ us) (b ∷ vs) e =
     let r : each u us ≡ each v vs = cc in
     ap suc (each-long u v us vs r)
 
+-- and equal at each position
 pub each-at : (u v : ℕ → Term) (us vs : List ℕ) → each u us ≡ each v vs → (a b : ℕ) → List·Memᴰ (a, b) (together us vs) → u a ≡ v b
 unfolding each together
 each-at u v [] vs e a b m = absurd (List·Memᴰ·not-nil m)
@@ -59,11 +60,13 @@ unfolding each sizes
 each-size v (b ∷ us) a (List·Memᴰ·head e) = let q : size (v a) ≡ size (v b) = ap (λ (c : ℕ). size (v c)) e in omega arith
 each-size v (b ∷ us) a (List·Memᴰ·tail m) = let r : size (v a) ≤ sizes (each v us) = each-size v us a m in omega arith
 
+-- a node spelt out depends on the terms of its arguments
 pub spell-same : (u v : ℕ → Term) (n : Node) → ((f : ℕ) (us : List ℕ) → n ≡ application f us → (a : ℕ) → List·Memᴰ a us → u a ≡ v a) → spell u n ≡ spell v n
 unfolding spell
 spell-same u v (variable x) h = refl
 spell-same u v (application f us) h = ap (app f) (each-same u v us (h f us refl))
 
+-- a substitution goes through a list of terms
 pub subs-each : (σ : Substitution) (v : ℕ → Term) (us : List ℕ) → subs σ (each v us) ≡ each (λ a. sub σ (v a)) us
 unfolding subs each
 subs-each σ v [] = refl
@@ -100,14 +103,14 @@ module _ (ns : List Node) (w : WellFormed ns) where
   pub values-same : (σ : Substitution) (v : ℕ → Term) → ((i x : ℕ) → i < length ns → nodeAt ns i ≡ variable x → σ x ≡ v i) → ((i f : ℕ) (us : List ℕ) → i < length ns → nodeAt ns i ≡ application f us → app f (each v us) ≡ v i) → (i : ℕ) → i < length ns → value ns σ i ≡ v i
   values-same σ v hv ha i h = go (suc i) i (omega arith) h
     where
-      at : (k i : ℕ) → ((j : ℕ) → j < k → j < length ns → value ns σ j ≡ v j) → i ≡ k → i < length ns → (n : Node) → nodeAt ns i ≡ n → value ns σ i ≡ v i
-      at k i r q h (variable x) e = value-variable σ i x h e ∙ hv i x h e
-      at k i r q h (application f us) e =
-          value-application σ i f us h e ∙ ap (app f) (each-same (value ns σ) v us (λ a d. let l : a < i = w .smaller i f us h e a d in r a (omega arith) (omega arith))) ∙ ha i f us h e
+      at : (i : ℕ) → ((j : ℕ) → j < i → j < length ns → value ns σ j ≡ v j) → i < length ns → (n : Node) → nodeAt ns i ≡ n → value ns σ i ≡ v i
+      at i r h (variable x) e = value-variable σ i x h e ∙ hv i x h e
+      at i r h (application f us) e =
+          value-application σ i f us h e ∙ ap (app f) (each-same (value ns σ) v us (λ a d. let l : a < i = w .smaller i f us h e a d in r a l (omega arith))) ∙ ha i f us h e
 
       go : (k i : ℕ) → i < k → i < length ns → value ns σ i ≡ v i
       go zero i p h = absurd (omega arith)
-      go (suc k) i p h = at i i (λ j q l. go k j (omega arith) l) refl h (nodeAt ns i) refl
+      go (suc k) i p h = at i (λ j q l. go k j (omega arith) l) h (nodeAt ns i) refl
 
   -- only the variables present matter to the value of a node
   pub value-agree : (σ τ : Substitution) → ((x : ℕ) → Present ns x → σ x ≡ τ x) → (i : ℕ) → i < length ns → value ns σ i ≡ value ns τ i

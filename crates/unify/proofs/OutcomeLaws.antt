@@ -59,7 +59,7 @@ module _ (ns : List Node) (w : WellFormed ns) (ps : List (ℕ × ℕ)) (h : Insi
           let r = to-cycle e in
           cycled (record { no-clash = λ k. false≢true (sym d ∙ found-clash ns w ps h k); class = r .0; itself = r .1 })
       pick false d false e =
-          solved (classes-solved ns w ps h (classes ns ps) (class-joined ns w ps h) (λ i j q. joined-class ns w ps h q) (λ k. false≢true (sym d ∙ found-clash ns w ps h k)) e)
+          solved (classes-solved ns w ps (classes ns ps) (class-joined ns w ps h) (λ i j q. joined-class ns w ps h q) (λ k. false≢true (sym d ∙ found-clash ns w ps h k)) e)
 
   bounded : (i : ℕ) → i < length ns → longest ns (classes ns ps) (headIn ns (classes ns ps) i) < suc (length ns)
   bounded i p = let l = longest-bound ns w (classes ns ps) (headIn ns (classes ns ps) i) in omega (arith, l)

@@ -1,7 +1,7 @@
 -- Answer and words depend on the given pairs only as a set, and more pairs have no more unifiers: each pair of one list is a pair of the other.
 -- Assumes nothing.
 use Prim.Native.Nat.{ℕ}
-use mathlib.Core.List.{List, List·Memᴰ}
+use mathlib.Core.List.{List}
 use mathlib.Core.Logic.{_↔_}
 use mathlib.Core.Path.{_≡_, sym, _∙_}
 use Rattle.terms.specs.Substitution.{Substitution}
@@ -9,12 +9,8 @@ use Rattle.unify.specs.Node.{Node, WellFormed}
 use Rattle.unify.specs.Unifier.{Inside, Unifies, Unifiable}
 use Rattle.unify.specs.Closure.{Clash, different, Reaches, step, steps, Occurs}
 use Rattle.unify.specs.Computed.Unifying.{outcome, unifier, wordsOf}
-use Rattle.unify.proofs.JoinedLaws.{more-joined}
+use Rattle.unify.proofs.JoinedLaws.{Among, more-joined}
 use Rattle.unify.proofs.OutcomeLaws.{ExactlyOne, first, second, third, exactly-one, outcome-clash, outcome-occurs, outcome-unified, unifier-most-general, words-least, words-decided}
-
--- The pairs of the first list are all in the second.
-abbrev pub Among : List (ℕ × ℕ) → List (ℕ × ℕ) → Type 0
-Among ps qs = (p : ℕ × ℕ) → List·Memᴰ p ps → List·Memᴰ p qs
 
 -- with more pairs there are no more unifiers
 more-pairs : (ns : List Node) (ps qs : List (ℕ × ℕ)) → Among ps qs → (σ : Substitution) → Unifies ns qs σ → Unifies ns ps σ

@@ -5,7 +5,7 @@ use mathlib.Core.List.{List, List·Memᴰ}
 use mathlib.Core.Path.{_≡_, refl, sym, ap, _∙_}
 use native.Mathlib.Omega.{arith}
 use lib.ListN.{length}
-use Rattle.terms.specs.Term.{Term, app}
+use Rattle.terms.specs.Term.{app}
 use Rattle.terms.specs.Substitution.{Substitution, sub}
 use Rattle.unify.specs.Node.{Node, variable, application, nodeAt, WellFormed, each, spell, Present}
 use Rattle.unify.specs.Unifier.{Inside, value, Unifies, MostGeneral}
@@ -101,9 +101,6 @@ module _ (ns : List Node) (w : WellFormed ns) (ps : List (ℕ × ℕ)) (h : Insi
     where
       to-head : value ns τ (head i) ≡ value ns τ i
       to-head = sym (joined-equal ns w ps h τ u (s .closed .joined i p))
-
-      v : ℕ → Term
-      v = resolved k ns head
 
       go : ((a : ℕ) → a < length ns → order (head a) < k → sub τ (resolved k ns head a) ≡ value ns τ a) → (n : Node) → nodeAt ns (head i) ≡ n → sub τ (spell (resolved k ns head) (nodeAt ns (head i))) ≡ value ns τ i
       go r (variable y) e =

@@ -1,7 +1,7 @@
 -- The word of a variable is one number, the same under every most general unifier: two of them make the same nodes equal.
 -- Under the solution of a solved form it exists, is what `wordOf` computes, and is read back as the solution. Assumes nothing.
 use Prim.Native.Nat.{ℕ, _<_, _≤_}
-use mathlib.Core.Bool.{true, false, false≢true}
+use mathlib.Core.Bool.{true}
 use mathlib.Core.List.{List, List·Memᴰ}
 use mathlib.Core.Path.{_≡_, refl, sym, ap, _∙_}
 use native.Mathlib.Omega.{arith}
@@ -20,16 +20,18 @@ use Rattle.unify.specs.Code.Solved.{Solved}
 use Rattle.unify.proofs.MatchedLaws.{matched-map, matched-one, matched-by}
 use Rattle.unify.proofs.NodeLaws.{value-variable, value-after}
 use Rattle.unify.proofs.VariableLaws.{variables-rise, variables-present, present-variables}
-use Rattle.unify.proofs.FirstLaws.{first-in, first-has, first-least, least-below, least-has, least-least, node-of}
+use Rattle.unify.proofs.FirstLaws.{is-application, first-in, first-has, first-least, least-below, least-has, least-least, node-of}
 use Rattle.unify.proofs.SolvedLaws.{closed-inside, resolved-head, joined-head, resolved-node, value-resolved}
 
+-- there is one least number
 least-one : {P : ℕ → Type 0} {m n : ℕ} → Least P m → Least P n → m ≡ n
 least-one {P} {m} {n} a b =
     let p : m ≤ n = a .least n (b .holds) in
     let q : n ≤ m = b .least m (a .holds) in
     omega arith
 
-not-both : {ℓ : Type 0} (t : Term) (f z : ℕ) (ts : Terms) → t ≡ app f ts → t ≡ var z → ℓ
+-- no term is an application and a variable
+not-both : {A : Type 0} (t : Term) (f z : ℕ) (ts : Terms) → t ≡ app f ts → t ≡ var z → A
 not-both t f z ts p q = let e : app f ts ≡ var z = sym p ∙ q in let c : _≡_ {A = ℕ} 0 1 = cc in absurd (omega arith)
 
 -- a variable has one word
@@ -81,6 +83,7 @@ module _ (ns : List Node) (w : WellFormed ns) (ps : List (ℕ × ℕ)) where
           })
           n
 
+  -- and so are all words
   pub words-same : (σ τ : Substitution) → MostGeneral ns ps σ → MostGeneral ns ps τ → (vs : List ℕ) → AreWords ns σ vs → AreWords ns τ vs
   words-same σ τ g h vs = matched-map (λ x v m a. word-same σ τ g h x v (variables-present ns x m) a)
 
@@ -92,20 +95,16 @@ Held ns σ = (x f : ℕ) (ts : Terms) → Present ns x → σ x ≡ app f ts →
 abbrev pub Lowest : List Node → Substitution → Type 0
 Lowest ns σ = (x z : ℕ) → Present ns x → σ x ≡ var z → Least (λ y. Present ns y × (σ y ≡ σ x)) z
 
+-- what the test of a bound node says
 bound-true : (ns : List Node) (σ : Substitution) (t : Term) (i : ℕ) → BoundTo ns σ t i → isBoundTo ns σ t i ≡ true
 unfolding isBoundTo isApplication
 bound-true ns σ t i b = rw (b .3, b .4) (equal-refl t)
 
 true-bound : (ns : List Node) (σ : Substitution) (t : Term) (i : ℕ) → i < length ns → isBoundTo ns σ t i ≡ true → BoundTo ns σ t i
-unfolding isBoundTo isApplication
-true-bound ns σ t i p e = go (nodeAt ns i) refl
-  where
-    go : (o : Node) → nodeAt ns i ≡ o → BoundTo ns σ t i
-    go (variable y) d =
-        let z : false ≡ true = sym (ap isApplication d) ∙ and-true-left (isApplication (nodeAt ns i)) (equal (value ns σ i) t) e in
-        absurd (false≢true z)
-    go (application f us) d =
-        (f, us, p, d, equal-true (value ns σ i) t (and-true-right (isApplication (nodeAt ns i)) (equal (value ns σ i) t) e))
+unfolding isBoundTo
+true-bound ns σ t i p e =
+    let a = is-application (nodeAt ns i) (and-true-left (isApplication (nodeAt ns i)) (equal (value ns σ i) t) e) in
+    (a .0, a .1, p, a .2, equal-true (value ns σ i) t (and-true-right (isApplication (nodeAt ns i)) (equal (value ns σ i) t) e))
 
 module _ (ns : List Node) (σ : Substitution) (held : Held ns σ) where
   free-word : (x z : ℕ) → Present ns x → σ x ≡ var z → IsWord ns σ x (wordFor ns σ (var z))

@@ -51,6 +51,7 @@ unfoldable pub answerAfter : ℕ → Outcome → Answer
 answerAfter zero o = ended o
 answerAfter (suc n) o = refused (suc n)
 
+-- What `unify` answers to a table, two numbers and so many lent words.
 unfoldable pub unification : List ℕ → ℕ → ℕ → ℕ → Answer
 unification t a b lent =
     answerAfter (firstHeld (unifyConditions t a b lent)) (outcome (nodesIn t) ((a, b) ∷ []))
@@ -62,6 +63,7 @@ wordsAfter (ended clash) words lent = lent
 wordsAfter (ended occurs) words lent = lent
 wordsAfter (refused n) words lent = lent
 
+-- The lent words after the call.
 unfoldable pub lentAfter : List ℕ → ℕ → ℕ → List ℕ → List ℕ
 lentAfter t a b lent =
     wordsAfter (unification t a b (length lent)) (wordsOf (nodesIn t) ((a, b) ∷ [])) lent

@@ -29,6 +29,7 @@ readNode words arguments i =
 unfoldable pub nodesIn : List ℕ → List Node
 nodesIn t = tabulate (nodeCount (nodesOf t)) (readNode (nodesOf t) (argumentsOf t))
 
+-- Node i. Past the end it is variable 0, and of no account.
 abbrev pub nodeAt : List Node → ℕ → Node
 nodeAt ns i = getD ns i (variable 0)
 

@@ -11,6 +11,7 @@ use Rattle.unify.specs.Words.{Least}
 abbrev pub SameNames : (ℕ → ℕ) → List ℕ → List ℕ → Type 0
 SameNames name us vs = (a b : ℕ) → List·Memᴰ (a, b) (together us vs) → name a ≡ name b
 
+-- Names of nodes that stand for their values.
 pub record Valued (ns : List Node) (head name : ℕ → ℕ) : Type 0 where
   -- one head, one name
   pub one-head : (i j : ℕ) → i < length ns → j < length ns → head i ≡ head j → name i ≡ name j

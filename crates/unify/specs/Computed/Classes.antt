@@ -8,6 +8,7 @@ use Rattle.table.specs.Some.{someBelow}
 use Rattle.unify.specs.Node.{Node, variable, application, nodeAt, tabulate}
 use Rattle.unify.specs.Closure.{together}
 
+-- The class of node i.
 abbrev pub classOf : List ℕ → ℕ → ℕ
 classOf cs i = getD cs i 0
 
@@ -19,10 +20,12 @@ renamed b a c = cond (eqb c b) a c
 unfoldable pub join : List ℕ → ℕ × ℕ → List ℕ
 join cs p = map (renamed (classOf cs (p .1)) (classOf cs (p .0))) cs
 
+-- All pairs joined.
 unfoldable pub joinAll : List ℕ → List (ℕ × ℕ) → List ℕ
 joinAll cs [] = cs
 joinAll cs (p ∷ ps) = joinAll (join cs p) ps
 
+-- The test of `OneSymbol` (`symbol-means`).
 unfoldable pub sameSymbol : ℕ → List ℕ → ℕ → List ℕ → Bool
 sameSymbol f us g vs = eqb f g && eqb (length us) (length vs)
 
@@ -38,6 +41,7 @@ unfoldable pub gather : {A : Type 0} → ℕ → (ℕ → List A) → List A
 gather zero f = []
 gather (suc n) f = gather n f ++ f n
 
+-- What it asks of nodes i and j under these classes.
 unfoldable pub asked : List Node → List ℕ → ℕ → ℕ → List (ℕ × ℕ)
 asked ns cs i j = asks (eqb (classOf cs i) (classOf cs j)) i j (nodeAt ns i) (nodeAt ns j)
 
@@ -45,6 +49,7 @@ asked ns cs i j = asks (eqb (classOf cs i) (classOf cs j)) i j (nodeAt ns i) (no
 unfoldable pub round : List Node → List ℕ → List ℕ
 round ns cs = joinAll cs (gather (length ns) (λ i. gather (length ns) (asked ns cs i)))
 
+-- So many rounds.
 unfoldable pub rounds : ℕ → List Node → List ℕ → List ℕ
 rounds zero ns cs = cs
 rounds (suc k) ns cs = rounds k ns (round ns cs)
@@ -53,6 +58,7 @@ rounds (suc k) ns cs = rounds k ns (round ns cs)
 unfoldable pub classes : List Node → List (ℕ × ℕ) → List ℕ
 classes ns ps = rounds (length ns) ns (joinAll (tabulate (length ns) (λ i. i)) ps)
 
+-- Applications of different symbols.
 unfoldable pub differ : Node → Node → Bool
 differ (variable x) n = false
 differ (application f us) (variable y) = false
@@ -62,8 +68,10 @@ differ (application f us) (application g vs) = not (sameSymbol f us g vs)
 unfoldable pub clashAt : List Node → List ℕ → ℕ → ℕ → Bool
 clashAt ns cs i j = eqb (classOf cs i) (classOf cs j) && differ (nodeAt ns i) (nodeAt ns j)
 
+-- Node i clashes with some node.
 unfoldable pub clashWith : List Node → List ℕ → ℕ → Bool
 clashWith ns cs i = someBelow (length ns) (clashAt ns cs i)
 
+-- Some node clashes (`clash-found`, `found-clash`).
 unfoldable pub clashes : List Node → List ℕ → Bool
 clashes ns cs = someBelow (length ns) (clashWith ns cs)

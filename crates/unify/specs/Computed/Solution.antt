@@ -20,10 +20,12 @@ firstWith p d (x ∷ xs) = cond (p x) x (firstWith p d xs)
 unfoldable pub leastNode : List Node → (ℕ → Bool) → ℕ
 leastNode ns p = firstWith p (length ns) (tabulate (length ns) (λ i. i))
 
+-- A node is an application.
 unfoldable pub isApplication : Node → Bool
 isApplication (variable x) = false
 isApplication (application f us) = true
 
+-- A node is of variable x.
 unfoldable pub isVariable : ℕ → Node → Bool
 isVariable x (variable y) = eqb x y
 isVariable x (application f us) = false
