@@ -10,14 +10,15 @@ use borrow.Author.Tests.{le-ltb}
 use lib.ListN.{length, take}
 use lib.Seq.{take-all, take-add}
 use Rattle.table.specs.Limits.{headerWords, sections}
-use Rattle.table.specs.Layout.{nodesOf, argumentsOf, leftTermsOf, leftLabelsOf, rightTermsOf, rightLabelsOf, nodes, arguments, leftTerms, leftLabels, rightTerms, rightLabels, offset, size, section}
+use Rattle.table.specs.Layout.{nodesOf, argumentsOf, leftTermsOf, leftLabelsOf, rightTermsOf, rightLabelsOf, offset, size, section}
+use Rattle.table.specs.Code.Sections.{nodes, arguments, leftTerms, leftLabels, rightTerms, rightLabels}
 use Rattle.table.specs.Code.Reading.{HasSection, Sectioned, RunsInside}
 use Rattle.table.specs.Conditions.{tooFewWords, endBefore, wrongNode, wrongArgument, wrongTerm, wrongLabel}
-use Rattle.table.specs.Refusal.{conditions, refusal, First, here, later, none}
-use Rattle.table.specs.Accepted.{Accepted}
+use Rattle.table.specs.Refusal.{conditions, refusal}
+use Rattle.table.specs.Code.Accepted.{Accepted}
 use Rattle.table.proofs.ConditionLaws.{pairs-right, inside, section-size, limits-right, nodes-kept, counts-kept, nodes-right, runs-inside, arguments-kept, arguments-right, left-terms-kept, right-terms-kept, terms-right, labels-kept, labels-new, labels-right}
 use Rattle.table.proofs.SectionLaws
-use Rattle.table.proofs.RefusalLaws.{refused}
+use Rattle.table.proofs.RefusalLaws.{First, here, later, none, refused}
 
 -- No condition holds.
 record Clear (t : List ℕ) : Type 0 where

@@ -9,10 +9,11 @@ use lib.Dec.{eqb, ltb}
 use lib.ListN.{length, length-take, length-drop}
 use Rattle.table.specs.Limits.{sections, nodeWords, maxLabel}
 use Rattle.table.specs.Some.{someBelow}
-use Rattle.table.specs.Layout.{nodesOf, argumentsOf, leftTermsOf, rightTermsOf, word, nodes, leftTerms, rightTerms, rightLabels, offset, size, section, labelsOf, firstOf, countOf, nodeCount, countsBefore, argumentOf}
+use Rattle.table.specs.Layout.{nodesOf, argumentsOf, leftTermsOf, rightTermsOf, word, offset, size, section, labelsOf, firstOf, countOf, nodeCount, countsBefore, argumentOf}
+use Rattle.table.specs.Code.Sections.{nodes, leftTerms, rightTerms, rightLabels}
 use Rattle.table.specs.Code.Reading.{RunsInside}
 use Rattle.table.specs.Conditions.{endBefore, offsetIsWrong, brokenPair, limitOf, sectionIsLong, overLimit, nodeIsWrong, nodesAreWrong, argumentIsWrong, runIsWrong, wrongArgument, termIsWrong, wrongTerm, labelsAreEqual, labelIsWrong, wrongLabel}
-use Rattle.table.specs.Accepted.{RightNode, variable, constant, application, NodeIsRight}
+use Rattle.table.specs.Code.Accepted.{RightNode, variable, constant, application, NodeIsRight}
 use Rattle.table.proofs.BoolLaws.{or-false-left, or-false-right, or-both-false}
 use Rattle.table.proofs.SomeLaws.{some-none, none-some}
 use Rattle.table.proofs.NodeLaws.{right-node-means, right-node-holds}

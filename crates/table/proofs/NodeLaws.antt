@@ -7,7 +7,7 @@ use borrow.Author.Tests.{eq-eqb, ne-eqb, le-leb, leb-true, eqb-true, eqb-false}
 use lib.Dec.{eqb, leb}
 use Rattle.table.specs.Limits.{maxVariable, maxName, maxCount}
 use Rattle.table.specs.Conditions.{startOf, rightVariable, rightApplication, rightNode}
-use Rattle.table.specs.Accepted.{RightNode, variable, constant, application}
+use Rattle.table.specs.Code.Accepted.{RightNode, variable, constant, application}
 use Rattle.table.proofs.BoolLaws.{and-true-left, and-true-right}
 
 variable-means : (n f c : ℕ) → rightVariable n f c ≡ true → (n ≤ maxVariable) × (f ≡ 0) × (c ≡ 0)

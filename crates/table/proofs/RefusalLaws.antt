@@ -6,7 +6,13 @@ use mathlib.Core.Logic.{_↔_}
 use mathlib.Core.List.{List, [], _∷_}
 use native.Mathlib.Omega.{arith}
 use lib.ListN.{drop}
-use Rattle.table.specs.Refusal.{conditions, firstHeld, refusal, First, here, later, none}
+use Rattle.table.specs.Refusal.{conditions, firstHeld, refusal}
+
+-- Condition n holds and none before it; for n = 0, none holds.
+pub data First (n : ℕ) : List (ℕ × Bool) → Type 0 where
+  here : {c : ℕ × Bool} {cs : List (ℕ × Bool)} → c .0 ≡ n → c .1 ≡ true → First n (c ∷ cs)
+  later : {c : ℕ × Bool} {cs : List (ℕ × Bool)} → c .1 ≡ false → First n cs → First n (c ∷ cs)
+  none : n ≡ 0 → First n []
 
 first-held : (n : ℕ) {cs : List (ℕ × Bool)} → First n cs → firstHeld cs ≡ n
 unfolding firstHeld

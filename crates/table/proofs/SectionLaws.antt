@@ -9,7 +9,8 @@ use native.Mathlib.Omega.{arith}
 use borrow.Author.Tests.{ltb-false}
 use lib.ListN.{length}
 use Rattle.table.specs.Limits.{headerWords, sections, nodeWords}
-use Rattle.table.specs.Layout.{nodesOf, argumentsOf, nodes, rightLabels, offset, size, section}
+use Rattle.table.specs.Layout.{nodesOf, argumentsOf, offset, size, section}
+use Rattle.table.specs.Code.Sections.{nodes, rightLabels}
 use Rattle.table.specs.Code.Reading.{HasSection, Sectioned, RunsInside}
 use Rattle.table.specs.Conditions.{tooFewWords, endBefore, limitOf, wrongNode}
 use Rattle.table.proofs.ConditionLaws.{offsets-right, end-right, inside, section-size, whole-kept, limits-kept, nodes-kept, counts-kept, runs-inside}

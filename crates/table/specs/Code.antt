@@ -1,2 +1,4 @@
--- What contracts of inner functions speak of. No reader has to believe these.
+-- What contracts of inner functions and laws speak of. No reader has to believe these.
+pub mod Sections
 pub mod Reading
+pub mod Accepted

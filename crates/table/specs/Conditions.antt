@@ -6,7 +6,7 @@ use lib.Dec.{eqb, leb, ltb}
 use lib.ListN.{length, getD}
 use Rattle.table.specs.Limits.{headerWords, sections, nodeWords, maxNodes, maxArguments, maxTerms, maxLabels, maxVariable, maxName, maxCount, maxLabel}
 use Rattle.table.specs.Some.{someBelow}
-use Rattle.table.specs.Layout.{word, nodes, offset, size, nodesOf, argumentsOf, leftTermsOf, rightTermsOf, labelsOf, kindOf, nameOf, firstOf, countOf, nodeCount, countsBefore, argumentOf}
+use Rattle.table.specs.Layout.{word, offset, size, nodesOf, argumentsOf, leftTermsOf, rightTermsOf, labelsOf, kindOf, nameOf, firstOf, countOf, nodeCount, countsBefore, argumentOf}
 
 -- 1: "fewer than 12 words"
 unfoldable pub tooFewWords : List ℕ → Bool
@@ -36,7 +36,7 @@ sectionIsLong t k = ltb (limitOf k) (size t k)
 
 -- 3: "the nodes section is not a multiple of 4 words, or a section is over its limit"
 unfoldable pub overLimit : List ℕ → Bool
-overLimit t = not (eqb (size t nodes % nodeWords) 0) || someBelow sections (sectionIsLong t)
+overLimit t = not (eqb (size t 0 % nodeWords) 0) || someBelow sections (sectionIsLong t)
 
 -- "Kind 0 is a variable. Its name is 0 to 63; first and count are 0."
 unfoldable pub rightVariable : ℕ → ℕ → ℕ → Bool

@@ -9,52 +9,35 @@ use Rattle.table.specs.Limits.{nodeWords}
 abbrev pub word : List ℕ → ℕ → ℕ
 word t i = getD t i 0
 
--- "Words 0 to 11 are six pairs of offset and length, both in words, sorted by offset: nodes, arguments, left terms, left labels, right terms, right labels"
-abbrev pub nodes : ℕ
-nodes = 0
-
-abbrev pub arguments : ℕ
-arguments = 1
-
-abbrev pub leftTerms : ℕ
-leftTerms = 2
-
-abbrev pub leftLabels : ℕ
-leftLabels = 3
-
-abbrev pub rightTerms : ℕ
-rightTerms = 4
-
-abbrev pub rightLabels : ℕ
-rightLabels = 5
-
+-- "Words 0 to 11 are six pairs of offset and length, both in words"
 abbrev pub offset : List ℕ → ℕ → ℕ
 offset t k = word t (2 * k)
 
 abbrev pub size : List ℕ → ℕ → ℕ
 size t k = word t (2 * k + 1)
 
--- The words of section k, and those of each section by its name.
+-- The words of section k.
 abbrev pub section : List ℕ → ℕ → List ℕ
 section t k = take (size t k) (drop (offset t k) t)
 
+-- "sorted by offset: nodes, arguments, left terms, left labels, right terms, right labels"
 abbrev pub nodesOf : List ℕ → List ℕ
-nodesOf t = section t nodes
+nodesOf t = section t 0
 
 abbrev pub argumentsOf : List ℕ → List ℕ
-argumentsOf t = section t arguments
+argumentsOf t = section t 1
 
 abbrev pub leftTermsOf : List ℕ → List ℕ
-leftTermsOf t = section t leftTerms
+leftTermsOf t = section t 2
 
 abbrev pub leftLabelsOf : List ℕ → List ℕ
-leftLabelsOf t = section t leftLabels
+leftLabelsOf t = section t 3
 
 abbrev pub rightTermsOf : List ℕ → List ℕ
-rightTermsOf t = section t rightTerms
+rightTermsOf t = section t 4
 
 abbrev pub rightLabelsOf : List ℕ → List ℕ
-rightLabelsOf t = section t rightLabels
+rightLabelsOf t = section t 5
 
 -- The labels of the whole table: the left ones, then the right ones.
 abbrev pub labelsOf : List ℕ → List ℕ

@@ -4,6 +4,5 @@ pub mod Some
 pub mod Layout
 pub mod Conditions
 pub mod Refusal
-pub mod Accepted
 pub mod Answer
 pub mod Code

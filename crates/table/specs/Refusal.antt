@@ -1,8 +1,7 @@
 -- The refusal that a table gets.
 use Prim.Native.Nat.{ℕ}
-use mathlib.Core.Bool.{Bool, true, false, cond}
+use mathlib.Core.Bool.{Bool, cond}
 use mathlib.Core.List.{List, [], _∷_}
-use mathlib.Core.Path.{_≡_}
 use Rattle.table.specs.Conditions.{tooFewWords, brokenPair, overLimit, wrongNode, wrongArgument, wrongTerm, wrongLabel}
 
 -- The conditions in the order in which they are tried, each with its number.
@@ -20,9 +19,3 @@ firstHeld (c ∷ cs) = cond (c .1) (c .0) (firstHeld cs)
 -- The number of the refusal that a table gets, 0 where it is accepted.
 unfoldable pub refusal : List ℕ → ℕ
 refusal t = firstHeld (conditions t)
-
--- Condition n holds and none before it; for n = 0, none holds.
-pub data First (n : ℕ) : List (ℕ × Bool) → Type 0 where
-  here : {c : ℕ × Bool} {cs : List (ℕ × Bool)} → c .0 ≡ n → c .1 ≡ true → First n (c ∷ cs)
-  later : {c : ℕ × Bool} {cs : List (ℕ × Bool)} → c .1 ≡ false → First n cs → First n (c ∷ cs)
-  none : n ≡ 0 → First n []

@@ -6,30 +6,40 @@ use mathlib.Core.Logic.{_↔_}
 use mathlib.Core.Path.{_≡_, refl, sym, ap, _∙_}
 use native.Mathlib.Omega.{arith}
 use borrow.Author.Tests.{ltb-false, leb-false, lt-leb, le-ltb}
+use lib.Dec.{leb}
 use lib.ListN.{length, take, drop, length-map, length-append, length-drop}
 use lib.Seq.{take-at, drop-at}
 use Rattle.table.specs.declared.Refusal.{Refusal}
 use Rattle.table.specs.Answer.{numberOf}
-use Rattle.table.specs.Refusal.{firstHeld, First, later, none}
+use Rattle.table.specs.Refusal.{firstHeld}
+use Rattle.table.specs.Code.Accepted.{Accepted}
 use Rattle.table.proofs.BoolLaws.{or-false-left, or-false-right, or-both-false}
-use Rattle.table.proofs.RefusalLaws.{first-means}
+use Rattle.table.proofs.RefusalLaws.{First, later, none, first-means}
 use Rattle.table.proofs.AcceptedLaws.{pass, accepted-first}
 use Rattle.table.proofs.AnswerLaws.{number-apart}
 use Rattle.terms.specs.Substitution.{Substitution}
 use Rattle.unify.specs.declared.Unification.{Unification}
 use Rattle.unify.specs.Node.{nodesIn, Present}
-use Rattle.unify.specs.Unifier.{Inside, value, Unifies, MostGeneral}
+use Rattle.unify.specs.Unifier.{value, Unifies, MostGeneral}
+use Rattle.unify.specs.Code.Given.{Inside}
 use Rattle.unify.specs.Closure.{Clash, Occurs}
 use Rattle.unify.specs.Words.{AreWords, Reads}
 use Rattle.unify.specs.Computed.Variables.{variablesOf}
 use Rattle.unify.specs.Computed.Binding.{wordOf, bindingWords}
 use Rattle.unify.specs.Outcome.{Outcome, unified, clash, occurs}
 use Rattle.unify.specs.Computed.Unifying.{outcome, unifier, wordsOf}
-use Rattle.unify.specs.Answer.{told, variableCount, notNode, unifyConditions, Unrefused, Answer, ended, refused, answerAfter, unification, wordsAfter, lentAfter}
+use Rattle.unify.specs.Answer.{told, variableCount, unifyConditions, Answer, ended, refused, answerAfter, unification, wordsAfter, lentAfter}
 use Rattle.unify.proofs.TableLaws.{well-formed}
 use Rattle.unify.proofs.JoinedLaws.{clash-none, cycle-none}
 use Rattle.unify.proofs.ReadingLaws.{reads-one}
 use Rattle.unify.proofs.OutcomeLaws.{outcome-unified, outcome-clash, outcome-occurs, words-readable, reading-most-general, words-least}
+
+-- What holds of a call that is not refused (`answered-exactly`).
+pub record Unrefused (t : List ℕ) (a b lent : ℕ) : Type 0 where
+  pub table : Accepted t
+  pub left : a < length (nodesIn t)
+  pub right : b < length (nodesIn t)
+  pub enough : variableCount t ≤ lent
 
 after-refused : (m : ℕ) (o : Outcome) (n : ℕ) → answerAfter m o ≡ refused n ↔ ((0 < n) × (m ≡ n))
 unfolding answerAfter
@@ -51,24 +61,24 @@ refused-exactly t a b lent n =
 
 -- no condition holds: what a call that is not refused has
 no-condition : (t : List ℕ) (a b lent : ℕ) → firstHeld (unifyConditions t a b lent) ≡ 0 → Unrefused t a b lent
-unfolding unifyConditions notNode
+unfolding unifyConditions
 no-condition t a b lent e =
     let f = accepted-first t _ .0 (first-means 0 (unifyConditions t a b lent) .0 e) in
     let c = pass (f .1) in
     let d = pass (c .1) in
     record {
       table = f .0;
-      left = leb-false (length (nodesIn t)) a (or-false-left (notNode t a) (notNode t b) (c .0));
-      right = leb-false (length (nodesIn t)) b (or-false-right (notNode t a) (notNode t b) (c .0));
+      left = leb-false (length (nodesIn t)) a (or-false-left (leb (length (nodesIn t)) a) (leb (length (nodesIn t)) b) (c .0));
+      right = leb-false (length (nodesIn t)) b (or-false-right (leb (length (nodesIn t)) a) (leb (length (nodesIn t)) b) (c .0));
       enough = ltb-false lent (variableCount t) (d .0);
     }
 
 -- and the other way round
 condition-none : (t : List ℕ) (a b lent : ℕ) → Unrefused t a b lent → firstHeld (unifyConditions t a b lent) ≡ 0
-unfolding unifyConditions notNode
+unfolding unifyConditions
 condition-none t a b lent u =
     first-means 0 (unifyConditions t a b lent) .1
-    (accepted-first t _ .1 (u .table, later (or-both-false (notNode t a) (notNode t b) (lt-leb (length (nodesIn t)) a (u .left)) (lt-leb (length (nodesIn t)) b (u .right))) (later (le-ltb lent (variableCount t) (u .enough)) (none refl))))
+    (accepted-first t _ .1 (u .table, later (or-both-false (leb (length (nodesIn t)) a) (leb (length (nodesIn t)) b) (lt-leb (length (nodesIn t)) a (u .left)) (lt-leb (length (nodesIn t)) b (u .right))) (later (le-ltb lent (variableCount t) (u .enough)) (none refl))))
 
 -- a call that is not refused, and no other, is answered by what unifying the two nodes comes to
 pub answered-exactly : (t : List ℕ) (a b lent : ℕ) (o : Outcome) → unification t a b lent ≡ ended o ↔ (Unrefused t a b lent × (outcome (nodesIn t) ((a, b) ∷ []) ≡ o))
@@ -81,7 +91,7 @@ enough : (t : List ℕ) (a b lent : ℕ) → unification t a b lent ≡ ended un
 enough t a b lent e = answered-exactly t a b lent unified .0 e .0 .enough
 
 -- there is a binding word for each variable
-words-long : (t : List ℕ) (ps : List (ℕ × ℕ)) → length (wordsOf (nodesIn t) ps) ≡ variableCount t
+pub words-long : (t : List ℕ) (ps : List (ℕ × ℕ)) → length (wordsOf (nodesIn t) ps) ≡ variableCount t
 unfolding wordsOf bindingWords variableCount
 words-long t ps = length-map (variablesOf (nodesIn t)) (wordOf (nodesIn t) (unifier (nodesIn t) ps))
 

@@ -2,7 +2,7 @@
 -- Assumes nothing.
 use Prim.Native.Nat.{ℕ, zero, suc, _<_, _≤_}
 use mathlib.Core.Bool.{Bool, true, false, not, _&&_, false≢true}
-use mathlib.Core.List.{List, [], _∷_, List·Memᴰ, List·Memᴰ·head, List·Memᴰ·tail, List·Memᴰ·not-nil, List·Memᴰ·eq-of-singleton}
+use mathlib.Core.List.{List, [], _∷_, List·Memᴰ, List·Memᴰ·head, List·Memᴰ·tail, List·Memᴰ·not-nil, List·Memᴰ·eq-of-singleton, zip}
 use mathlib.Core.Logic.{inl, inr, _↔_}
 use mathlib.Core.Path.{_≡_, refl, sym, ap, _∙_}
 use native.Mathlib.Decide.{ℕ-discrete}
@@ -12,9 +12,9 @@ use lib.Dec.{eqb}
 use lib.ListN.{length}
 use Rattle.table.proofs.BoolLaws.{and-true-left, and-true-right}
 use Rattle.table.proofs.SomeLaws.{some-means, some-here}
-use Rattle.unify.specs.Node.{Node, variable, application, nodeAt, WellFormed, tabulate}
-use Rattle.unify.specs.Closure.{together, OneSymbol, Joined, given, one-variable, arguments, same, back, on, Clash, different}
-use Rattle.unify.specs.Unifier.{Inside}
+use Rattle.unify.specs.Node.{Node, variable, application, nodeAt, tabulate}
+use Rattle.unify.specs.Closure.{OneSymbol, Joined, given, one-variable, arguments, same, back, on, Clash, different}
+use Rattle.unify.specs.Code.Given.{WellFormed, Inside}
 use Rattle.unify.specs.Computed.Classes.{classOf, join, joinAll, sameSymbol, asks, gather, asked, round, rounds, classes, differ, clashAt, clashWith, clashes}
 use Rattle.unify.proofs.ListLaws.{tabulate-length, tabulate-at, gathered, gathered-from}
 use Rattle.unify.proofs.JoinedLaws.{joined-inside}
@@ -76,7 +76,7 @@ asked-variable : (ns : List Node) (cs : List ℕ) (i j x : ℕ) → nodeAt ns i 
 unfolding asked asks
 asked-variable ns cs i j x d e = rw (d, e, eq-eqb x x refl) (List·Memᴰ·head refl)
 
-asked-arguments : (ns : List Node) (cs : List ℕ) (i j f g : ℕ) (us vs : List ℕ) → nodeAt ns i ≡ application f us → nodeAt ns j ≡ application g vs → OneSymbol f us g vs → classOf cs i ≡ classOf cs j → (a b : ℕ) → List·Memᴰ (a, b) (together us vs) → List·Memᴰ (a, b) (asked ns cs i j)
+asked-arguments : (ns : List Node) (cs : List ℕ) (i j f g : ℕ) (us vs : List ℕ) → nodeAt ns i ≡ application f us → nodeAt ns j ≡ application g vs → OneSymbol f us g vs → classOf cs i ≡ classOf cs j → (a b : ℕ) → List·Memᴰ (a, b) (zip us vs) → List·Memᴰ (a, b) (asked ns cs i j)
 unfolding asked asks
 asked-arguments ns cs i j f g us vs d e l c a b m =
     rw (d, e, eq-eqb (classOf cs i) (classOf cs j) c, symbol-means f us g vs .1 l) m

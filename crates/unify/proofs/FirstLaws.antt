@@ -11,6 +11,7 @@ use borrow.Author.Tests.{eqb-true, eq-eqb}
 use lib.ListN.{length}
 use Rattle.unify.specs.Node.{Node, variable, application, nodeAt, tabulate, Present}
 use Rattle.unify.specs.Words.{Rising, end, before, Least}
+use Rattle.unify.proofs.RisingLaws.{rising-append}
 use Rattle.unify.specs.Computed.Solution.{firstWith, leastNode, isApplication, isVariable, isNodeOf, nodeOf}
 
 -- what `firstWith` gives: the first with the property, or one further on
@@ -50,7 +51,7 @@ first-has p d (y ∷ ys) x m h = go (firstWith p d (y ∷ ys)) (first p d y ys) 
     go w (later e) r = r (further p x y ys e h m)
 
 -- and in a rising list it is the least
-pub first-least : (p : ℕ → Bool) (d : ℕ) (xs : List ℕ) → Rising xs → (x : ℕ) → List·Memᴰ x xs → p x ≡ true → firstWith p d xs ≤ x
+pub first-least : (p : ℕ → Bool) (d : ℕ) (xs : List ℕ) → Rising _<_ xs → (x : ℕ) → List·Memᴰ x xs → p x ≡ true → firstWith p d xs ≤ x
 first-least p d [] s x m h = absurd (List·Memᴰ·not-nil m)
 first-least p d (y ∷ ys) (before b s) x m h = go (firstWith p d (y ∷ ys)) (first p d y ys) (λ n. first-least p d ys s x n h)
   where
@@ -81,19 +82,12 @@ is-below (suc n) i m = go (is-below n i) (List·Memᴰ·append-cases (tabulate n
     go r (inl k) = let h = r k in omega (arith, h)
     go r (inr k) = let e = List·Memᴰ·eq-of-singleton k in omega (arith, e)
 
-rising-end : (xs : List ℕ) (n : ℕ) → Rising xs → ((x : ℕ) → List·Memᴰ x xs → x < n) → Rising (xs ++ (n ∷ []))
-rising-end [] n end h = before (λ y m. absurd (List·Memᴰ·not-nil m)) end
-rising-end (x ∷ xs) n (before b s) h =
-    before (λ y m. go y (List·Memᴰ·append-cases xs m)) (rising-end xs n s (λ y m. h y (List·Memᴰ·tail m)))
-  where
-    go : (y : ℕ) → List·Memᴰ y xs ⊎ List·Memᴰ y (n ∷ []) → x < y
-    go y (inl m) = b y m
-    go y (inr m) = rw (List·Memᴰ·eq-of-singleton m) (h x (List·Memᴰ·head refl))
-
-numbers-rise : (n : ℕ) → Rising (tabulate n (λ i. i))
+numbers-rise : (n : ℕ) → Rising _<_ (tabulate n (λ i. i))
 unfolding tabulate
 numbers-rise zero = end
-numbers-rise (suc n) = rising-end (tabulate n (λ i. i)) n (numbers-rise n) (is-below n)
+numbers-rise (suc n) =
+    rising-append _<_ (tabulate n (λ i. i)) (n ∷ []) (numbers-rise n) (before (λ y m. absurd (List·Memᴰ·not-nil m)) end)
+    (λ x y m k. rw (List·Memᴰ·eq-of-singleton k) (is-below n x m))
 
 -- with a node that has the property, the least is a node
 pub least-below : (ns : List Node) (p : ℕ → Bool) (i : ℕ) → i < length ns → p i ≡ true → leastNode ns p < length ns

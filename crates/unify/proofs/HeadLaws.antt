@@ -11,7 +11,8 @@ use lib.ListN.{length}
 use Rattle.table.specs.Some.{someBelow}
 use Rattle.table.proofs.SomeLaws.{some-means, none-some}
 use Rattle.table.proofs.BoolLaws.{and-true-left, and-true-right}
-use Rattle.unify.specs.Node.{Node, variable, application, nodeAt, WellFormed}
+use Rattle.unify.specs.Node.{Node, variable, application, nodeAt}
+use Rattle.unify.specs.Code.Given.{WellFormed}
 use Rattle.unify.specs.Closure.{OneSymbol, Joined, given, one-variable, arguments, Clash, different}
 use Rattle.unify.specs.Computed.Variables.{variablesOf}
 use Rattle.unify.specs.Computed.Classes.{classOf}

@@ -1,23 +1,24 @@
 -- What unifies the given pairs makes joined nodes equal, by induction on how they are joined. Assumes nothing.
 use Prim.Native.Nat.{ℕ, suc, _<_, _≤_}
-use mathlib.Core.List.{List, List·Memᴰ}
+use mathlib.Core.List.{List, List·Memᴰ, zip}
 use mathlib.Core.Path.{_≡_, refl, sym, ap, _∙_}
 use native.Mathlib.Omega.{arith}
 use lib.ListN.{length}
 use Rattle.terms.specs.Term.{app}
 use Rattle.terms.specs.Substitution.{Substitution}
 use Rattle.terms.proofs.SizeLaws.{size, sizes}
-use Rattle.unify.specs.Node.{Node, variable, application, nodeAt, WellFormed, each}
-use Rattle.unify.specs.Unifier.{Inside, value, Unifies}
-use Rattle.unify.specs.Closure.{together, OneSymbol, Joined, given, one-variable, arguments, same, back, on, Clash, different, Reaches, step, steps}
-use Rattle.unify.proofs.ListLaws.{together-left, together-right}
+use Rattle.unify.specs.Node.{Node, variable, application, nodeAt, each}
+use Rattle.unify.specs.Unifier.{value, Unifies}
+use Rattle.unify.specs.Code.Given.{WellFormed, Inside}
+use Rattle.unify.specs.Closure.{OneSymbol, Joined, given, one-variable, arguments, same, back, on, Clash, different, Reaches, step, steps}
+use Rattle.unify.proofs.ListLaws.{zip-left, zip-right}
 use Rattle.unify.proofs.NodeLaws.{each-long, each-at, each-size, value-variable, value-application}
 
 -- The three rules of the closure, and those of an equivalence, for a relation R.
 pub record Rules (ns : List Node) (ps : List (ℕ × ℕ)) (R : ℕ → ℕ → Type 0) : Type 0 where
   pub has-given : (a b : ℕ) → List·Memᴰ (a, b) ps → R a b
   pub has-variable : (i j x : ℕ) → i < length ns → j < length ns → nodeAt ns i ≡ variable x → nodeAt ns j ≡ variable x → R i j
-  pub has-arguments : (i j f g : ℕ) (us vs : List ℕ) → nodeAt ns i ≡ application f us → nodeAt ns j ≡ application g vs → OneSymbol f us g vs → R i j → (a b : ℕ) → List·Memᴰ (a, b) (together us vs) → R a b
+  pub has-arguments : (i j f g : ℕ) (us vs : List ℕ) → nodeAt ns i ≡ application f us → nodeAt ns j ≡ application g vs → OneSymbol f us g vs → R i j → (a b : ℕ) → List·Memᴰ (a, b) (zip us vs) → R a b
   pub has-same : (i : ℕ) → i < length ns → R i i
   pub has-back : (i j : ℕ) → R i j → R j i
   pub has-on : (i j k : ℕ) → R i j → R j k → R i k
@@ -61,8 +62,8 @@ module _ (ns : List Node) (w : WellFormed ns) (ps : List (ℕ × ℕ)) (h : Insi
         has-given = h;
         has-variable = λ i j x p q d e. (p, q);
         has-arguments = λ i j f g us vs d e l r a b m.
-            let p : a < i = w .smaller i f us (r .0) d a (together-left us vs a b m) in
-            let q : b < j = w .smaller j g vs (r .1) e b (together-right us vs a b m) in
+            let p : a < i = w .smaller i f us (r .0) d a (zip-left us vs a b m) in
+            let q : b < j = w .smaller j g vs (r .1) e b (zip-right us vs a b m) in
             let pi : i < length ns = r .0 in
             let qi : j < length ns = r .1 in
             (omega arith, omega arith);

@@ -3,6 +3,7 @@ pub mod ListLaws
 pub mod MatchedLaws
 pub mod NodeLaws
 pub mod JoinedLaws
+pub mod RisingLaws
 pub mod VariableLaws
 pub mod FirstLaws
 pub mod PresentLaws

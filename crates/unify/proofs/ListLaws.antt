@@ -1,6 +1,6 @@
--- Laws of lists that the definitions are made of: `tabulate`, `gather`, `together`. By induction. Assumes nothing.
+-- Laws of lists that the definitions are made of: `tabulate`, `gather`, `zip`. By induction. Assumes nothing.
 use Prim.Native.Nat.{ℕ, zero, suc, _<_}
-use mathlib.Core.List.{List, [], _∷_, _++_, List·Memᴰ, List·Memᴰ·head, List·Memᴰ·tail, Memᴰ·append-left, Memᴰ·append-right, List·Memᴰ·append-cases, List·Memᴰ·not-nil}
+use mathlib.Core.List.{List, [], _∷_, _++_, List·Memᴰ, List·Memᴰ·head, List·Memᴰ·tail, Memᴰ·append-left, Memᴰ·append-right, List·Memᴰ·append-cases, List·Memᴰ·not-nil, zip, zipWith}
 use mathlib.Core.Logic.{_⊎_, inl, inr, _↔_}
 use mathlib.Core.Path.{_≡_, refl, ap, _∙_}
 use native.Mathlib.Decide.{decLt}
@@ -8,7 +8,6 @@ use native.Mathlib.Omega.{arith}
 use lib.ListN.{length, getD, length-append, List·getD-append}
 use lib.Seq.{getD-at}
 use Rattle.unify.specs.Node.{tabulate}
-use Rattle.unify.specs.Closure.{together}
 use Rattle.unify.specs.Computed.Classes.{gather}
 
 pub tabulate-length : {A : Type 0} (n : ℕ) (f : ℕ → A) → length (tabulate n f) ≡ n
@@ -48,54 +47,54 @@ gathered-from {A} (suc n) f x m = go (gathered-from n f x) (List·Memᴰ·append
     go r (inl q) = let s = r q in (s .0, omega arith, s .2)
     go r (inr q) = (n, omega arith, q)
 
-together-place : (us vs : List ℕ) (a b : ℕ) → List·Memᴰ (a, b) (together us vs) → (j : ℕ) × (j < length us) × (j < length vs) × (a ≡ getD us j 0) × (b ≡ getD vs j 0)
-unfolding together
-together-place [] vs a b m = absurd (List·Memᴰ·not-nil m)
-together-place (u ∷ us) [] a b m = absurd (List·Memᴰ·not-nil m)
-together-place (u ∷ us) (v ∷ vs) a b (List·Memᴰ·head e) =
+zip-place : (us vs : List ℕ) (a b : ℕ) → List·Memᴰ (a, b) (zip us vs) → (j : ℕ) × (j < length us) × (j < length vs) × (a ≡ getD us j 0) × (b ≡ getD vs j 0)
+unfolding zip zipWith
+zip-place [] vs a b m = absurd (List·Memᴰ·not-nil m)
+zip-place (u ∷ us) [] a b m = absurd (List·Memᴰ·not-nil m)
+zip-place (u ∷ us) (v ∷ vs) a b (List·Memᴰ·head e) =
     (0, omega arith, omega arith, ap (λ (p : ℕ × ℕ). p .0) e, ap (λ (p : ℕ × ℕ). p .1) e)
-together-place (u ∷ us) (v ∷ vs) a b (List·Memᴰ·tail m) =
-    let r = together-place us vs a b m in
+zip-place (u ∷ us) (v ∷ vs) a b (List·Memᴰ·tail m) =
+    let r = zip-place us vs a b m in
     (suc (r .0), omega (arith, r .1), omega (arith, r .2), r .3, r .4)
 
-placed-together : (us vs : List ℕ) (j : ℕ) → j < length us → j < length vs → List·Memᴰ (getD us j 0, getD vs j 0) (together us vs)
-unfolding together
-placed-together [] vs j h k = absurd (omega arith)
-placed-together (u ∷ us) [] j h k = absurd (omega arith)
-placed-together (u ∷ us) (v ∷ vs) zero h k = List·Memᴰ·head refl
-placed-together (u ∷ us) (v ∷ vs) (suc j) h k = List·Memᴰ·tail (placed-together us vs j (omega arith) (omega arith))
+placed-zip : (us vs : List ℕ) (j : ℕ) → j < length us → j < length vs → List·Memᴰ (getD us j 0, getD vs j 0) (zip us vs)
+unfolding zip zipWith
+placed-zip [] vs j h k = absurd (omega arith)
+placed-zip (u ∷ us) [] j h k = absurd (omega arith)
+placed-zip (u ∷ us) (v ∷ vs) zero h k = List·Memᴰ·head refl
+placed-zip (u ∷ us) (v ∷ vs) (suc j) h k = List·Memᴰ·tail (placed-zip us vs j (omega arith) (omega arith))
 
 -- "position by position": the pairs of two lists are those of the elements at one position
-pub together-at : (us vs : List ℕ) (a b : ℕ) → List·Memᴰ (a, b) (together us vs) ↔ ((j : ℕ) × (j < length us) × (j < length vs) × (a ≡ getD us j 0) × (b ≡ getD vs j 0))
-together-at us vs a b = (together-place us vs a b, λ r. rw (r .3, r .4) (placed-together us vs (r .0) (r .1) (r .2)))
+pub zip-at : (us vs : List ℕ) (a b : ℕ) → List·Memᴰ (a, b) (zip us vs) ↔ ((j : ℕ) × (j < length us) × (j < length vs) × (a ≡ getD us j 0) × (b ≡ getD vs j 0))
+zip-at us vs a b = (zip-place us vs a b, λ r. rw (r .3, r .4) (placed-zip us vs (r .0) (r .1) (r .2)))
 
 -- the pairs of two lists are of an element of each
-pub together-left : (us vs : List ℕ) (a b : ℕ) → List·Memᴰ (a, b) (together us vs) → List·Memᴰ a us
-unfolding together
-together-left [] vs a b m = absurd (List·Memᴰ·not-nil m)
-together-left (u ∷ us) [] a b m = absurd (List·Memᴰ·not-nil m)
-together-left (u ∷ us) (v ∷ vs) a b (List·Memᴰ·head e) = List·Memᴰ·head (ap (λ (p : ℕ × ℕ). p .0) e)
-together-left (u ∷ us) (v ∷ vs) a b (List·Memᴰ·tail m) = List·Memᴰ·tail (together-left us vs a b m)
+pub zip-left : (us vs : List ℕ) (a b : ℕ) → List·Memᴰ (a, b) (zip us vs) → List·Memᴰ a us
+unfolding zip zipWith
+zip-left [] vs a b m = absurd (List·Memᴰ·not-nil m)
+zip-left (u ∷ us) [] a b m = absurd (List·Memᴰ·not-nil m)
+zip-left (u ∷ us) (v ∷ vs) a b (List·Memᴰ·head e) = List·Memᴰ·head (ap (λ (p : ℕ × ℕ). p .0) e)
+zip-left (u ∷ us) (v ∷ vs) a b (List·Memᴰ·tail m) = List·Memᴰ·tail (zip-left us vs a b m)
 
 -- turned round
-pub together-back : (us vs : List ℕ) (a b : ℕ) → List·Memᴰ (a, b) (together us vs) → List·Memᴰ (b, a) (together vs us)
-unfolding together
-together-back [] vs a b m = absurd (List·Memᴰ·not-nil m)
-together-back (u ∷ us) [] a b m = absurd (List·Memᴰ·not-nil m)
-together-back (u ∷ us) (v ∷ vs) a b (List·Memᴰ·head e) = List·Memᴰ·head (ap (λ (p : ℕ × ℕ). (p .1, p .0)) e)
-together-back (u ∷ us) (v ∷ vs) a b (List·Memᴰ·tail m) = List·Memᴰ·tail (together-back us vs a b m)
+pub zip-back : (us vs : List ℕ) (a b : ℕ) → List·Memᴰ (a, b) (zip us vs) → List·Memᴰ (b, a) (zip vs us)
+unfolding zip zipWith
+zip-back [] vs a b m = absurd (List·Memᴰ·not-nil m)
+zip-back (u ∷ us) [] a b m = absurd (List·Memᴰ·not-nil m)
+zip-back (u ∷ us) (v ∷ vs) a b (List·Memᴰ·head e) = List·Memᴰ·head (ap (λ (p : ℕ × ℕ). (p .1, p .0)) e)
+zip-back (u ∷ us) (v ∷ vs) a b (List·Memᴰ·tail m) = List·Memᴰ·tail (zip-back us vs a b m)
 
-pub together-right : (us vs : List ℕ) (a b : ℕ) → List·Memᴰ (a, b) (together us vs) → List·Memᴰ b vs
-together-right us vs a b m = together-left vs us b a (together-back us vs a b m)
+pub zip-right : (us vs : List ℕ) (a b : ℕ) → List·Memᴰ (a, b) (zip us vs) → List·Memᴰ b vs
+zip-right us vs a b m = zip-left vs us b a (zip-back us vs a b m)
 
 -- a pair of the outer two goes through the middle list
-pub together-through : (us vs ws : List ℕ) → length us ≡ length vs → length vs ≡ length ws → (a c : ℕ) → List·Memᴰ (a, c) (together us ws) → (b : ℕ) × List·Memᴰ (a, b) (together us vs) × List·Memᴰ (b, c) (together vs ws)
-unfolding together
-together-through [] vs ws h k a c m = absurd (List·Memᴰ·not-nil m)
-together-through (u ∷ us) vs [] h k a c m = absurd (List·Memᴰ·not-nil m)
-together-through (u ∷ us) [] (w ∷ ws) h k a c m = absurd (omega arith)
-together-through (u ∷ us) (v ∷ vs) (w ∷ ws) h k a c (List·Memᴰ·head e) =
+pub zip-through : (us vs ws : List ℕ) → length us ≡ length vs → length vs ≡ length ws → (a c : ℕ) → List·Memᴰ (a, c) (zip us ws) → (b : ℕ) × List·Memᴰ (a, b) (zip us vs) × List·Memᴰ (b, c) (zip vs ws)
+unfolding zip zipWith
+zip-through [] vs ws h k a c m = absurd (List·Memᴰ·not-nil m)
+zip-through (u ∷ us) vs [] h k a c m = absurd (List·Memᴰ·not-nil m)
+zip-through (u ∷ us) [] (w ∷ ws) h k a c m = absurd (omega arith)
+zip-through (u ∷ us) (v ∷ vs) (w ∷ ws) h k a c (List·Memᴰ·head e) =
     (v, List·Memᴰ·head (ap (λ (p : ℕ × ℕ). (p .0, v)) e), List·Memᴰ·head (ap (λ (p : ℕ × ℕ). (v, p .1)) e))
-together-through (u ∷ us) (v ∷ vs) (w ∷ ws) h k a c (List·Memᴰ·tail m) =
-    let r = together-through us vs ws (omega arith) (omega arith) a c m in
+zip-through (u ∷ us) (v ∷ vs) (w ∷ ws) h k a c (List·Memᴰ·tail m) =
+    let r = zip-through us vs ws (omega arith) (omega arith) a c m in
     (r .0, List·Memᴰ·tail (r .1), List·Memᴰ·tail (r .2))

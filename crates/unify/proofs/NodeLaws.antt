@@ -1,16 +1,16 @@
 -- A node's term is made of its arguments' terms, and so is its value under a substitution: arguments have smaller numbers, so that the steps of `termOf` are enough.
 -- Only the variables present matter. Assumes nothing.
 use Prim.Native.Nat.{ℕ, zero, suc, _<_, _≤_}
-use mathlib.Core.List.{List, [], _∷_, List·Memᴰ, List·Memᴰ·head, List·Memᴰ·tail, List·Memᴰ·not-nil}
+use mathlib.Core.List.{List, [], _∷_, List·Memᴰ, List·Memᴰ·head, List·Memᴰ·tail, List·Memᴰ·not-nil, zip, zipWith}
 use mathlib.Core.Path.{_≡_, refl, sym, ap, _∙_}
 use native.Mathlib.Omega.{arith}
 use lib.ListN.{length}
 use Rattle.terms.specs.Term.{Term, app, cons}
 use Rattle.terms.specs.Substitution.{Substitution, sub, subs}
 use Rattle.terms.proofs.SizeLaws.{size, sizes}
-use Rattle.unify.specs.Node.{Node, variable, application, nodeAt, WellFormed, each, spell, termWithin, termOf, Present}
+use Rattle.unify.specs.Node.{Node, variable, application, nodeAt, each, spell, termWithin, termOf, Present}
 use Rattle.unify.specs.Unifier.{value}
-use Rattle.unify.specs.Closure.{together}
+use Rattle.unify.specs.Code.Given.{WellFormed}
 
 -- the terms of a list depend on those of its members
 pub each-same : (u v : ℕ → Term) (us : List ℕ) → ((a : ℕ) → List·Memᴰ a us → u a ≡ v a) → each u us ≡ each v us
@@ -32,8 +32,8 @@ each-long u v (a ∷ us) (b ∷ vs) e =
     ap suc (each-long u v us vs r)
 
 -- and equal at each position
-pub each-at : (u v : ℕ → Term) (us vs : List ℕ) → each u us ≡ each v vs → (a b : ℕ) → List·Memᴰ (a, b) (together us vs) → u a ≡ v b
-unfolding each together
+pub each-at : (u v : ℕ → Term) (us vs : List ℕ) → each u us ≡ each v vs → (a b : ℕ) → List·Memᴰ (a, b) (zip us vs) → u a ≡ v b
+unfolding each zip zipWith
 each-at u v [] vs e a b m = absurd (List·Memᴰ·not-nil m)
 each-at u v (c ∷ us) [] e a b m = absurd (List·Memᴰ·not-nil m)
 each-at u v (c ∷ us) (d ∷ vs) e a b (List·Memᴰ·head q) =
@@ -44,8 +44,8 @@ each-at u v (c ∷ us) (d ∷ vs) e a b (List·Memᴰ·tail m) =
     each-at u v us vs r a b m
 
 -- and the other way round
-pub each-equal : (u v : ℕ → Term) (us vs : List ℕ) → length us ≡ length vs → ((a b : ℕ) → List·Memᴰ (a, b) (together us vs) → u a ≡ v b) → each u us ≡ each v vs
-unfolding each together
+pub each-equal : (u v : ℕ → Term) (us vs : List ℕ) → length us ≡ length vs → ((a b : ℕ) → List·Memᴰ (a, b) (zip us vs) → u a ≡ v b) → each u us ≡ each v vs
+unfolding each zip zipWith
 each-equal u v [] [] l h = refl
 each-equal u v [] (b ∷ vs) l h = absurd (omega arith)
 each-equal u v (a ∷ us) [] l h = absurd (omega arith)

@@ -8,8 +8,9 @@ use mathlib.Core.Path.{_≡_, refl, sym, ap, _∙_}
 use native.Mathlib.Omega.{arith}
 use lib.ListN.{length}
 use Rattle.terms.specs.Substitution.{Substitution, sub}
-use Rattle.unify.specs.Node.{Node, WellFormed, Present}
-use Rattle.unify.specs.Unifier.{Inside, Unifies, Unifiable, MostGeneral}
+use Rattle.unify.specs.Node.{Node, Present}
+use Rattle.unify.specs.Unifier.{Unifies, Unifiable, MostGeneral}
+use Rattle.unify.specs.Code.Given.{WellFormed, Inside}
 use Rattle.unify.specs.Closure.{Clash, Reaches, Occurs}
 use Rattle.unify.specs.Words.{AreWords, Reads}
 use Rattle.unify.specs.Computed.Classes.{classes, clashes}

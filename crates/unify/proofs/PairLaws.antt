@@ -5,8 +5,9 @@ use mathlib.Core.List.{List}
 use mathlib.Core.Logic.{_↔_}
 use mathlib.Core.Path.{_≡_, sym, _∙_}
 use Rattle.terms.specs.Substitution.{Substitution}
-use Rattle.unify.specs.Node.{Node, WellFormed}
-use Rattle.unify.specs.Unifier.{Inside, Unifies, Unifiable}
+use Rattle.unify.specs.Node.{Node}
+use Rattle.unify.specs.Unifier.{Unifies, Unifiable}
+use Rattle.unify.specs.Code.Given.{WellFormed, Inside}
 use Rattle.unify.specs.Closure.{Clash, different, Reaches, step, steps, Occurs}
 use Rattle.unify.specs.Computed.Unifying.{outcome, unifier, wordsOf}
 use Rattle.unify.proofs.JoinedLaws.{Among, more-joined}

@@ -10,8 +10,9 @@ use Rattle.table.specs.Some.{someBelow}
 use Rattle.table.proofs.SomeLaws.{some-means, none-some}
 use Rattle.terms.specs.Term.{var}
 use Rattle.terms.specs.Substitution.{Substitution, sub}
-use Rattle.unify.specs.Node.{Node, nodeAt, WellFormed, Present}
-use Rattle.unify.specs.Unifier.{Inside, Unifies, MostGeneral}
+use Rattle.unify.specs.Node.{Node, nodeAt, Present}
+use Rattle.unify.specs.Unifier.{Unifies, MostGeneral}
+use Rattle.unify.specs.Code.Given.{WellFormed, Inside}
 use Rattle.unify.specs.Computed.Solution.{isNodeOf}
 use Rattle.unify.proofs.NodeLaws.{value-agree, value-after}
 use Rattle.unify.proofs.FirstLaws.{is-variable, of-variable}

@@ -8,8 +8,9 @@ use lib.ListN.{length}
 use Rattle.terms.specs.Term.{var, app}
 use Rattle.terms.specs.Substitution.{Substitution}
 use Rattle.terms.proofs.SizeLaws.{size, sizes}
-use Rattle.unify.specs.Node.{Node, variable, application, nodeAt, WellFormed, each, Present}
+use Rattle.unify.specs.Node.{Node, variable, application, nodeAt, each, Present}
 use Rattle.unify.specs.Unifier.{value}
+use Rattle.unify.specs.Code.Given.{WellFormed}
 use Rattle.unify.specs.Words.{IsRead, of-variable, of-application, Reads}
 use Rattle.unify.proofs.MatchedLaws.{matched-both}
 use Rattle.unify.proofs.NodeLaws.{each-same, each-size, value-variable, value-application}

@@ -1,18 +1,19 @@
 -- A solved form gives a most general unifier: each node stands for its head, and heads are spelt out in the order.
 -- A unifier makes a node equal to its head, so it is itself what comes after. Assumes nothing.
 use Prim.Native.Nat.{ℕ, zero, suc, _<_}
-use mathlib.Core.List.{List, List·Memᴰ}
+use mathlib.Core.List.{List, List·Memᴰ, zip}
 use mathlib.Core.Path.{_≡_, refl, sym, ap, _∙_}
 use native.Mathlib.Omega.{arith}
 use lib.ListN.{length}
 use Rattle.terms.specs.Term.{app}
 use Rattle.terms.specs.Substitution.{Substitution, sub}
-use Rattle.unify.specs.Node.{Node, variable, application, nodeAt, WellFormed, each, spell, Present}
-use Rattle.unify.specs.Unifier.{Inside, value, Unifies, MostGeneral}
-use Rattle.unify.specs.Closure.{together, Joined, given, one-variable, arguments, same, back, on, Clash, different}
+use Rattle.unify.specs.Node.{Node, variable, application, nodeAt, each, spell, Present}
+use Rattle.unify.specs.Unifier.{value, Unifies, MostGeneral}
+use Rattle.unify.specs.Code.Given.{WellFormed, Inside}
+use Rattle.unify.specs.Closure.{Joined, given, one-variable, arguments, same, back, on, Clash, different}
 use Rattle.unify.specs.Computed.Solution.{nodeOf, resolved, solution}
 use Rattle.unify.specs.Code.Solved.{HeadFits, Closed, Solved}
-use Rattle.unify.proofs.ListLaws.{together-back, together-through}
+use Rattle.unify.proofs.ListLaws.{zip-back, zip-through}
 use Rattle.unify.proofs.NodeLaws.{each-same, each-equal, subs-each, spell-same, value-variable, value-application, values-same}
 use Rattle.unify.proofs.JoinedLaws.{joined-inside, joined-equal}
 use Rattle.unify.proofs.FirstLaws.{node-of}
@@ -47,13 +48,13 @@ module _ (ns : List Node) (w : WellFormed ns) (ps : List (ℕ × ℕ)) (h : Insi
       go : head i ≡ head j → HeadFits ns head i f us → HeadFits ns head j g vs → head a ≡ head b
       go z x y = meet (t .0) (t .1) (t .2)
         where
-          t : (c : ℕ) × List·Memᴰ (a, c) (together us (x .arguments)) × List·Memᴰ (c, b) (together (x .arguments) vs)
-          t = together-through us (x .arguments) vs (x .as-long) (sym (x .as-long) ∙ l .1) a b m
+          t : (c : ℕ) × List·Memᴰ (a, c) (zip us (x .arguments)) × List·Memᴰ (c, b) (zip (x .arguments) vs)
+          t = zip-through us (x .arguments) vs (x .as-long) (sym (x .as-long) ∙ l .1) a b m
 
-          meet : (c : ℕ) → List·Memᴰ (a, c) (together us (x .arguments)) → List·Memᴰ (c, b) (together (x .arguments) vs) → head a ≡ head b
+          meet : (c : ℕ) → List·Memᴰ (a, c) (zip us (x .arguments)) → List·Memᴰ (c, b) (zip (x .arguments) vs) → head a ≡ head b
           meet c k n =
               let r = one-application i j f g us vs z x y in
-              x .one-head a c k ∙ sym (y .one-head b c (rw (r .1) at (together-back (x .arguments) vs c b n)))
+              x .one-head a c k ∙ sym (y .one-head b c (rw (r .1) at (zip-back (x .arguments) vs c b n)))
   joined-head (same p) = refl
   joined-head (back q) = sym (joined-head q)
   joined-head (on p q) = joined-head p ∙ joined-head q

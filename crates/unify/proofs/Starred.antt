@@ -1,6 +1,6 @@
 -- Document 01's starred examples 8 to 12, and some more, by computation from the definitions. Assumes nothing.
 use Prim.Native.Nat.{ℕ}
-use mathlib.Core.List.{List, [], _∷_, map}
+use mathlib.Core.List.{List, [], _∷_, map, zip, zipWith}
 use mathlib.Core.Path.{_≡_, refl}
 use lib.ListN.{length}
 use native.Mathlib.Decide.{ℕ-discrete}
@@ -11,7 +11,6 @@ use Rattle.table.specs.Refusal.{conditions, firstHeld}
 use Rattle.terms.specs.Term.{equal}
 use Rattle.terms.specs.Substitution.{sub}
 use Rattle.unify.specs.Node.{variable, application, tabulate, readNode, nodesIn, each, spell, termWithin, termOf}
-use Rattle.unify.specs.Closure.{together}
 use Rattle.unify.specs.Computed.Variables.{insert, variablesOf}
 use Rattle.unify.specs.Computed.Classes.{renamed, join, joinAll, sameSymbol, asks, gather, asked, round, rounds, classes, differ, clashAt, clashWith, clashes}
 use Rattle.unify.specs.Computed.Walks.{someMarked, leads, leadsAt, leadsFrom, walks, cyclic}
@@ -19,7 +18,7 @@ use Rattle.unify.specs.Computed.Solution.{firstWith, leastNode, isApplic
 use Rattle.unify.specs.Computed.Binding.{isBoundTo, hasValue, wordFor, wordOf, bindingWords}
 use Rattle.unify.specs.Outcome.{unified, clash, occurs}
 use Rattle.unify.specs.Computed.Unifying.{outcome, unifier, wordsOf}
-use Rattle.unify.specs.Answer.{variableCount, notNode, unifyConditions, Answer, ended, refused, answerAfter, unification, wordsAfter, lentAfter}
+use Rattle.unify.specs.Answer.{variableCount, unifyConditions, Answer, ended, refused, answerAfter, unification, wordsAfter, lentAfter}
 
 -- 0 x, 1 f(x)
 abbrev pub x-fx : List ℕ
@@ -112,10 +111,10 @@ computed e = (unification (e .0) (e .1) (e .2) (length (e .3)), lentAfter (e .0)
 
 -- what the definitions compute is what the examples say
 pub starred : map computed examples ≡ map (λ e. (e .4, e .5)) examples
-unfolding ℕ-discrete countsBefore someBelow tooFewWords endBefore offsetIsWrong brokenPair sectionIsLong overLimit rightVariable startOf rightApplication rightNode nodeIsWrong nodesAreWrong wrongNode argumentIsWrong runIsWrong wrongArgument termIsWrong wrongTerm labelsAreEqual labelIsWrong wrongLabel conditions firstHeld equal sub tabulate readNode nodesIn each spell termWithin termOf together insert variablesOf renamed join joinAll sameSymbol asks gather asked round rounds classes differ clashAt clashWith clashes someMarked leads leadsAt leadsFrom walks cyclic firstWith leastNode isApplication isVariable isNodeOf nodeOf resolved solution isApplicationIn isVariableIn headIn isBoundTo hasValue wordFor wordOf bindingWords outcome unifier wordsOf variableCount notNode unifyConditions answerAfter unification wordsAfter lentAfter
+unfolding ℕ-discrete countsBefore someBelow tooFewWords endBefore offsetIsWrong brokenPair sectionIsLong overLimit rightVariable startOf rightApplication rightNode nodeIsWrong nodesAreWrong wrongNode argumentIsWrong runIsWrong wrongArgument termIsWrong wrongTerm labelsAreEqual labelIsWrong wrongLabel conditions firstHeld equal sub tabulate readNode nodesIn each spell termWithin termOf zip zipWith insert variablesOf renamed join joinAll sameSymbol asks gather asked round rounds classes differ clashAt clashWith clashes someMarked leads leadsAt leadsFrom walks cyclic firstWith leastNode isApplication isVariable isNodeOf nodeOf resolved solution isApplicationIn isVariableIn headIn isBoundTo hasValue wordFor wordOf bindingWords outcome unifier wordsOf variableCount unifyConditions answerAfter unification wordsAfter lentAfter
 starred = refl
 
 -- x with a and x with b, together: {x, x} and {a, b} has no entry
 pub pairs-together : outcome (variable 0 ∷ application 1 [] ∷ application 2 [] ∷ []) ((0, 1) ∷ (0, 2) ∷ []) ≡ clash
-unfolding someBelow tabulate together renamed join joinAll sameSymbol asks gather asked round rounds classes differ clashAt clashWith clashes someMarked leads leadsAt leadsFrom walks cyclic outcome
+unfolding someBelow tabulate zip zipWith renamed join joinAll sameSymbol asks gather asked round rounds classes differ clashAt clashWith clashes someMarked leads leadsAt leadsFrom walks cyclic outcome
 pairs-together = refl

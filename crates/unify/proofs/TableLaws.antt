@@ -10,9 +10,10 @@ use borrow.Author.Tests.{eq-eqb, ne-eqb}
 use lib.ListN.{length, getD, take, drop, length-drop}
 use lib.Seq.{length-take-le, getD-take, getD-drop, ext-getD}
 use Rattle.table.specs.Layout.{nodesOf, argumentsOf, kindOf, nameOf, firstOf, countOf, nodeCount, argumentOf}
-use Rattle.table.specs.Accepted.{Accepted, RightNode}
+use Rattle.table.specs.Code.Accepted.{Accepted, RightNode}
 use Rattle.table.proofs.AcceptedLaws.{arguments-inside}
-use Rattle.unify.specs.Node.{variable, application, readNode, nodesIn, nodeAt, WellFormed}
+use Rattle.unify.specs.Node.{variable, application, readNode, nodesIn, nodeAt}
+use Rattle.unify.specs.Code.Given.{WellFormed}
 use Rattle.unify.proofs.ListLaws.{tabulate-length, tabulate-at}
 
 -- a table has as many nodes as its nodes section holds

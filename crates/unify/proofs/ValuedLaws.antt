@@ -1,22 +1,22 @@
 -- Nodes have one name exactly if they have one value, by induction on the order of a solved form. So the least nodes and variables by name are the words.
 -- Assumes nothing.
 use Prim.Native.Nat.{ℕ, zero, suc, _<_}
-use mathlib.Core.List.{List, List·Memᴰ}
+use mathlib.Core.List.{List, List·Memᴰ, zip}
 use mathlib.Core.Logic.{_↔_}
 use mathlib.Core.Path.{_≡_, refl, sym, ap, _∙_}
 use native.Mathlib.Omega.{arith}
 use lib.ListN.{length}
 use Rattle.terms.specs.Term.{var, app}
-use Rattle.unify.specs.Node.{Node, variable, application, nodeAt, WellFormed, each, spell, Present}
-use Rattle.unify.specs.Unifier.{Inside, value}
-use Rattle.unify.specs.Closure.{together}
+use Rattle.unify.specs.Node.{Node, variable, application, nodeAt, each, spell, Present}
+use Rattle.unify.specs.Unifier.{value}
+use Rattle.unify.specs.Code.Given.{WellFormed, Inside}
 use Rattle.unify.specs.Words.{IsWord, Matched}
 use Rattle.unify.specs.Computed.Variables.{variablesOf}
 use Rattle.unify.specs.Computed.Solution.{resolved, solution}
 use Rattle.unify.specs.Computed.Unifying.{wordsOf}
 use Rattle.unify.specs.Code.Solved.{Solved}
 use Rattle.unify.specs.Code.Valued.{Valued, NamedApplication, NamedVariable, IsNamed}
-use Rattle.unify.proofs.ListLaws.{together-left, together-right}
+use Rattle.unify.proofs.ListLaws.{zip-left, zip-right}
 use Rattle.unify.proofs.MatchedLaws.{matched-map}
 use Rattle.unify.proofs.NodeLaws.{each-long, each-at, each-equal, value-variable}
 use Rattle.unify.proofs.SolvedLaws.{closed-inside, joined-head, argument-inside, resolved-node, value-resolved, solution-most-general}
@@ -42,7 +42,7 @@ module _ (ns : List Node) (w : WellFormed ns) (ps : List (ℕ × ℕ)) (h : Insi
   Same i j = resolved k ns head i ≡ resolved k ns head j ↔ (name i ≡ name j)
 
   -- applications, where it is said of their arguments
-  composed-same : (i j f g : ℕ) (us vs : List ℕ) → i < length ns → j < length ns → nodeAt ns (head i) ≡ application f us → nodeAt ns (head j) ≡ application g vs → ((a b : ℕ) → List·Memᴰ (a, b) (together us vs) → Same a b) → Same i j
+  composed-same : (i j f g : ℕ) (us vs : List ℕ) → i < length ns → j < length ns → nodeAt ns (head i) ≡ application f us → nodeAt ns (head j) ≡ application g vs → ((a b : ℕ) → List·Memᴰ (a, b) (zip us vs) → Same a b) → Same i j
   unfolding spell
   composed-same i j f g us vs p q d e ih = (there, back-to)
     where
@@ -89,8 +89,8 @@ module _ (ns : List Node) (w : WellFormed ns) (ps : List (ℕ × ℕ)) (h : Insi
       go ih (application f us) d (application g vs) e =
           composed-same i j f g us vs p q d e
           (λ a c m.
-          let l = together-left us vs a c m in
-          let r = together-right us vs a c m in
+          let l = zip-left us vs a c m in
+          let r = zip-right us vs a c m in
           let o : order (head a) < order (head i) = s .falls i f us p d a l in
           ih a c (argument-inside ns w ps h head order s i f us p d a l) (argument-inside ns w ps h head order s j g vs q e c r) (omega arith))
 

@@ -1,9 +1,9 @@
 -- The list `variablesOf` is rising and holds exactly the variables present: `insert` puts a number in its place, once.
 -- By induction on the list, and by cases on how the number compares with the first. Assumes nothing.
-use Prim.Native.Nat.{ℕ, zero, suc, _<_, _≤_}
+use Prim.Native.Nat.{ℕ, zero, suc, _<_}
 use mathlib.Core.Bool.{Bool, true, false, cond}
 use mathlib.Core.List.{List, [], _∷_, List·Memᴰ, List·Memᴰ·head, List·Memᴰ·tail, List·Memᴰ·cases-cons, List·Memᴰ·not-nil}
-use mathlib.Core.Logic.{_⊎_, inl, inr, _↔_}
+use mathlib.Core.Logic.{_⊎_, inl, inr}
 use mathlib.Core.Path.{_≡_, refl, sym, ap}
 use native.Mathlib.Omega.{arith}
 use borrow.Author.Tests.{ltb-true, ltb-false, eqb-true, eqb-false}
@@ -12,6 +12,7 @@ use lib.ListN.{length}
 use Rattle.unify.specs.Node.{Node, variable, application, nodeAt, Present}
 use Rattle.unify.specs.Words.{Rising, end, before, AreVariables}
 use Rattle.unify.specs.Computed.Variables.{insert, variablesOf}
+use Rattle.unify.proofs.RisingLaws.{rising-same}
 
 -- what `insert` gives, by how the number compares with the first
 data Inserted (x y : ℕ) (ys : List ℕ) : List ℕ → Type 0 where
@@ -67,12 +68,12 @@ insert-keeps x (y ∷ ys) z m = go (insert x (y ∷ ys)) (inserted x y ys) m (in
     go l (after h) (List·Memᴰ·head e) r = List·Memᴰ·head e
     go l (after h) (List·Memᴰ·tail n) r = List·Memᴰ·tail (r n)
 
-insert-rises : (x : ℕ) (ys : List ℕ) → Rising ys → Rising (insert x ys)
+insert-rises : (x : ℕ) (ys : List ℕ) → Rising _<_ ys → Rising _<_ (insert x ys)
 unfolding insert
 insert-rises x [] r = before (λ y m. absurd (List·Memᴰ·not-nil m)) end
 insert-rises x (y ∷ ys) r = go (insert x (y ∷ ys)) (inserted x y ys) r (insert-rises x ys)
   where
-    go : (l : List ℕ) → Inserted x y ys l → Rising (y ∷ ys) → (Rising ys → Rising (insert x ys)) → Rising l
+    go : (l : List ℕ) → Inserted x y ys l → Rising _<_ (y ∷ ys) → (Rising _<_ ys → Rising _<_ (insert x ys)) → Rising _<_ l
     go l (ahead h) (before b s) f = before (λ z m. first z (List·Memᴰ·cases-cons m)) (before b s)
       where
         first : (z : ℕ) → (z ≡ y) ⊎ List·Memᴰ z ys → x < z
@@ -86,7 +87,7 @@ insert-rises x (y ∷ ys) r = go (insert x (y ∷ ys)) (inserted x y ys) r (inse
         rest z (inr m) = b z m
 
 -- the list is rising
-pub variables-rise : (ns : List Node) → Rising (variablesOf ns)
+pub variables-rise : (ns : List Node) → Rising _<_ (variablesOf ns)
 unfolding variablesOf
 variables-rise [] = end
 variables-rise (variable x ∷ ns) = insert-rises x (variablesOf ns) (variables-rise ns)
@@ -123,29 +124,8 @@ pub variables-are : (ns : List Node) → AreVariables ns (variablesOf ns)
 variables-are ns =
     record { rising = variables-rise ns; present = λ x. (variables-present ns x, present-variables ns x) }
 
--- the first of a rising list is the least
-head-least : (x y : ℕ) (ys : List ℕ) → Rising (y ∷ ys) → List·Memᴰ x (y ∷ ys) → y ≤ x
-head-least x y ys (before b r) (List·Memᴰ·head e) = omega arith
-head-least x y ys (before b r) (List·Memᴰ·tail m) = let k = b x m in omega (arith, k)
-
-not-first : (x y : ℕ) (ys : List ℕ) → y < x → List·Memᴰ x (y ∷ ys) → List·Memᴰ x ys
-not-first x y ys h (List·Memᴰ·head e) = absurd (omega arith)
-not-first x y ys h (List·Memᴰ·tail m) = m
-
--- rising lists with the same members are one list
-rising-one : (xs ys : List ℕ) → Rising xs → Rising ys → ((x : ℕ) → List·Memᴰ x xs ↔ List·Memᴰ x ys) → xs ≡ ys
-rising-one [] [] r s h = refl
-rising-one [] (y ∷ ys) r s h = absurd (List·Memᴰ·not-nil (h y .1 (List·Memᴰ·head refl)))
-rising-one (x ∷ xs) [] r s h = absurd (List·Memᴰ·not-nil (h x .0 (List·Memᴰ·head refl)))
-rising-one (x ∷ xs) (y ∷ ys) (before b r) (before c s) h =
-    let p : y ≤ x = head-least x y ys (before c s) (h x .0 (List·Memᴰ·head refl)) in
-    let q : x ≤ y = head-least y x xs (before b r) (h y .1 (List·Memᴰ·head refl)) in
-    let e : x ≡ y = omega arith in
-    let t : xs ≡ ys = rising-one xs ys r s (λ z. ((λ m. let k = b z m in not-first z y ys (omega (arith, k)) (h z .0 (List·Memᴰ·tail m))), (λ m. let k = c z m in not-first z x xs (omega (arith, k)) (h z .1 (List·Memᴰ·tail m))))) in
-    rw (e, t)
-
 -- and it is the only such list
 pub variables-one : (ns : List Node) (xs : List ℕ) → AreVariables ns xs → xs ≡ variablesOf ns
 variables-one ns xs v =
-    rising-one xs (variablesOf ns) (v .rising) (variables-rise ns)
+    rising-same _<_ (λ x y a b. absurd (omega (arith, a, b))) xs (variablesOf ns) (v .rising) (variables-rise ns)
     (λ x. ((λ m. present-variables ns x (v .present x .0 m)), (λ m. v .present x .1 (variables-present ns x m))))

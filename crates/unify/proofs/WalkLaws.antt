@@ -12,7 +12,8 @@ use lib.ListN.{length}
 use Rattle.table.specs.Some.{someBelow}
 use Rattle.table.proofs.BoolLaws.{and-true-left, and-true-right}
 use Rattle.table.proofs.SomeLaws.{some-means, some-here, none-some}
-use Rattle.unify.specs.Node.{Node, variable, application, nodeAt, WellFormed}
+use Rattle.unify.specs.Node.{Node, variable, application, nodeAt}
+use Rattle.unify.specs.Code.Given.{WellFormed}
 use Rattle.unify.specs.Closure.{Joined, same, Reaches, step, steps}
 use Rattle.unify.specs.Computed.Classes.{classOf}
 use Rattle.unify.specs.Computed.Walks.{marked, someMarked, leads, leadsAt, leadsFrom, walks, cyclic}

@@ -10,8 +10,9 @@ use Rattle.table.proofs.BoolLaws.{and-true-left, and-true-right}
 use Rattle.terms.specs.Term.{Term, var, app, Terms, equal}
 use Rattle.terms.specs.Substitution.{Substitution, sub, subs}
 use Rattle.terms.proofs.TermLaws.{equal-true, equal-refl}
-use Rattle.unify.specs.Node.{Node, variable, application, nodeAt, WellFormed, spell, Present}
-use Rattle.unify.specs.Unifier.{Inside, value, Unifies, MostGeneral}
+use Rattle.unify.specs.Node.{Node, variable, application, nodeAt, spell, Present}
+use Rattle.unify.specs.Unifier.{value, Unifies, MostGeneral}
+use Rattle.unify.specs.Code.Given.{WellFormed, Inside}
 use Rattle.unify.specs.Words.{Least, BoundTo, IsWord, bound, free, AreWords, IsRead, of-variable, of-application, Reads}
 use Rattle.unify.specs.Computed.Variables.{variablesOf}
 use Rattle.unify.specs.Computed.Solution.{firstWith, leastNode, isApplication, nodeOf, resolved, solution}

@@ -1,11 +1,10 @@
 -- What `unify` answers, and what it leaves in the lent words.
-use Prim.Native.Nat.{ℕ, zero, suc, _<_, _≤_}
+use Prim.Native.Nat.{ℕ, zero, suc}
 use mathlib.Core.Bool.{Bool, _||_}
 use mathlib.Core.List.{List, [], _∷_, _++_}
 use lib.Dec.{leb, ltb}
 use lib.ListN.{length, drop}
 use Rattle.table.specs.Refusal.{conditions, firstHeld}
-use Rattle.table.specs.Accepted.{Accepted}
 use Rattle.table.specs.Answer.{numberOf}
 use Rattle.unify.specs.declared.Unification.{Unification}
 use Rattle.unify.specs.declared.Unification.the-variants.{Unified, Clash, Occurs, Refused}
@@ -18,21 +17,10 @@ use Rattle.unify.specs.Computed.Unifying.{outcome, wordsOf}
 unfoldable pub variableCount : List ℕ → ℕ
 variableCount t = length (variablesOf (nodesIn t))
 
--- 8: "a given number is not a node"
-unfoldable pub notNode : List ℕ → ℕ → Bool
-notNode t i = leb (length (nodesIn t)) i
-
 -- "1 to 7, then 8: a given number is not a node. Then 9: the lent binding words are fewer than V, tested before unifying."
 unfoldable pub unifyConditions : List ℕ → ℕ → ℕ → ℕ → List (ℕ × Bool)
 unifyConditions t a b lent =
-    conditions t ++ (8, notNode t a || notNode t b) ∷ (9, ltb lent (variableCount t)) ∷ []
-
--- What holds of a call that is not refused (`answered-exactly`).
-pub record Unrefused (t : List ℕ) (a b lent : ℕ) : Type 0 where
-  pub table : Accepted t
-  pub left : a < length (nodesIn t)
-  pub right : b < length (nodesIn t)
-  pub enough : variableCount t ≤ lent
+    conditions t ++ (8, leb (length (nodesIn t)) a || leb (length (nodesIn t)) b) ∷ (9, ltb lent (variableCount t)) ∷ []
 
 -- "The answer is unified, clash or occurs", or a refusal by its number.
 pub data Answer : Type 0 where

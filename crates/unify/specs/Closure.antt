@@ -1,15 +1,9 @@
 -- "Failure is defined through a closure"
 use Prim.Native.Nat.{ℕ, _<_}
-use mathlib.Core.List.{List, [], _∷_, List·Memᴰ}
+use mathlib.Core.List.{List, List·Memᴰ, zip}
 use mathlib.Core.Path.{_≡_}
 use lib.ListN.{length}
 use Rattle.unify.specs.Node.{Node, variable, application, nodeAt}
-
--- "position by position": the pairs of elements at one position.
-unfoldable pub together : List ℕ → List ℕ → List (ℕ × ℕ)
-together [] vs = []
-together (a ∷ us) [] = []
-together (a ∷ us) (b ∷ vs) = (a, b) ∷ together us vs
 
 -- "Name and count together are its symbol": f applied to us and g applied to vs have one symbol.
 abbrev pub OneSymbol : ℕ → List ℕ → ℕ → List ℕ → Type 0
@@ -22,7 +16,7 @@ pub data Joined (ns : List Node) (ps : List (ℕ × ℕ)) : ℕ → ℕ → Type
   -- "joins nodes of one variable"
   one-variable : {i j x : ℕ} → i < length ns → j < length ns → nodeAt ns i ≡ variable x → nodeAt ns j ≡ variable x → Joined ns ps i j
   -- "joins, position by position, the arguments of joined applications with one symbol"
-  arguments : {i j f g a b : ℕ} {us vs : List ℕ} → nodeAt ns i ≡ application f us → nodeAt ns j ≡ application g vs → OneSymbol f us g vs → Joined ns ps i j → List·Memᴰ (a, b) (together us vs) → Joined ns ps a b
+  arguments : {i j f g a b : ℕ} {us vs : List ℕ} → nodeAt ns i ≡ application f us → nodeAt ns j ≡ application g vs → OneSymbol f us g vs → Joined ns ps i j → List·Memᴰ (a, b) (zip us vs) → Joined ns ps a b
   -- an equivalence
   same : {i : ℕ} → i < length ns → Joined ns ps i i
   back : {i j : ℕ} → Joined ns ps i j → Joined ns ps j i

@@ -1,3 +1,4 @@
--- What contracts of inner functions speak of. No reader has to believe these.
+-- What contracts of inner functions and laws speak of. No reader has to believe these.
+pub mod Given
 pub mod Solved
 pub mod Valued

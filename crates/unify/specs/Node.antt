@@ -1,7 +1,7 @@
 -- The nodes of a table, their terms, and the variables present.
 use Prim.Native.Nat.{ℕ, zero, suc, _<_}
 use mathlib.Core.Bool.{cond}
-use mathlib.Core.List.{List, [], _∷_, _++_, List·Memᴰ}
+use mathlib.Core.List.{List, [], _∷_, _++_}
 use mathlib.Core.Path.{_≡_}
 use lib.Dec.{eqb}
 use lib.ListN.{length, getD, take, drop}
@@ -32,10 +32,6 @@ nodesIn t = tabulate (nodeCount (nodesOf t)) (readNode (nodesOf t) (argumentsOf 
 -- Node i. Past the end it is variable 0, and of no account.
 abbrev pub nodeAt : List Node → ℕ → Node
 nodeAt ns i = getD ns i (variable 0)
-
--- "An argument is a node number smaller than that of the node it belongs to." So it is in every accepted table (`well-formed`).
-pub record WellFormed (ns : List Node) : Type 0 where
-  pub smaller : (i f : ℕ) (us : List ℕ) → i < length ns → nodeAt ns i ≡ application f us → (a : ℕ) → List·Memᴰ a us → a < i
 
 -- The terms of a list of nodes, given the term of each node.
 unfoldable pub each : (ℕ → Term) → List ℕ → Terms

@@ -1,15 +1,10 @@
 -- "A substitution and a most general unifier are as in document 001."
-use Prim.Native.Nat.{ℕ, _<_}
+use Prim.Native.Nat.{ℕ}
 use mathlib.Core.List.{List, List·Memᴰ}
 use mathlib.Core.Path.{_≡_}
-use lib.ListN.{length}
 use Rattle.terms.specs.Term.{Term}
 use Rattle.terms.specs.Substitution.{Substitution, sub}
 use Rattle.unify.specs.Node.{Node, Present, termOf}
-
--- The given pairs are of nodes.
-abbrev pub Inside : List Node → List (ℕ × ℕ) → Type 0
-Inside ns ps = (a b : ℕ) → List·Memᴰ (a, b) ps → (a < length ns) × (b < length ns)
 
 -- The value of a node under a substitution.
 abbrev pub value : List Node → Substitution → ℕ → Term

@@ -10,14 +10,14 @@ use Rattle.unify.specs.Node.{Node, variable, application, nodeAt, Presen
 use Rattle.unify.specs.Unifier.{value}
 use Rattle.unify.specs.Computed.Variables.{variablesOf}
 
--- "in rising order": each number is below all that come after it.
-pub data Rising : List ℕ → Type 0 where
-  end : Rising []
-  before : {x : ℕ} {xs : List ℕ} → ((y : ℕ) → List·Memᴰ y xs → x < y) → Rising xs → Rising (x ∷ xs)
+-- "in rising order": each element is below all that come after it.
+pub data Rising {A : Type 0} (Below : A → A → Type 0) : List A → Type 0 where
+  end : Rising Below []
+  before : {x : A} {xs : List A} → ((y : A) → List·Memᴰ y xs → Below x y) → Rising Below xs → Rising Below (x ∷ xs)
 
 -- "each variable present in the nodes section, in rising order of variable number"
 pub record AreVariables (ns : List Node) (xs : List ℕ) : Type 0 where
-  pub rising : Rising xs
+  pub rising : Rising _<_ xs
   pub present : (x : ℕ) → List·Memᴰ x xs ↔ Present ns x
 
 -- The least number with a property.

@@ -1,17 +1,17 @@
 -- Solved forms of a list of pairs: what the code finds.
 use Prim.Native.Nat.{ℕ, _<_}
-use mathlib.Core.List.{List, List·Memᴰ}
+use mathlib.Core.List.{List, List·Memᴰ, zip}
 use mathlib.Core.Path.{_≡_}
 use lib.ListN.{length}
 use Rattle.unify.specs.Node.{Node, variable, application, nodeAt}
-use Rattle.unify.specs.Closure.{together, Joined}
+use Rattle.unify.specs.Closure.{Joined}
 
 -- Node i has a head with its symbol, and its arguments have the heads of the head's arguments.
 pub record HeadFits (ns : List Node) (head : ℕ → ℕ) (i f : ℕ) (us : List ℕ) : Type 0 where
   pub arguments : List ℕ
   pub applied : nodeAt ns (head i) ≡ application f arguments
   pub as-long : length us ≡ length arguments
-  pub one-head : (a b : ℕ) → List·Memᴰ (a, b) (together us arguments) → head a ≡ head b
+  pub one-head : (a b : ℕ) → List·Memᴰ (a, b) (zip us arguments) → head a ≡ head b
 
 -- Heads that stand for the classes of a list of pairs without clash.
 pub record Closed (ns : List Node) (ps : List (ℕ × ℕ)) (head : ℕ → ℕ) : Type 0 where

@@ -1,15 +1,15 @@
 -- Names for the values of nodes, so that values are compared and words are found with no term spelt out.
 use Prim.Native.Nat.{ℕ, _<_}
-use mathlib.Core.List.{List, List·Memᴰ}
+use mathlib.Core.List.{List, List·Memᴰ, zip}
 use mathlib.Core.Path.{_≡_}
 use lib.ListN.{length}
 use Rattle.unify.specs.Node.{Node, variable, application, nodeAt}
-use Rattle.unify.specs.Closure.{together, OneSymbol}
+use Rattle.unify.specs.Closure.{OneSymbol}
 use Rattle.unify.specs.Words.{Least}
 
 -- The arguments have the same names, position by position.
 abbrev pub SameNames : (ℕ → ℕ) → List ℕ → List ℕ → Type 0
-SameNames name us vs = (a b : ℕ) → List·Memᴰ (a, b) (together us vs) → name a ≡ name b
+SameNames name us vs = (a b : ℕ) → List·Memᴰ (a, b) (zip us vs) → name a ≡ name b
 
 -- Names of nodes that stand for their values.
 pub record Valued (ns : List Node) (head name : ℕ → ℕ) : Type 0 where

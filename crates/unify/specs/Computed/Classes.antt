@@ -1,12 +1,11 @@
 -- The classes of the closure, as a list that names one node of each node's class (`class-joined`, `joined-class`), and whether they clash.
 use Prim.Native.Nat.{ℕ, zero, suc}
 use mathlib.Core.Bool.{Bool, false, not, cond, _&&_}
-use mathlib.Core.List.{List, [], _∷_, _++_, map}
+use mathlib.Core.List.{List, [], _∷_, _++_, map, zip}
 use lib.Dec.{eqb}
 use lib.ListN.{length, getD}
 use Rattle.table.specs.Some.{someBelow}
 use Rattle.unify.specs.Node.{Node, variable, application, nodeAt, tabulate}
-use Rattle.unify.specs.Closure.{together}
 
 -- The class of node i.
 abbrev pub classOf : List ℕ → ℕ → ℕ
@@ -34,7 +33,7 @@ unfoldable pub asks : Bool → ℕ → ℕ → Node → Node → List (ℕ × �
 asks joined i j (variable x) (variable y) = cond (eqb x y) ((i, j) ∷ []) []
 asks joined i j (variable x) (application g vs) = []
 asks joined i j (application f us) (variable y) = []
-asks joined i j (application f us) (application g vs) = cond (joined && sameSymbol f us g vs) (together us vs) []
+asks joined i j (application f us) (application g vs) = cond (joined && sameSymbol f us g vs) (zip us vs) []
 
 -- The lists of all numbers below n, one after the other.
 unfoldable pub gather : {A : Type 0} → ℕ → (ℕ → List A) → List A

@@ -1,6 +1,6 @@
 -- `table::conditions::wrong_argument` meets its contract: both sections are what the table says, and each run lies inside. Assumes nothing.
 use native.Mathlib.Omega.{arith}
-use Rattle.table.specs.Layout.{nodes, arguments}
+use Rattle.table.specs.Code.Sections.{nodes, arguments}
 use Rattle.table.specs.Conditions.{wrongArgument}
 use Rattle.table.proofs.SectionLaws.{has-section, within, runs}
 use Rattle.table.proofs.conditions.wrong_argument.Statement.{statement}

@@ -1,6 +1,6 @@
 -- `table::conditions::wrong_label` meets its contract: both sections are what the table says. Assumes nothing.
 use native.Mathlib.Omega.{arith}
-use Rattle.table.specs.Layout.{leftLabels, rightLabels}
+use Rattle.table.specs.Code.Sections.{leftLabels, rightLabels}
 use Rattle.table.specs.Conditions.{wrongLabel}
 use Rattle.table.proofs.SectionLaws.{has-section, within}
 use Rattle.table.proofs.conditions.wrong_label.Statement.{statement}

@@ -1,6 +1,6 @@
 -- `table::conditions::wrong_node` meets its contract: both sections are what the table says. Assumes nothing.
 use native.Mathlib.Omega.{arith}
-use Rattle.table.specs.Layout.{nodes, arguments}
+use Rattle.table.specs.Code.Sections.{nodes, arguments}
 use Rattle.table.specs.Conditions.{wrongNode}
 use Rattle.table.proofs.SectionLaws.{has-section, within}
 use Rattle.table.proofs.conditions.wrong_node.Statement.{statement}

@@ -1,7 +1,7 @@
 -- `table::conditions::wrong_term` meets its contract: both sections are what the table says. Assumes nothing.
 use native.Mathlib.Omega.{arith}
 use borrow.Author.Needs.{needs}
-use Rattle.table.specs.Layout.{nodes, leftTerms, rightTerms}
+use Rattle.table.specs.Code.Sections.{nodes, leftTerms, rightTerms}
 use Rattle.table.specs.Conditions.{wrongTerm}
 use Rattle.table.proofs.SectionLaws.{has-section, within}
 use Rattle.table.proofs.conditions.wrong_term.Statement.{statement}

@@ -1,10 +1,12 @@
--- All that acceptance means, in document 01's words.
+-- All that acceptance means, in document 01's words. It is tied both ways to the refusal (`accepted`), so nobody has to
+-- believe it. Functions that are called after the check can ask for it.
 use Prim.Native.Nat.{ℕ, _+_, _*_, _≤_, _<_}
 use mathlib.Core.Path.{_≡_}
 use mathlib.Core.List.{List}
 use lib.ListN.{length}
 use Rattle.table.specs.Limits.{headerWords, sections, nodeWords, maxVariable, maxName, maxCount, maxLabel}
-use Rattle.table.specs.Layout.{word, nodes, rightLabels, offset, size, section, nodesOf, argumentsOf, leftTermsOf, rightTermsOf, labelsOf, kindOf, nameOf, firstOf, countOf, nodeCount, countsBefore, argumentOf}
+use Rattle.table.specs.Layout.{word, offset, size, section, nodesOf, argumentsOf, leftTermsOf, rightTermsOf, labelsOf, kindOf, nameOf, firstOf, countOf, nodeCount, countsBefore, argumentOf}
+use Rattle.table.specs.Code.Sections.{nodes, rightLabels}
 use Rattle.table.specs.Conditions.{limitOf}
 
 -- What the words of a node may be, after nodes whose counts add up to `earlier`.

@@ -1,0 +1,16 @@
+-- Laws of the definitions, from the bottom up.
+pub mod DigitLaws
+pub mod ChoiceLaws
+pub mod EntryLaws
+pub mod RestLaws
+pub mod CountLaws
+pub mod UnusedLaws
+pub mod PutLaws
+pub mod BalanceLaws
+pub mod TakenLaws
+pub mod CoverLaws
+pub mod AssignmentLaws
+pub mod LentLaws
+pub mod Page14
+pub mod AnswerLaws
+pub mod Starred

@@ -1,0 +1,178 @@
+-- Page 14: under an assignment the two sides are equal exactly if it is an instance of an entry of the complete listing.
+-- An instance's pairs are equal, so its choice balances (`balance`). Equal sides are accounted for by some choice (`covered`), whose pairs the assignment unifies; so it is admissible, and the assignment comes after its unifier. Assumes nothing.
+use Prim.Native.Nat.{ℕ, _+_, _<_}
+use mathlib.Core.List.{List, [], _∷_, map, flatMap, List·Memᴰ, List·Memᴰ·not-nil}
+use mathlib.Core.Logic.{_↔_}
+use mathlib.Core.Path.{_≡_, refl, sym, ap, _∙_}
+use native.Mathlib.Omega.{arith}
+use lib.ListN.{length, drop}
+use Rattle.table.specs.Layout.{word, leftTermsOf, leftLabelsOf, rightTermsOf, rightLabelsOf}
+use Rattle.table.specs.Refusal.{refusal}
+use Rattle.table.specs.Code.Accepted.{Accepted}
+use Rattle.table.proofs.AcceptedLaws.{accepted}
+use Rattle.terms.specs.Term.{Term}
+use Rattle.terms.specs.Substitution.{Substitution, sub}
+use Rattle.terms.specs.Multiset.{occurrences}
+use Rattle.terms.proofs.MultisetLaws.{occurrences-append}
+use Rattle.unify.specs.Node.{nodesIn, Present}
+use Rattle.unify.specs.Unifier.{value, Unifies}
+use Rattle.unify.specs.Outcome.{unified}
+use Rattle.unify.specs.Computed.Unifying.{outcome, unifier}
+use Rattle.unify.proofs.TableLaws.{nodes-long, well-formed}
+use Rattle.unify.proofs.NodeLaws.{value-after}
+use Rattle.unify.proofs.OutcomeLaws.{outcome-unified, unifier-most-general, words-readable, reading-most-general}
+use Rattle.listing.specs.Choice.{IsChoice, pairs, withDigit, inLeft, inRight}
+use Rattle.listing.specs.Entry.{pairsOf, Admissible, entryOf}
+use Rattle.listing.specs.Assignment.{Assignment, side, EqualSides}
+use Rattle.listing.specs.Instance.{Filled, Instance}
+use Rattle.listing.specs.Answer.{listed, lentAfter, entriesIn}
+use Rattle.listing.specs.Page14.{Page14}
+use Rattle.listing.specs.Computed.Listing.{completeListing}
+use Rattle.listing.proofs.DigitLaws.{choice-digits}
+use Rattle.listing.proofs.EntryLaws.{Choice, pairs-inside, entry-digits, entry-bindings, listing-complete}
+use Rattle.listing.proofs.RestLaws.{filled}
+use Rattle.listing.proofs.AnswerLaws.{finished-exactly, left-finished}
+use Rattle.listing.proofs.LentLaws.{entries-lie}
+use Rattle.listing.proofs.CountLaws.{total, places-count, total-add, words-count}
+use Rattle.listing.proofs.UnusedLaws.{unused-all}
+use Rattle.listing.proofs.PutLaws.{with-same, map-same}
+use Rattle.listing.proofs.BalanceLaws.{leftDigit, rightDigit, balance}
+use Rattle.listing.proofs.CoverLaws.{Covered, covered}
+
+-- How often a term occurs in the multisets of labels together.
+abbrev inLabels : (ℕ → List Term) → Term → List ℕ → ℕ
+inLabels labels t ks = total (length ks) (λ p. occurrences t (labels (word ks p)))
+
+module _ (ls ks rs qs : List ℕ) (v : ℕ → Term) (labels : ℕ → List Term) where
+  -- labels that are filled by a choice whose pairs are equal make the sides equal
+  filled-equal : (ds : List ℕ) → IsChoice (length ls) (length rs) (length ks) (length qs) ds → ((a b : ℕ) → List·Memᴰ (a, b) (pairs rs ls ds) → v a ≡ v b) → Filled ls ks rs qs ds v labels → (t : Term) → occurrences t (map v ls) + inLabels labels t ks ≡ occurrences t (map v rs) + inLabels labels t qs
+  unfolding inLeft inRight
+  filled-equal ds c e f t =
+      let b = balance v t (length rs) (length ks) (length qs) rs refl (choice-digits (length ls) (length rs) (length ks) (length qs) ds .0 c) ls refl e in
+      let u = ap (λ (us : List ℕ). occurrences t (map v us)) (unused-all 0 rs) in
+      let x = total-add (length ks) (λ p. occurrences t (labels (word ks p))) (λ p. occurrences t (map v (withDigit (leftDigit p) rs (drop (length ls) ds)))) (λ p. occurrences t (f .leftRest p)) (λ p h. f .in-left p h t ∙ occurrences-append t _ (f .leftRest p)) in
+      let y = total-add (length qs) (λ q. occurrences t (labels (word qs q))) (λ q. occurrences t (map v (withDigit (rightDigit (length rs) q) ls ds))) (λ q. occurrences t (f .rightRest q)) (λ q h. f .in-right q h t ∙ occurrences-append t _ (f .rightRest q)) in
+      let r = f .balance t in
+      let g = places-count t (length ks) (f .leftRest) in
+      let h = places-count t (length qs) (f .rightRest) in
+      omega (arith, b, u, x, y, r, g, h)
+
+  -- equal sides are filled by a choice whose pairs are equal
+  equal-filled : ((t : Term) → occurrences t (map v ls) + inLabels labels t ks ≡ occurrences t (map v rs) + inLabels labels t qs) → (ds : List ℕ) × IsChoice (length ls) (length rs) (length ks) (length qs) ds × ((a b : ℕ) → List·Memᴰ (a, b) (pairs rs ls ds) → v a ≡ v b) × Filled ls ks rs qs ds v labels
+  unfolding inLeft inRight
+  equal-filled h = go (covered v (length rs) (length ks) (length qs) rs refl [] ls (λ p. labels (word ks p)) (λ q. labels (word qs q)) (λ t. rw (unused-all 0 rs) (h t)))
+    where
+      go : Covered v (length rs) (length ks) (length qs) rs [] ls (λ p. labels (word ks p)) (λ q. labels (word qs q)) → (ds : List ℕ) × IsChoice (length ls) (length rs) (length ks) (length qs) ds × ((a b : ℕ) → List·Memᴰ (a, b) (pairs rs ls ds) → v a ≡ v b) × Filled ls ks rs qs ds v labels
+      go c =
+          (c .digits, choice-digits (length ls) (length rs) (length ks) (length qs) (c .digits) .1 (c .are), c .equal-pairs, filled ls ks rs qs (c .digits) v labels (c .leftRest) (c .rightRest) (c .in-left) (c .in-right) (λ t. places-count t (length ks) (c .leftRest) ∙ c .remain t ∙ sym (places-count t (length qs) (c .rightRest))))
+
+-- labels that are filled under values are filled under values that are the same for the terms of both sides
+filled-same : (ls ks rs qs ds : List ℕ) (v w : ℕ → Term) (labels : ℕ → List Term) → ((i : ℕ) → i < length ls → v (word ls i) ≡ w (word ls i)) → ((j : ℕ) → j < length rs → v (word rs j) ≡ w (word rs j)) → Filled ls ks rs qs ds v labels → Filled ls ks rs qs ds w labels
+unfolding inLeft inRight
+filled-same ls ks rs qs ds v w labels l r f =
+    record {
+      leftRest = f .leftRest;
+      rightRest = f .rightRest;
+      in-left = λ p h. rw (with-same v w (leftDigit p) rs (drop (length ls) ds) r) at (f .in-left p h);
+      in-right = λ q h. rw (with-same v w (rightDigit (length rs) q) ls ds l) at (f .in-right q h);
+      balance = f .balance;
+      no-right = f .no-right;
+      no-left = f .no-left;
+    }
+
+module _ (t : List ℕ) (ok : Accepted t) (A : Assignment) where
+  -- how often a term occurs in a side
+  side-count : (u : Term) (terms labels : List ℕ) → occurrences u (side (nodesIn t) A terms labels) ≡ occurrences u (map (value (nodesIn t) (A .variables)) terms) + inLabels (A .labels) u labels
+  unfolding side
+  side-count u terms labels =
+      let a = occurrences-append u (map (value (nodesIn t) (A .variables)) terms) (flatMap (A .labels) labels) in
+      let b = words-count u (A .labels) labels in
+      omega (arith, a, b)
+
+  left-node : (i : ℕ) → i < length (leftTermsOf t) → word (leftTermsOf t) i < length (nodesIn t)
+  left-node i h = rw (nodes-long t) (ok .each-left-term i h)
+
+  right-node : (j : ℕ) → j < length (rightTermsOf t) → word (rightTermsOf t) j < length (nodesIn t)
+  right-node j h = rw (nodes-long t) (ok .each-right-term j h)
+
+  -- the pairs of an admissible choice are unified
+  unified-there : (ds : List ℕ) → Admissible t ds → outcome (nodesIn t) (pairsOf t ds) ≡ unified
+  unified-there ds a = outcome-unified (nodesIn t) (well-formed t ok) (pairsOf t ds) (pairs-inside t ok ds (a .0)) .1 (a .1)
+
+  -- what comes after a unifier gives nodes the values of the assignment
+  after-values : (σ ρ : Substitution) → ((x : ℕ) → Present (nodesIn t) x → A .variables x ≡ sub ρ (σ x)) → (a : ℕ) → a < length (nodesIn t) → value (nodesIn t) (A .variables) a ≡ sub ρ (value (nodesIn t) σ a)
+  after-values σ ρ h = value-after (nodesIn t) (well-formed t ok) σ (A .variables) ρ h
+
+  -- an instance of an entry makes the sides equal
+  instance-equal : (ds : List ℕ) → Admissible t ds → Instance t A (entryOf t ds) → EqualSides t A
+  instance-equal ds a n u =
+      let σ = n .unifier in
+      let ρ = n .after in
+      let v = value (nodesIn t) (A .variables) in
+      let w : ℕ → Term = λ c. sub ρ (value (nodesIn t) σ c) in
+      let g = reading-most-general (nodesIn t) (well-formed t ok) (pairsOf t ds) (pairs-inside t ok ds (a .0)) (unified-there ds a) σ (rw (entry-bindings t ds (a .0)) at (n .read)) in
+      let f = filled-equal (leftTermsOf t) (leftLabelsOf t) (rightTermsOf t) (rightLabelsOf t) w (A .labels) ds (a .0) (λ b c m. ap (sub ρ) (g .unifies b c m)) (rw (entry-digits t ds (a .0)) at (n .labels)) u in
+      let l = ap (occurrences u) (map-same v w (leftTermsOf t) (λ i h. after-values σ ρ (n .variables) (word (leftTermsOf t) i) (left-node i h))) in
+      let r = ap (occurrences u) (map-same v w (rightTermsOf t) (λ j h. after-values σ ρ (n .variables) (word (rightTermsOf t) j) (right-node j h))) in
+      let x = side-count u (leftTermsOf t) (leftLabelsOf t) in
+      let y = side-count u (rightTermsOf t) (rightLabelsOf t) in
+      omega (arith, f, l, r, x, y)
+
+  -- where the sides are equal the assignment is an instance of an entry
+  equal-instance : EqualSides t A → (ds : List ℕ) × Admissible t ds × Instance t A (entryOf t ds)
+  equal-instance e = go (equal-filled (leftTermsOf t) (leftLabelsOf t) (rightTermsOf t) (rightLabelsOf t) (value (nodesIn t) (A .variables)) (A .labels) (λ u. sym (side-count u (leftTermsOf t) (leftLabelsOf t)) ∙ e u ∙ side-count u (rightTermsOf t) (rightLabelsOf t)))
+    where
+      go : (ds : List ℕ) × Choice t ds × Unifies (nodesIn t) (pairsOf t ds) (A .variables) × Filled (leftTermsOf t) (leftLabelsOf t) (rightTermsOf t) (rightLabelsOf t) ds (value (nodesIn t) (A .variables)) (A .labels) → (ds : List ℕ) × Admissible t ds × Instance t A (entryOf t ds)
+      go (ds, c, s, f) = (ds, a, follow (unifier-most-general (nodesIn t) (well-formed t ok) (pairsOf t ds) (pairs-inside t ok ds c) o .factors (A .variables) s))
+        where
+          a : Admissible t ds
+          a = (c, (A .variables, s))
+
+          o : outcome (nodesIn t) (pairsOf t ds) ≡ unified
+          o = unified-there ds a
+
+          σ : Substitution
+          σ = unifier (nodesIn t) (pairsOf t ds)
+
+          follow : (ρ : Substitution) × ((x : ℕ) → Present (nodesIn t) x → A .variables x ≡ sub ρ (σ x)) → Instance t A (entryOf t ds)
+          follow (ρ, h) =
+              record {
+                unifier = σ;
+                read = rw (entry-bindings t ds c) (words-readable (nodesIn t) (well-formed t ok) (pairsOf t ds) (pairs-inside t ok ds c) o);
+                after = ρ;
+                variables = h;
+                labels = rw (entry-digits t ds c) (filled-same (leftTermsOf t) (leftLabelsOf t) (rightTermsOf t) (rightLabelsOf t) ds (value (nodesIn t) (A .variables)) (λ b. sub ρ (value (nodesIn t) σ b)) (A .labels) (λ i b. after-values σ ρ h (word (leftTermsOf t) i) (left-node i b)) (λ j b. after-values σ ρ h (word (rightTermsOf t) j) (right-node j b)) f);
+              }
+
+-- "any assignment [..] put into both sides, makes them equal exactly when it is an instance of one of these entries"
+pub page14 : (t : List ℕ) → refusal t ≡ 0 → (A : Assignment) → EqualSides t A ↔ ((e : List ℕ) × List·Memᴰ e (completeListing t) × Instance t A e)
+page14 t r A =
+    let ok = accepted t .0 r in
+    let c = listing-complete t ok in (
+      (λ s. let i = equal-instance t ok A s in (entryOf t (i .0), c .entries (entryOf t (i .0)) .1 (i .0, i .1, refl), i .2)),
+      (λ i.
+          let m = c .entries (i .0) .0 (i .1) in
+          instance-equal t ok A (m .0) (m .1) (rw (m .2) at (i .2))),
+    )
+
+-- an empty complete listing means that no assignment makes the sides equal
+pub page14-empty : (t : List ℕ) → refusal t ≡ 0 → completeListing t ≡ [] → (A : Assignment) → EqualSides t A → ⊥
+page14-empty t r e A s = List·Memᴰ·not-nil (rw e at (page14 t r A .0 s .1))
+
+-- demand 3: "if the listing is answered as finished, the entries that the call wrote are the complete listing, and any assignment [..]"
+pub page14-finished : (t lent : List ℕ) (k : ℕ) → listed t (length lent) ≡ (0, k) → Page14 t k (lentAfter t lent)
+page14-finished t lent k e =
+    let a = finished-exactly t (length lent) k .0 e .0 in
+    let n : k ≡ listed t (length lent) .1 = sym (ap (λ (p : ℕ × ℕ). p .1) e) in
+    let l : entriesIn t k (lentAfter t lent) ≡ completeListing t = ap (λ (j : ℕ). entriesIn t j (lentAfter t lent)) n ∙ entries-lie t lent a ∙ left-finished t (length lent) k e in
+    record { complete = rw l (listing-complete t a); exactly = λ A. rw l (page14 t (accepted t .1 a) A) }
+
+-- "So a finished listing of 0 entries means that no assignment makes the sides equal."
+pub finished-empty : (t : List ℕ) (lent : ℕ) → listed t lent ≡ (0, 0) → (A : Assignment) → EqualSides t A → ⊥
+finished-empty t lent e =
+    let f = finished-exactly t lent 0 .0 e in
+    page14-empty t (accepted t .1 (f .0)) (nothing (completeListing t) (f .2))
+  where
+    nothing : (es : List (List ℕ)) → 0 ≡ length es → es ≡ []
+    nothing [] q = refl
+    nothing (d ∷ ds) q = absurd (omega arith)
