@@ -11,11 +11,12 @@ use Rattle.table.specs.Layout.{word}
 use Rattle.terms.specs.Term.{Term}
 use Rattle.terms.specs.Multiset.{occurrences}
 use Rattle.terms.proofs.MultisetLaws.{occurrences-append}
-use Rattle.listing.specs.Choice.{pairs, withDigit}
-use Rattle.listing.proofs.DigitLaws.{IsRights, none, paired, placed, IsLefts, last, next}
+use Rattle.listing.specs.Choice.{IsChoice, pairs, withDigit, inLeft, inRight}
+use Rattle.listing.specs.Instance.{Filled}
+use Rattle.listing.proofs.DigitLaws.{IsRights, none, paired, placed, IsLefts, last, next, choice-digits}
 use Rattle.listing.proofs.ChoiceLaws.{among-member, among-not}
-use Rattle.listing.proofs.CountLaws.{total-none}
-use Rattle.listing.proofs.UnusedLaws.{unused, unused-kept, unused-taken}
+use Rattle.listing.proofs.CountLaws.{total-none, places-count, total-add, inLabels}
+use Rattle.listing.proofs.UnusedLaws.{unused, unused-all, unused-kept, unused-taken}
 use Rattle.listing.proofs.PutLaws.{put, put-nowhere, put-once}
 
 -- The digit of a left label, and of a right one, by its place.
@@ -93,3 +94,17 @@ module _ (v : ℕ → Term) (t : Term) where
           let u = unused-taken v t 0 (d - 1) d used rs (omega arith) (omega arith) (among-not d used (c (omega arith))) in
           let y = ap (λ (w : Term). occurrences t (w ∷ [])) w in
           omega (arith, i, o, z, u, y)
+
+module _ (ls ks rs qs : List ℕ) (v : ℕ → Term) (labels : ℕ → List Term) where
+  -- labels that are filled by a choice whose pairs are equal make the sides equal
+  pub filled-equal : (ds : List ℕ) → IsChoice (length ls) (length rs) (length ks) (length qs) ds → ((a b : ℕ) → List·Memᴰ (a, b) (pairs rs ls ds) → v a ≡ v b) → Filled ls ks rs qs ds v labels → (t : Term) → occurrences t (map v ls) + inLabels labels t ks ≡ occurrences t (map v rs) + inLabels labels t qs
+  unfolding inLeft inRight
+  filled-equal ds c e f t =
+      let b = balance v t (length rs) (length ks) (length qs) rs refl (choice-digits (length ls) (length rs) (length ks) (length qs) ds .0 c) ls refl e in
+      let u = ap (λ (us : List ℕ). occurrences t (map v us)) (unused-all 0 rs) in
+      let x = total-add (length ks) (λ p. occurrences t (labels (word ks p))) (λ p. occurrences t (map v (withDigit (leftDigit p) rs (drop (length ls) ds)))) (λ p. occurrences t (f .leftRest p)) (λ p h. f .in-left p h t ∙ occurrences-append t _ (f .leftRest p)) in
+      let y = total-add (length qs) (λ q. occurrences t (labels (word qs q))) (λ q. occurrences t (map v (withDigit (rightDigit (length rs) q) ls ds))) (λ q. occurrences t (f .rightRest q)) (λ q h. f .in-right q h t ∙ occurrences-append t _ (f .rightRest q)) in
+      let r = f .balance t in
+      let g = places-count t (length ks) (f .leftRest) in
+      let h = places-count t (length qs) (f .rightRest) in
+      omega (arith, b, u, x, y, r, g, h)

@@ -95,3 +95,7 @@ total-one (suc k) f g c p h e s = go (decLt p k) (λ q. total-one k f g c p q e 
         let a = total-same k f g (λ i j. s i (omega arith) (λ y. absurd (omega arith))) in
         let b : f k ≡ c + g k = rw x at e in
         omega (arith, a, b)
+
+-- How often a term occurs in the multisets of labels together.
+abbrev pub inLabels : (ℕ → List Term) → Term → List ℕ → ℕ
+inLabels labels t ks = total (length ks) (λ p. occurrences t (labels (word ks p)))

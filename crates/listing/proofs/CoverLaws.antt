@@ -12,13 +12,15 @@ use Rattle.table.specs.Layout.{word}
 use Rattle.terms.specs.Term.{Term}
 use Rattle.terms.specs.Multiset.{occurrences}
 use Rattle.terms.proofs.MultisetLaws.{occurrences-append, occurs-member, occurs-once}
-use Rattle.listing.specs.Choice.{pairs, withDigit}
+use Rattle.listing.specs.Choice.{IsChoice, pairs, withDigit, inLeft, inRight}
+use Rattle.listing.specs.Instance.{Filled}
 use Rattle.listing.specs.Computed.Choices.{among}
-use Rattle.listing.proofs.DigitLaws.{IsRights, none, paired, placed, IsLefts, last, next}
+use Rattle.listing.proofs.DigitLaws.{IsRights, none, paired, placed, IsLefts, last, next, choice-digits}
 use Rattle.listing.proofs.ChoiceLaws.{among-member}
-use Rattle.listing.proofs.CountLaws.{total}
-use Rattle.listing.proofs.UnusedLaws.{unused, unused-kept, unused-taken, unused-place}
+use Rattle.listing.proofs.CountLaws.{total, places-count, inLabels}
+use Rattle.listing.proofs.UnusedLaws.{unused, unused-all, unused-kept, unused-taken, unused-place}
 use Rattle.listing.proofs.BalanceLaws.{leftDigit, rightDigit, with-pair, without-pair}
+use Rattle.listing.proofs.FilledLaws.{filled}
 use Rattle.listing.proofs.TakenLaws.{TakenOut, take-out, taken-count, Holds, holds-on, holds-back}
 
 -- How often a term occurs in the lists at k places.
@@ -190,3 +192,13 @@ module _ (v : ℕ → Term) where
                       in-right = holds-back (rightDigit m) v l (λ p x y. omega (arith, y)) B (c .rightRest) a o ls (c .digits) (c .in-right);
                       remain = c .remain;
                     }
+
+module _ (ls ks rs qs : List ℕ) (v : ℕ → Term) (labels : ℕ → List Term) where
+  -- equal sides are filled by a choice whose pairs are equal
+  pub equal-filled : ((t : Term) → occurrences t (map v ls) + inLabels labels t ks ≡ occurrences t (map v rs) + inLabels labels t qs) → (ds : List ℕ) × IsChoice (length ls) (length rs) (length ks) (length qs) ds × ((a b : ℕ) → List·Memᴰ (a, b) (pairs rs ls ds) → v a ≡ v b) × Filled ls ks rs qs ds v labels
+  unfolding inLeft inRight
+  equal-filled h = go (covered v (length rs) (length ks) (length qs) rs refl [] ls (λ p. labels (word ks p)) (λ q. labels (word qs q)) (λ t. rw (unused-all 0 rs) (h t)))
+    where
+      go : Covered v (length rs) (length ks) (length qs) rs [] ls (λ p. labels (word ks p)) (λ q. labels (word qs q)) → (ds : List ℕ) × IsChoice (length ls) (length rs) (length ks) (length qs) ds × ((a b : ℕ) → List·Memᴰ (a, b) (pairs rs ls ds) → v a ≡ v b) × Filled ls ks rs qs ds v labels
+      go c =
+          (c .digits, choice-digits (length ls) (length rs) (length ks) (length qs) (c .digits) .1 (c .are), c .equal-pairs, filled ls ks rs qs (c .digits) v labels (c .leftRest) (c .rightRest) (c .in-left) (c .in-right) (λ t. places-count t (length ks) (c .leftRest) ∙ c .remain t ∙ sym (places-count t (length qs) (c .rightRest))))

@@ -5,7 +5,7 @@ use mathlib.Core.List.{List, [], _∷_, map, flatMap, List·Memᴰ, List·Memᴰ
 use mathlib.Core.Logic.{_↔_}
 use mathlib.Core.Path.{_≡_, refl, sym, ap, _∙_}
 use native.Mathlib.Omega.{arith}
-use lib.ListN.{length, drop}
+use lib.ListN.{length}
 use Rattle.table.specs.Layout.{word, leftTermsOf, leftLabelsOf, rightTermsOf, rightLabelsOf}
 use Rattle.table.specs.Refusal.{refusal}
 use Rattle.table.specs.Code.Accepted.{Accepted}
@@ -21,64 +21,20 @@ use Rattle.unify.specs.Computed.Unifying.{outcome, unifier}
 use Rattle.unify.proofs.TableLaws.{nodes-long, well-formed}
 use Rattle.unify.proofs.NodeLaws.{value-after}
 use Rattle.unify.proofs.OutcomeLaws.{outcome-unified, unifier-most-general, words-readable, reading-most-general}
-use Rattle.listing.specs.Choice.{IsChoice, pairs, withDigit, inLeft, inRight}
 use Rattle.listing.specs.Entry.{pairsOf, Admissible, entryOf}
 use Rattle.listing.specs.Assignment.{Assignment, side, EqualSides}
 use Rattle.listing.specs.Instance.{Filled, Instance}
 use Rattle.listing.specs.Answer.{listed, lentAfter, entriesIn}
 use Rattle.listing.specs.Page14.{Page14}
 use Rattle.listing.specs.Computed.Listing.{completeListing}
-use Rattle.listing.proofs.DigitLaws.{choice-digits}
 use Rattle.listing.proofs.EntryLaws.{Choice, pairs-inside, entry-digits, entry-bindings, listing-complete}
-use Rattle.listing.proofs.RestLaws.{filled}
+use Rattle.listing.proofs.FilledLaws.{filled-same}
 use Rattle.listing.proofs.AnswerLaws.{finished-exactly, left-finished}
 use Rattle.listing.proofs.LentLaws.{entries-lie}
-use Rattle.listing.proofs.CountLaws.{total, places-count, total-add, words-count}
-use Rattle.listing.proofs.UnusedLaws.{unused-all}
-use Rattle.listing.proofs.PutLaws.{with-same, map-same}
-use Rattle.listing.proofs.BalanceLaws.{leftDigit, rightDigit, balance}
-use Rattle.listing.proofs.CoverLaws.{Covered, covered}
-
--- How often a term occurs in the multisets of labels together.
-abbrev inLabels : (ℕ → List Term) → Term → List ℕ → ℕ
-inLabels labels t ks = total (length ks) (λ p. occurrences t (labels (word ks p)))
-
-module _ (ls ks rs qs : List ℕ) (v : ℕ → Term) (labels : ℕ → List Term) where
-  -- labels that are filled by a choice whose pairs are equal make the sides equal
-  filled-equal : (ds : List ℕ) → IsChoice (length ls) (length rs) (length ks) (length qs) ds → ((a b : ℕ) → List·Memᴰ (a, b) (pairs rs ls ds) → v a ≡ v b) → Filled ls ks rs qs ds v labels → (t : Term) → occurrences t (map v ls) + inLabels labels t ks ≡ occurrences t (map v rs) + inLabels labels t qs
-  unfolding inLeft inRight
-  filled-equal ds c e f t =
-      let b = balance v t (length rs) (length ks) (length qs) rs refl (choice-digits (length ls) (length rs) (length ks) (length qs) ds .0 c) ls refl e in
-      let u = ap (λ (us : List ℕ). occurrences t (map v us)) (unused-all 0 rs) in
-      let x = total-add (length ks) (λ p. occurrences t (labels (word ks p))) (λ p. occurrences t (map v (withDigit (leftDigit p) rs (drop (length ls) ds)))) (λ p. occurrences t (f .leftRest p)) (λ p h. f .in-left p h t ∙ occurrences-append t _ (f .leftRest p)) in
-      let y = total-add (length qs) (λ q. occurrences t (labels (word qs q))) (λ q. occurrences t (map v (withDigit (rightDigit (length rs) q) ls ds))) (λ q. occurrences t (f .rightRest q)) (λ q h. f .in-right q h t ∙ occurrences-append t _ (f .rightRest q)) in
-      let r = f .balance t in
-      let g = places-count t (length ks) (f .leftRest) in
-      let h = places-count t (length qs) (f .rightRest) in
-      omega (arith, b, u, x, y, r, g, h)
-
-  -- equal sides are filled by a choice whose pairs are equal
-  equal-filled : ((t : Term) → occurrences t (map v ls) + inLabels labels t ks ≡ occurrences t (map v rs) + inLabels labels t qs) → (ds : List ℕ) × IsChoice (length ls) (length rs) (length ks) (length qs) ds × ((a b : ℕ) → List·Memᴰ (a, b) (pairs rs ls ds) → v a ≡ v b) × Filled ls ks rs qs ds v labels
-  unfolding inLeft inRight
-  equal-filled h = go (covered v (length rs) (length ks) (length qs) rs refl [] ls (λ p. labels (word ks p)) (λ q. labels (word qs q)) (λ t. rw (unused-all 0 rs) (h t)))
-    where
-      go : Covered v (length rs) (length ks) (length qs) rs [] ls (λ p. labels (word ks p)) (λ q. labels (word qs q)) → (ds : List ℕ) × IsChoice (length ls) (length rs) (length ks) (length qs) ds × ((a b : ℕ) → List·Memᴰ (a, b) (pairs rs ls ds) → v a ≡ v b) × Filled ls ks rs qs ds v labels
-      go c =
-          (c .digits, choice-digits (length ls) (length rs) (length ks) (length qs) (c .digits) .1 (c .are), c .equal-pairs, filled ls ks rs qs (c .digits) v labels (c .leftRest) (c .rightRest) (c .in-left) (c .in-right) (λ t. places-count t (length ks) (c .leftRest) ∙ c .remain t ∙ sym (places-count t (length qs) (c .rightRest))))
-
--- labels that are filled under values are filled under values that are the same for the terms of both sides
-filled-same : (ls ks rs qs ds : List ℕ) (v w : ℕ → Term) (labels : ℕ → List Term) → ((i : ℕ) → i < length ls → v (word ls i) ≡ w (word ls i)) → ((j : ℕ) → j < length rs → v (word rs j) ≡ w (word rs j)) → Filled ls ks rs qs ds v labels → Filled ls ks rs qs ds w labels
-unfolding inLeft inRight
-filled-same ls ks rs qs ds v w labels l r f =
-    record {
-      leftRest = f .leftRest;
-      rightRest = f .rightRest;
-      in-left = λ p h. rw (with-same v w (leftDigit p) rs (drop (length ls) ds) r) at (f .in-left p h);
-      in-right = λ q h. rw (with-same v w (rightDigit (length rs) q) ls ds l) at (f .in-right q h);
-      balance = f .balance;
-      no-right = f .no-right;
-      no-left = f .no-left;
-    }
+use Rattle.listing.proofs.CountLaws.{words-count, inLabels}
+use Rattle.listing.proofs.PutLaws.{map-same}
+use Rattle.listing.proofs.BalanceLaws.{filled-equal}
+use Rattle.listing.proofs.CoverLaws.{equal-filled}
 
 module _ (t : List ℕ) (ok : Accepted t) (A : Assignment) where
   -- how often a term occurs in a side

@@ -20,4 +20,4 @@ pub mod OutcomeLaws
 pub mod PairLaws
 pub mod ValuedLaws
 pub mod AnswerLaws
-pub mod Starred
+pub mod Calls

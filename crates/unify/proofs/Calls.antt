@@ -1,4 +1,4 @@
--- Document 01's starred examples 8 to 12, and some more, by computation from the definitions. Assumes nothing.
+-- Calls of `unify` beside document 01's starred examples, by computation from the definitions. Assumes nothing.
 use Prim.Native.Nat.{ℕ}
 use mathlib.Core.List.{List, [], _∷_, map, zip, zipWith}
 use mathlib.Core.Path.{_≡_, refl}
@@ -16,7 +16,7 @@ use Rattle.unify.specs.Computed.Classes.{renamed, join, joinAll, sameSym
 use Rattle.unify.specs.Computed.Walks.{someMarked, leads, leadsAt, leadsFrom, walks, cyclic}
 use Rattle.unify.specs.Computed.Solution.{firstWith, leastNode, isApplication, isVariable, isNodeOf, nodeOf, resolved, solution, isApplicationIn, isVariableIn, headIn}
 use Rattle.unify.specs.Computed.Binding.{isBoundTo, hasValue, wordFor, wordOf, bindingWords}
-use Rattle.unify.specs.Outcome.{unified, clash, occurs}
+use Rattle.unify.specs.Outcome.{unified, clash}
 use Rattle.unify.specs.Computed.Unifying.{outcome, unifier, wordsOf}
 use Rattle.unify.specs.Answer.{variableCount, unifyConditions, Answer, ended, refused, answerAfter, unification, wordsAfter, lentAfter}
 
@@ -24,21 +24,6 @@ use Rattle.unify.specs.Answer.{variableCount, unifyConditions, Answer, e
 abbrev pub x-fx : List ℕ
 x-fx =
     12 ∷ 8 ∷ 20 ∷ 1 ∷ 21 ∷ 0 ∷ 21 ∷ 0 ∷ 21 ∷ 0 ∷ 21 ∷ 0 ∷ 0 ∷ 0 ∷ 0 ∷ 0 ∷ 1 ∷ 3 ∷ 0 ∷ 1 ∷ 0 ∷ []
-
--- 0 x, 1 a, 2 b, 3 g(x), 4 f(x, a), 5 f(g(x), b)
-abbrev pub clash-and-cycle : List ℕ
-clash-and-cycle =
-    12 ∷ 24 ∷ 36 ∷ 5 ∷ 41 ∷ 0 ∷ 41 ∷ 0 ∷ 41 ∷ 0 ∷ 41 ∷ 0 ∷ 0 ∷ 0 ∷ 0 ∷ 0 ∷ 1 ∷ 1 ∷ 0 ∷ 0 ∷ 1 ∷ 2 ∷ 0 ∷ 0 ∷ 1 ∷ 4 ∷ 0 ∷ 1 ∷ 1 ∷ 3 ∷ 1 ∷ 2 ∷ 1 ∷ 3 ∷ 3 ∷ 2 ∷ 0 ∷ 0 ∷ 1 ∷ 3 ∷ 2 ∷ []
-
--- 0 x, 1 a, 2 f(x), 3 p(x, x), 4 p(f(x), a)
-abbrev pub p-terms : List ℕ
-p-terms =
-    12 ∷ 20 ∷ 32 ∷ 5 ∷ 37 ∷ 0 ∷ 37 ∷ 0 ∷ 37 ∷ 0 ∷ 37 ∷ 0 ∷ 0 ∷ 0 ∷ 0 ∷ 0 ∷ 1 ∷ 1 ∷ 0 ∷ 0 ∷ 1 ∷ 3 ∷ 0 ∷ 1 ∷ 1 ∷ 5 ∷ 1 ∷ 2 ∷ 1 ∷ 5 ∷ 3 ∷ 2 ∷ 0 ∷ 0 ∷ 0 ∷ 2 ∷ 1 ∷ []
-
--- 0 a, 1 f(a), 2 f(a, a)
-abbrev pub two-counts : List ℕ
-two-counts =
-    12 ∷ 12 ∷ 24 ∷ 3 ∷ 27 ∷ 0 ∷ 27 ∷ 0 ∷ 27 ∷ 0 ∷ 27 ∷ 0 ∷ 1 ∷ 1 ∷ 0 ∷ 0 ∷ 1 ∷ 3 ∷ 0 ∷ 1 ∷ 1 ∷ 3 ∷ 1 ∷ 2 ∷ 0 ∷ 0 ∷ 0 ∷ []
 
 -- 0 y, 1 x
 abbrev pub y-x : List ℕ
@@ -71,21 +56,11 @@ x-twice =
     12 ∷ 8 ∷ 20 ∷ 0 ∷ 20 ∷ 0 ∷ 20 ∷ 0 ∷ 20 ∷ 0 ∷ 20 ∷ 0 ∷ 0 ∷ 0 ∷ 0 ∷ 0 ∷ 0 ∷ 0 ∷ 0 ∷ 0 ∷ []
 
 -- A table, two of its nodes and lent words; then the answer and the lent words after the call.
-abbrev pub Example : Type 0
-Example = List ℕ × ℕ × ℕ × List ℕ × Answer × List ℕ
+abbrev pub Call : Type 0
+Call = List ℕ × ℕ × ℕ × List ℕ × Answer × List ℕ
 
-abbrev pub examples : List Example
-examples =
-    -- 8: "x with f(x): occurs"
-    (x-fx, 0, 1, 7 ∷ 8 ∷ 9 ∷ [], ended occurs, 7 ∷ 8 ∷ 9 ∷ []) ∷
-    -- 9: "f(x, a) with f(g(x), b): clash"
-    (clash-and-cycle, 4, 5, 7 ∷ 8 ∷ 9 ∷ [], ended clash, 7 ∷ 8 ∷ 9 ∷ []) ∷
-    -- 10: "p(x, x) with p(f(x), a): clash"
-    (p-terms, 3, 4, 7 ∷ 8 ∷ 9 ∷ [], ended clash, 7 ∷ 8 ∷ 9 ∷ []) ∷
-    -- 11: "f(a) with f(a, a): clash"
-    (two-counts, 1, 2, 7 ∷ 8 ∷ 9 ∷ [], ended clash, 7 ∷ 8 ∷ 9 ∷ []) ∷
-    -- 12: "Node 0 y, node 1 x; node 0 with node 1: words 1 1"
-    (y-x, 0, 1, 7 ∷ 8 ∷ 9 ∷ [], ended unified, 1 ∷ 1 ∷ 9 ∷ []) ∷
+abbrev pub calls : List Call
+calls =
     -- as many words as variables
     (y-x, 0, 1, 7 ∷ 8 ∷ [], ended unified, 1 ∷ 1 ∷ []) ∷
     -- a word too few
@@ -106,13 +81,13 @@ examples =
     (x-twice, 1, 1, 7 ∷ [], ended unified, 0 ∷ []) ∷
     []
 
-abbrev pub computed : Example → Answer × List ℕ
+abbrev pub computed : Call → Answer × List ℕ
 computed e = (unification (e .0) (e .1) (e .2) (length (e .3)), lentAfter (e .0) (e .1) (e .2) (e .3))
 
--- what the definitions compute is what the examples say
-pub starred : map computed examples ≡ map (λ e. (e .4, e .5)) examples
+-- what the definitions compute is what stands beside each call
+pub further : map computed calls ≡ map (λ e. (e .4, e .5)) calls
 unfolding ℕ-discrete countsBefore someBelow tooFewWords endBefore offsetIsWrong brokenPair sectionIsLong overLimit rightVariable startOf rightApplication rightNode nodeIsWrong nodesAreWrong wrongNode argumentIsWrong runIsWrong wrongArgument termIsWrong wrongTerm labelsAreEqual labelIsWrong wrongLabel conditions firstHeld equal sub tabulate readNode nodesIn each spell termWithin termOf zip zipWith insert variablesOf renamed join joinAll sameSymbol asks gather asked round rounds classes differ clashAt clashWith clashes someMarked leads leadsAt leadsFrom walks cyclic firstWith leastNode isApplication isVariable isNodeOf nodeOf resolved solution isApplicationIn isVariableIn headIn isBoundTo hasValue wordFor wordOf bindingWords outcome unifier wordsOf variableCount unifyConditions answerAfter unification wordsAfter lentAfter
-starred = refl
+further = refl
 
 -- x with a and x with b, together: {x, x} and {a, b} has no entry
 pub pairs-together : outcome (variable 0 ∷ application 1 [] ∷ application 2 [] ∷ []) ((0, 1) ∷ (0, 2) ∷ []) ≡ clash

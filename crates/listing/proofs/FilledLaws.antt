@@ -5,7 +5,7 @@ use mathlib.Core.List.{List, [], _∷_, _++_, map, flatten, List·Memᴰ, List·
 use mathlib.Core.Path.{_≡_, refl, ap}
 use native.Mathlib.Decide.{decLt}
 use native.Mathlib.Omega.{arith}
-use lib.ListN.{length}
+use lib.ListN.{length, drop}
 use Rattle.table.specs.Layout.{word}
 use Rattle.terms.specs.Term.{Term}
 use Rattle.terms.specs.Multiset.{Same}
@@ -13,6 +13,8 @@ use Rattle.terms.proofs.MultisetLaws.{same-member, same-sym}
 use Rattle.unify.specs.Node.{tabulate}
 use Rattle.listing.specs.Choice.{inLeft, inRight}
 use Rattle.listing.specs.Instance.{Filled}
+use Rattle.listing.proofs.PutLaws.{with-same}
+use Rattle.listing.proofs.BalanceLaws.{leftDigit, rightDigit}
 
 -- each list is one of those put together
 tabulated : {A : Type 0} (n : ℕ) (f : ℕ → A) (p : ℕ) → p < n → List·Memᴰ (f p) (tabulate n f)
@@ -51,4 +53,18 @@ filled ls ks rs qs ds v labels leftRest rightRest l r b =
       balance = b;
       no-right = λ e. rests-empty (length ks) leftRest rightRest (rw e at b);
       no-left = λ e. rests-empty (length qs) rightRest leftRest (rw e at (same-sym _ _ b));
+    }
+
+-- labels that are filled under values are filled under values that are the same for the terms of both sides
+pub filled-same : (ls ks rs qs ds : List ℕ) (v w : ℕ → Term) (labels : ℕ → List Term) → ((i : ℕ) → i < length ls → v (word ls i) ≡ w (word ls i)) → ((j : ℕ) → j < length rs → v (word rs j) ≡ w (word rs j)) → Filled ls ks rs qs ds v labels → Filled ls ks rs qs ds w labels
+unfolding inLeft inRight
+filled-same ls ks rs qs ds v w labels l r f =
+    record {
+      leftRest = f .leftRest;
+      rightRest = f .rightRest;
+      in-left = λ p h. rw (with-same v w (leftDigit p) rs (drop (length ls) ds) r) at (f .in-left p h);
+      in-right = λ q h. rw (with-same v w (rightDigit (length rs) q) ls ds l) at (f .in-right q h);
+      balance = f .balance;
+      no-right = f .no-right;
+      no-left = f .no-left;
     }
