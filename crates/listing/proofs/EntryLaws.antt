@@ -65,7 +65,7 @@ pairs-inside t g ds c a b m =
 -- the digits of an entry are those of its choice
 pub entry-digits : (t ds : List ℕ) → Choice t ds → digitsOf t (entryOf t ds) ≡ ds
 unfolding entryOf
-entry-digits t ds c = take-at ds (wordsOf (nodesIn t) (pairsOf t ds)) _ (c .long)
+entry-digits t ds c = take-at ds _ _ (c .long)
 
 -- and its binding words those of the pairs
 pub entry-bindings : (t ds : List ℕ) → Choice t ds → bindingsOf t (entryOf t ds) ≡ wordsOf (nodesIn t) (pairsOf t ds)

@@ -1,5 +1,5 @@
--- Rests that together equal nothing are empty, so that document 01 need not say so of them.
--- A term of one of them would be a term of all together. Assumes nothing.
+-- Labels that are filled. Rests that together equal nothing are empty, so that document 01 need not say so of them: a term of one of them would be a term of all together.
+-- Only the values of the terms of both sides matter. Assumes nothing.
 use Prim.Native.Nat.{ℕ, zero, suc, _<_}
 use mathlib.Core.List.{List, [], _∷_, _++_, map, flatten, List·Memᴰ, List·Memᴰ·head, List·Memᴰ·tail, Memᴰ·append-left, Memᴰ·append-right, List·Memᴰ·not-nil}
 use mathlib.Core.Path.{_≡_, refl, ap}

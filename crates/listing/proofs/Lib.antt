@@ -9,9 +9,9 @@ pub mod BalanceLaws
 pub mod FilledLaws
 pub mod TakenLaws
 pub mod CoverLaws
-pub mod AssignmentLaws
 pub mod AnswerLaws
 pub mod LentLaws
 pub mod Page14
 pub mod InstanceLaws
+pub mod AssignmentLaws
 pub mod Starred
