@@ -32,12 +32,12 @@ unfolding withDigit occurrences
 nothing-put digit v t k ds = total-none k (λ p. occurrences t (map v (withDigit (digit p) [] ds))) (λ p h. refl)
 
 -- a digit up to m pairs
-pub with-pair : (rs : List ℕ) (a : ℕ) (ls : List ℕ) (d : ℕ) (ds : List ℕ) → d ≤ length rs → pairs rs (a ∷ ls) (d ∷ ds) ≡ (a, word rs (d - 1)) ∷ pairs rs ls ds
+pub with-pair : (rs : List ℕ) (a : ℕ) (ls : List ℕ) (d : ℕ) (ds : List ℕ) → d ≤ length rs → pairs (a ∷ ls) rs (d ∷ ds) ≡ (a, word rs (d - 1)) ∷ pairs ls rs ds
 unfolding pairs
 with-pair rs a ls d ds h = rw (le-leb d (length rs) h) refl
 
 -- one above does not
-pub without-pair : (rs : List ℕ) (a : ℕ) (ls : List ℕ) (d : ℕ) (ds : List ℕ) → length rs < d → pairs rs (a ∷ ls) (d ∷ ds) ≡ pairs rs ls ds
+pub without-pair : (rs : List ℕ) (a : ℕ) (ls : List ℕ) (d : ℕ) (ds : List ℕ) → length rs < d → pairs (a ∷ ls) rs (d ∷ ds) ≡ pairs ls rs ds
 unfolding pairs
 without-pair rs a ls d ds h = rw (lt-leb d (length rs) h) refl
 
@@ -61,7 +61,7 @@ module _ (v : ℕ → Term) (t : Term) where
       rw (among-not (suc j) used m) (o ∙ ap (λ (c : ℕ). occurrences t (v r ∷ []) + c) i ∙ sym y)
 
   -- with n left terms to come: they and what is in left labels are the right terms that are not paired and what is in right labels
-  pub balance : (m k l : ℕ) (rs : List ℕ) → length rs ≡ m → {used ds : List ℕ} {n : ℕ} → IsLefts m k l used n ds → (ls : List ℕ) → length ls ≡ n → ((a b : ℕ) → List·Memᴰ (a, b) (pairs rs ls ds) → v a ≡ v b) → occurrences t (map v ls) + put leftDigit v t k rs (drop (length ls) ds) ≡ occurrences t (map v (unused 0 used rs)) + put (rightDigit m) v t l ls ds
+  pub balance : (m k l : ℕ) (rs : List ℕ) → length rs ≡ m → {used ds : List ℕ} {n : ℕ} → IsLefts m k l used n ds → (ls : List ℕ) → length ls ≡ n → ((a b : ℕ) → List·Memᴰ (a, b) (pairs ls rs ds) → v a ≡ v b) → occurrences t (map v ls) + put leftDigit v t k rs (drop (length ls) ds) ≡ occurrences t (map v (unused 0 used rs)) + put (rightDigit m) v t l ls ds
   unfolding occurrences
   balance m k l rs f (last {used} {ds} s) [] e h =
       let a = rights-balance k used s rs f in
@@ -74,9 +74,9 @@ module _ (v : ℕ → Term) (t : Term) where
       Pairs : List (ℕ × ℕ) → Type 0
       Pairs ps = (y z : ℕ) → List·Memᴰ (y, z) ps → v y ≡ v z
 
-      go : Dec (m < d) → (Pairs (pairs rs ls ds) → occurrences t (map v ls) + put leftDigit v t k rs (drop (length ls) ds) ≡ occurrences t (map v (unused 0 (d ∷ used) rs)) + put (rightDigit m) v t l ls ds) → occurrences t (v x ∷ map v ls) + put leftDigit v t k rs (drop (length ls) ds) ≡ occurrences t (map v (unused 0 used rs)) + put (rightDigit m) v t l (x ∷ ls) (d ∷ ds)
+      go : Dec (m < d) → (Pairs (pairs ls rs ds) → occurrences t (map v ls) + put leftDigit v t k rs (drop (length ls) ds) ≡ occurrences t (map v (unused 0 (d ∷ used) rs)) + put (rightDigit m) v t l ls ds) → occurrences t (v x ∷ map v ls) + put leftDigit v t k rs (drop (length ls) ds) ≡ occurrences t (map v (unused 0 used rs)) + put (rightDigit m) v t l (x ∷ ls) (d ∷ ds)
       go (yes q) r =
-          let p : pairs rs (x ∷ ls) (d ∷ ds) ≡ pairs rs ls ds = without-pair rs x ls d ds (omega arith) in
+          let p : pairs (x ∷ ls) rs (d ∷ ds) ≡ pairs ls rs ds = without-pair rs x ls d ds (omega arith) in
           let i = r (rw p at h) in
           let o = occurrences-append t (v x ∷ []) (map v ls) in
           let g : m + suc (d - m - 1) ≡ d = omega arith in
@@ -85,8 +85,8 @@ module _ (v : ℕ → Term) (t : Term) where
           let u = ap (λ (w : List ℕ). occurrences t (map v w)) (unused-kept 0 d used rs (λ i j w. absurd (omega (arith, w)))) in
           omega (arith, i, o, z, u)
       go (no q) r =
-          let p : pairs rs (x ∷ ls) (d ∷ ds) ≡ (x, word rs (d - 1)) ∷ pairs rs ls ds = with-pair rs x ls d ds (omega arith) in
-          let g : Pairs ((x, word rs (d - 1)) ∷ pairs rs ls ds) = rw p at h in
+          let p : pairs (x ∷ ls) rs (d ∷ ds) ≡ (x, word rs (d - 1)) ∷ pairs ls rs ds = with-pair rs x ls d ds (omega arith) in
+          let g : Pairs ((x, word rs (d - 1)) ∷ pairs ls rs ds) = rw p at h in
           let i = r (λ y z m. g y z (List·Memᴰ·tail m)) in
           let o = occurrences-append t (v x ∷ []) (map v ls) in
           let w = g x (word rs (d - 1)) (List·Memᴰ·head refl) in
@@ -97,7 +97,7 @@ module _ (v : ℕ → Term) (t : Term) where
 
 module _ (ls ks rs qs : List ℕ) (v : ℕ → Term) (labels : ℕ → List Term) where
   -- labels that are filled by a choice whose pairs are equal make the sides equal
-  pub filled-equal : (ds : List ℕ) → IsChoice (length ls) (length rs) (length ks) (length qs) ds → ((a b : ℕ) → List·Memᴰ (a, b) (pairs rs ls ds) → v a ≡ v b) → Filled ls ks rs qs ds v labels → (t : Term) → occurrences t (map v ls) + inLabels labels t ks ≡ occurrences t (map v rs) + inLabels labels t qs
+  pub filled-equal : (ds : List ℕ) → IsChoice (length ls) (length rs) (length ks) (length qs) ds → ((a b : ℕ) → List·Memᴰ (a, b) (pairs ls rs ds) → v a ≡ v b) → Filled ls ks rs qs ds v labels → (t : Term) → occurrences t (map v ls) + inLabels labels t ks ≡ occurrences t (map v rs) + inLabels labels t qs
   unfolding inLeft inRight
   filled-equal ds c e f t =
       let b = balance v t (length rs) (length ks) (length qs) rs refl (choice-digits (length ls) (length rs) (length ks) (length qs) ds .0 c) ls refl e in

@@ -91,7 +91,7 @@ module _ (v : ℕ → Term) where
   pub record Covered (m k l : ℕ) (rs used ls : List ℕ) (A B : ℕ → List Term) : Type 0 where
     pub digits : List ℕ
     pub are : IsLefts m k l used (length ls) digits
-    pub equal-pairs : (a b : ℕ) → List·Memᴰ (a, b) (pairs rs ls digits) → v a ≡ v b
+    pub equal-pairs : (a b : ℕ) → List·Memᴰ (a, b) (pairs ls rs digits) → v a ≡ v b
     pub leftRest : ℕ → List Term
     pub rightRest : ℕ → List Term
     pub in-left : Holds leftDigit v k A rs (drop (length ls) digits) leftRest
@@ -167,7 +167,7 @@ module _ (v : ℕ → Term) where
                           remain = c .remain;
                         }
                       where
-                        first : (x y : ℕ) → (_≡_ {A = ℕ × ℕ} (x, y) (a, word rs (suc i - 1))) ⊎ List·Memᴰ (x, y) (pairs rs ls (c .digits)) → v x ≡ v y
+                        first : (x y : ℕ) → (_≡_ {A = ℕ × ℕ} (x, y) (a, word rs (suc i - 1))) ⊎ List·Memᴰ (x, y) (pairs ls rs (c .digits)) → v x ≡ v y
                         first x y (inl z) =
                             let s : i ≡ suc i - 1 = omega arith in
                             ap (λ (p : ℕ × ℕ). v (p .0)) z ∙ equal ∙ ap (λ (n : ℕ). v (word rs n)) s ∙ sym (ap (λ (p : ℕ × ℕ). v (p .1)) z)
@@ -195,10 +195,10 @@ module _ (v : ℕ → Term) where
 
 module _ (ls ks rs qs : List ℕ) (v : ℕ → Term) (labels : ℕ → List Term) where
   -- equal sides are filled by a choice whose pairs are equal
-  pub equal-filled : ((t : Term) → occurrences t (map v ls) + inLabels labels t ks ≡ occurrences t (map v rs) + inLabels labels t qs) → (ds : List ℕ) × IsChoice (length ls) (length rs) (length ks) (length qs) ds × ((a b : ℕ) → List·Memᴰ (a, b) (pairs rs ls ds) → v a ≡ v b) × Filled ls ks rs qs ds v labels
+  pub equal-filled : ((t : Term) → occurrences t (map v ls) + inLabels labels t ks ≡ occurrences t (map v rs) + inLabels labels t qs) → (ds : List ℕ) × IsChoice (length ls) (length rs) (length ks) (length qs) ds × ((a b : ℕ) → List·Memᴰ (a, b) (pairs ls rs ds) → v a ≡ v b) × Filled ls ks rs qs ds v labels
   unfolding inLeft inRight
   equal-filled h = go (covered v (length rs) (length ks) (length qs) rs refl [] ls (λ p. labels (word ks p)) (λ q. labels (word qs q)) (λ t. rw (unused-all 0 rs) (h t)))
     where
-      go : Covered v (length rs) (length ks) (length qs) rs [] ls (λ p. labels (word ks p)) (λ q. labels (word qs q)) → (ds : List ℕ) × IsChoice (length ls) (length rs) (length ks) (length qs) ds × ((a b : ℕ) → List·Memᴰ (a, b) (pairs rs ls ds) → v a ≡ v b) × Filled ls ks rs qs ds v labels
+      go : Covered v (length rs) (length ks) (length qs) rs [] ls (λ p. labels (word ks p)) (λ q. labels (word qs q)) → (ds : List ℕ) × IsChoice (length ls) (length rs) (length ks) (length qs) ds × ((a b : ℕ) → List·Memᴰ (a, b) (pairs ls rs ds) → v a ≡ v b) × Filled ls ks rs qs ds v labels
       go c =
           (c .digits, choice-digits (length ls) (length rs) (length ks) (length qs) (c .digits) .1 (c .are), c .equal-pairs, filled ls ks rs qs (c .digits) v labels (c .leftRest) (c .rightRest) (c .in-left) (c .in-right) (λ t. places-count t (length ks) (c .leftRest) ∙ c .remain t ∙ sym (places-count t (length qs) (c .rightRest))))

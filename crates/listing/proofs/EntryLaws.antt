@@ -38,7 +38,7 @@ Choice t ds = IsChoice (length (leftTermsOf t)) (length (rightTermsOf t)) (lengt
 abbrev Sides : List ℕ → List ℕ → ℕ → ℕ → Type 0
 Sides rs ls a b = (i : ℕ) × (j : ℕ) × (i < length ls) × (j < length rs) × (a ≡ word ls i) × (b ≡ word rs j)
 
-pair-sides : (rs ls ds : List ℕ) → ((i : ℕ) → i < length ls → 0 < word ds i) → (a b : ℕ) → List·Memᴰ (a, b) (pairs rs ls ds) → Sides rs ls a b
+pair-sides : (rs ls ds : List ℕ) → ((i : ℕ) → i < length ls → 0 < word ds i) → (a b : ℕ) → List·Memᴰ (a, b) (pairs ls rs ds) → Sides rs ls a b
 unfolding pairs
 pair-sides rs [] ds h a b m = absurd (List·Memᴰ·not-nil m)
 pair-sides rs (c ∷ ls) [] h a b m = absurd (List·Memᴰ·not-nil m)
@@ -48,7 +48,7 @@ pair-sides rs (c ∷ ls) (d ∷ ds) h a b m =
     further : Sides rs ls a b → Sides rs (c ∷ ls) a b
     further (i, j, p, q, e, f) = (suc i, j, omega arith, q, e, f)
 
-    pick : (x : Bool) → leb d (length rs) ≡ x → List·Memᴰ (a, b) (cond x ((c, word rs (d - 1)) ∷ pairs rs ls ds) (pairs rs ls ds)) → (List·Memᴰ (a, b) (pairs rs ls ds) → Sides rs (c ∷ ls) a b) → Sides rs (c ∷ ls) a b
+    pick : (x : Bool) → leb d (length rs) ≡ x → List·Memᴰ (a, b) (cond x ((c, word rs (d - 1)) ∷ pairs ls rs ds) (pairs ls rs ds)) → (List·Memᴰ (a, b) (pairs ls rs ds) → Sides rs (c ∷ ls) a b) → Sides rs (c ∷ ls) a b
     pick true e (List·Memᴰ·head q) r =
         let k = leb-true d (length rs) e in
         let z = h 0 (omega arith) in

@@ -13,7 +13,7 @@ use Rattle.listing.specs.Choice.{IsChoice, pairs, Before}
 
 -- The pairs of a choice of the table's terms.
 abbrev pub pairsOf : List ℕ → List ℕ → List (ℕ × ℕ)
-pairsOf t ds = pairs (rightTermsOf t) (leftTermsOf t) ds
+pairsOf t ds = pairs (leftTermsOf t) (rightTermsOf t) ds
 
 -- "A choice is admissible if all its pairs have a common unifier."
 abbrev pub Admissible : List ℕ → List ℕ → Type 0
