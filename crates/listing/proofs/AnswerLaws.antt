@@ -294,3 +294,26 @@ told-apart r s e = go r s (ap (λ (p : ℕ × ℕ). p .0) e) (ap (λ (p : ℕ ×
     go (Refused r) (Finished k) n e = absurd (omega (arith, n, number-between r .0))
     go (Refused r) (Full k) n e = absurd (omega (arith, n, number-between r .1))
     go (Refused r) (Refused s) n e = ap Refused (number-apart r s n)
+
+-- a number from 1 to 7 is that of a refusal
+numbered : (n : ℕ) → 0 < n → n ≤ 7 → (r : Refusal) × (numberOf r ≡ n)
+numbered zero h l = absurd (omega arith)
+numbered (suc zero) h l = (TooFewWords, refl)
+numbered (suc (suc zero)) h l = (BrokenPair, refl)
+numbered (suc (suc (suc zero))) h l = (OverLimit, refl)
+numbered (suc (suc (suc (suc zero)))) h l = (WrongNode, refl)
+numbered (suc (suc (suc (suc (suc zero))))) h l = (WrongArgument, refl)
+numbered (suc (suc (suc (suc (suc (suc zero)))))) h l = (WrongTerm, refl)
+numbered (suc (suc (suc (suc (suc (suc (suc zero))))))) h l = (WrongLabel, refl)
+numbered (suc (suc (suc (suc (suc (suc (suc (suc n)))))))) h l = absurd (omega arith)
+
+-- every call has an answer that stands for what it comes to
+pub told-there : (t : List ℕ) (lent : ℕ) → (r : Listing) × (told r ≡ listed t lent)
+told-there t lent = go (answered t lent)
+  where
+    go : Answered t lent → (r : Listing) × (told r ≡ listed t lent)
+    go (refusing h q) =
+        let r = numbered (refusal t) h (refusal-most t) in
+        (Refused (r .0), ap (λ (n : ℕ). (n, 0)) (r .1) ∙ sym q)
+    go (finishing a l q) = (Finished (length (completeListing t)), sym q)
+    go (filling a l q) = (Full (length (fitting lent (completeListing t))), sym q)

@@ -9,6 +9,8 @@ use native.Mathlib.Decide.{ℕ-discrete}
 use native.Mathlib.Omega.{arith}
 use borrow.Author.Tests.{leb-true, le-leb, eqb-true, eq-eqb}
 use lib.Dec.{eqb, leb}
+use lib.ListN.{length}
+use Rattle.table.specs.Layout.{word}
 use Rattle.unify.specs.Words.{Rising, end, before}
 use Rattle.unify.proofs.RisingLaws.{rising-append, rising-map, rising-same}
 use Rattle.listing.specs.Choice.{IsChoice, Before, here, later}
@@ -182,6 +184,45 @@ lefts-rise m k l used (suc n) =
 pub choices-rise : (n m k l : ℕ) → Rising Before (choices n m k l)
 unfolding choices
 choices-rise n m k l = lefts-rise m k l [] n
+
+-- The first place where two strings differ, and the first is smaller there.
+pub record Smaller (ds es : List ℕ) : Type 0 where
+  pub place : ℕ
+  pub in-first : place < length ds
+  pub in-second : place < length es
+  pub smaller : word ds place < word es place
+  pub alike : (j : ℕ) → j < place → word ds j ≡ word es j
+
+to-smaller : (ds es : List ℕ) → Before ds es → Smaller ds es
+to-smaller (d ∷ ds) (e ∷ es) (here h) =
+    record { place = 0; in-first = omega arith; in-second = omega arith; smaller = h; alike = λ j q. absurd (omega arith) }
+to-smaller (d ∷ ds) (e ∷ es) (later b) = go (to-smaller ds es b)
+  where
+    go : Smaller ds es → Smaller (d ∷ ds) (d ∷ es)
+    go s =
+        record {
+          place = suc (s .place);
+          in-first = omega (arith, s .in-first);
+          in-second = omega (arith, s .in-second);
+          smaller = s .smaller;
+          alike = alike;
+        }
+      where
+        alike : (j : ℕ) → j < suc (s .place) → word (d ∷ ds) j ≡ word (d ∷ es) j
+        alike zero q = refl
+        alike (suc j) q = s .alike j (omega arith)
+
+from-place : (ds es : List ℕ) (i : ℕ) → i < length ds → i < length es → word ds i < word es i → ((j : ℕ) → j < i → word ds j ≡ word es j) → Before ds es
+from-place [] es i a b h f = absurd (omega arith)
+from-place (d ∷ ds) [] i a b h f = absurd (omega arith)
+from-place (d ∷ ds) (e ∷ es) zero a b h f = here h
+from-place (d ∷ ds) (e ∷ es) (suc i) a b h f =
+    let q : d ≡ e = f 0 (omega arith) in
+    rw q (later (from-place ds es i (omega arith) (omega arith) h (λ j l. f (suc j) (omega arith))))
+
+-- "compared from the first": one string of digits comes before another exactly if it is smaller at the first place where they differ
+pub before-means : (ds es : List ℕ) → Before ds es ↔ Smaller ds es
+before-means ds es = (to-smaller ds es, λ s. from-place ds es (s .place) (s .in-first) (s .in-second) (s .smaller) (s .alike))
 
 -- of two strings of digits at most one comes before the other
 pub before-one-way : (ds es : List ℕ) → Before ds es → Before es ds → ⊥

@@ -1,16 +1,13 @@
 -- The complete listing is what document 01 says, the only such list, and what its entries are made of.
 -- The pairs of a choice are of nodes, so that the outcome decides whether they have a unifier. Assumes nothing.
-use Prim.Native.Nat.{ℕ, suc, _+_, _-_, _<_}
-use mathlib.Core.Bool.{Bool, true, false, cond}
+use Prim.Native.Nat.{ℕ, _+_, _-_}
 use mathlib.Core.List.{List, [], _∷_, _++_, map, flatMap, List·Memᴰ, List·Memᴰ·head, List·Memᴰ·tail, List·Memᴰ·not-nil, Memᴰ·append-right, Memᴰ·map, Memᴰ·of-map}
 use mathlib.Core.Logic.{_↔_}
 use mathlib.Core.Path.{_≡_, refl, sym, ap, _∙_}
 use native.Mathlib.Omega.{arith}
-use borrow.Author.Tests.{leb-true}
-use lib.Dec.{leb}
 use lib.ListN.{length, length-append}
 use lib.Seq.{take-at, drop-at}
-use Rattle.table.specs.Layout.{word, leftTermsOf, rightTermsOf, leftLabelsOf, rightLabelsOf}
+use Rattle.table.specs.Layout.{leftTermsOf, rightTermsOf, leftLabelsOf, rightLabelsOf}
 use Rattle.table.specs.Code.Accepted.{Accepted}
 use Rattle.terms.specs.Substitution.{Substitution}
 use Rattle.unify.specs.Node.{nodesIn, Present}
@@ -25,42 +22,21 @@ use Rattle.unify.proofs.TableLaws.{nodes-long, well-formed}
 use Rattle.unify.proofs.AnswerLaws.{words-long}
 use Rattle.unify.proofs.ReadingLaws.{reads-one}
 use Rattle.unify.proofs.OutcomeLaws.{outcome-unified, words-readable, reading-most-general, words-least}
-use Rattle.listing.specs.Choice.{IsChoice, pairs, Before}
+use Rattle.listing.specs.Choice.{IsChoice, Before}
 use Rattle.listing.specs.Entry.{pairsOf, Admissible, entryOf, digitsOf, bindingsOf, IsCompleteListing}
 use Rattle.listing.specs.Computed.Listing.{kept, choicesOf, completeListing}
+use Rattle.listing.proofs.PlaceLaws.{pairs-mean}
 use Rattle.listing.proofs.ChoiceLaws.{choices-are, choices-rise, before-one-way}
 
 -- The digits are a choice of the table's terms and labels.
 abbrev pub Choice : List ℕ → List ℕ → Type 0
 Choice t ds = IsChoice (length (leftTermsOf t)) (length (rightTermsOf t)) (length (leftLabelsOf t)) (length (rightLabelsOf t)) ds
 
--- A pair is of a term of each side.
-abbrev Sides : List ℕ → List ℕ → ℕ → ℕ → Type 0
-Sides rs ls a b = (i : ℕ) × (j : ℕ) × (i < length ls) × (j < length rs) × (a ≡ word ls i) × (b ≡ word rs j)
-
-pair-sides : (rs ls ds : List ℕ) → ((i : ℕ) → i < length ls → 0 < word ds i) → (a b : ℕ) → List·Memᴰ (a, b) (pairs ls rs ds) → Sides rs ls a b
-unfolding pairs
-pair-sides rs [] ds h a b m = absurd (List·Memᴰ·not-nil m)
-pair-sides rs (c ∷ ls) [] h a b m = absurd (List·Memᴰ·not-nil m)
-pair-sides rs (c ∷ ls) (d ∷ ds) h a b m =
-    pick (leb d (length rs)) refl m (λ n. further (pair-sides rs ls ds (λ i q. h (suc i) (omega arith)) a b n))
-  where
-    further : Sides rs ls a b → Sides rs (c ∷ ls) a b
-    further (i, j, p, q, e, f) = (suc i, j, omega arith, q, e, f)
-
-    pick : (x : Bool) → leb d (length rs) ≡ x → List·Memᴰ (a, b) (cond x ((c, word rs (d - 1)) ∷ pairs ls rs ds) (pairs ls rs ds)) → (List·Memᴰ (a, b) (pairs ls rs ds) → Sides rs (c ∷ ls) a b) → Sides rs (c ∷ ls) a b
-    pick true e (List·Memᴰ·head q) r =
-        let k = leb-true d (length rs) e in
-        let z = h 0 (omega arith) in
-        (0, d - 1, omega arith, omega (arith, k, z), ap (λ (p : ℕ × ℕ). p .0) q, ap (λ (p : ℕ × ℕ). p .1) q)
-    pick true e (List·Memᴰ·tail n) r = r n
-    pick false e n r = r n
-
 -- the pairs of a choice are of nodes
 pub pairs-inside : (t : List ℕ) → Accepted t → (ds : List ℕ) → Choice t ds → Inside (nodesIn t) (pairsOf t ds)
 pairs-inside t g ds c a b m =
-    let s = pair-sides (rightTermsOf t) (leftTermsOf t) ds (λ i q. c .left-digits i q .0) a b m in
-    (rw (nodes-long t, s .4) (g .each-left-term (s .0) (s .2)), rw (nodes-long t, s .5) (g .each-right-term (s .1) (s .3)))
+    let s = pairs-mean (leftTermsOf t) (rightTermsOf t) ds (λ i q. c .left-digits i q .0) a b .0 m in
+    (rw (nodes-long t, s .5) (g .each-left-term (s .0) (s .2)), rw (nodes-long t, s .6) (g .each-right-term (s .1) (s .3)))
 
 -- the digits of an entry are those of its choice
 pub entry-digits : (t ds : List ℕ) → Choice t ds → digitsOf t (entryOf t ds) ≡ ds

@@ -1,30 +1,35 @@
--- The complete listing holds nothing idle: every entry has an instance.
+-- The complete listing holds nothing idle: every entry has an instance. In an instance each term is in the label that its digit counts to.
 -- The unifier gives the variables, and each label holds what the digits put there and no rest. A label stands once in the table, so no other place asks anything of it. Assumes nothing.
 use Prim.Native.Nat.{ℕ, zero, suc, _+_, _-_, _<_}
 use mathlib.Core.Bool.{cond}
-use mathlib.Core.List.{List, [], _∷_, _++_, map, flatten, append-nil, List·Memᴰ, List·Memᴰ·head}
+use mathlib.Core.List.{List, [], _∷_, _++_, map, flatten, append-nil, List·Memᴰ, List·Memᴰ·head, Memᴰ·append-left, Memᴰ·map}
 use mathlib.Core.Logic.{_↔_}
 use mathlib.Core.Path.{_≡_, refl, sym, ap, _∙_}
 use native.Mathlib.Omega.{arith}
 use borrow.Author.Tests.{eq-eqb, ne-eqb, lt-ltb, le-ltb}
 use lib.Dec.{eqb, ltb}
-use lib.ListN.{length, length-append, List·getD-append}
+use lib.ListN.{length, drop, length-append, List·getD-append}
 use lib.Seq.{getD-append-add}
 use Rattle.table.specs.Layout.{word, leftTermsOf, leftLabelsOf, rightTermsOf, rightLabelsOf}
 use Rattle.table.specs.Refusal.{refusal}
+use Rattle.table.specs.Code.Accepted.{Accepted}
 use Rattle.table.proofs.AcceptedLaws.{accepted}
 use Rattle.terms.specs.Term.{Term, var}
 use Rattle.terms.specs.Substitution.{sub}
 use Rattle.terms.specs.Multiset.{occurrences}
 use Rattle.terms.proofs.SubstitutionLaws.{sub-var}
+use Rattle.terms.proofs.MultisetLaws.{same-member, same-sym}
 use Rattle.unify.specs.Node.{tabulate, nodesIn}
 use Rattle.unify.specs.Unifier.{value}
 use Rattle.unify.specs.Computed.Unifying.{unifier}
+use Rattle.unify.proofs.TableLaws.{nodes-long, well-formed}
+use Rattle.unify.proofs.NodeLaws.{value-after}
 use Rattle.listing.specs.Choice.{inLeft, inRight}
 use Rattle.listing.specs.Entry.{pairsOf, digitsOf}
 use Rattle.listing.specs.Assignment.{Assignment, EqualSides}
 use Rattle.listing.specs.Instance.{Filled, Instance}
 use Rattle.listing.specs.Computed.Listing.{completeListing}
+use Rattle.listing.proofs.PlaceLaws.{with-digit-means}
 use Rattle.listing.proofs.EntryLaws.{entry-readable}
 use Rattle.listing.proofs.FilledLaws.{filled}
 use Rattle.listing.proofs.CountLaws.{places-count, total-none}
@@ -113,3 +118,31 @@ empty-exactly t r = (page14-empty t r, λ n. go (completeListing t) refl n)
     go (e ∷ es) q n =
         let s = equal-somewhere t r .1 (e, rw q (List·Memᴰ·head refl)) in
         absurd (n (s .0) (s .1))
+
+module _ (ls ks rs qs ds : List ℕ) (v : ℕ → Term) (labels : ℕ → List Term) (f : Filled ls ks rs qs ds v labels) where
+  -- "m + q puts it in right label q": a left term with this digit is in this label
+  in-its-right : (i q : ℕ) → i < length ls → q < length qs → word ds i ≡ length rs + suc q → List·Memᴰ (v (word ls i)) (labels (word qs q))
+  unfolding inRight
+  in-its-right i q h l e =
+      same-member (map v (inRight ls rs ds q) ++ f .rightRest q) (labels (word qs q)) (same-sym _ _ (f .in-right q l)) (v (word ls i))
+      (Memᴰ·append-left (f .rightRest q) (Memᴰ·map v (with-digit-means (length rs + suc q) (omega arith) ls ds (word ls i) .1 (i, h, e, refl))))
+
+  -- "p for left label p": so is a right term
+  in-its-left : (j p : ℕ) → j < length rs → p < length ks → word (drop (length ls) ds) j ≡ suc p → List·Memᴰ (v (word rs j)) (labels (word ks p))
+  unfolding inLeft
+  in-its-left j p h l e =
+      same-member (map v (inLeft ls rs ds p) ++ f .leftRest p) (labels (word ks p)) (same-sym _ _ (f .in-left p l)) (v (word rs j))
+      (Memᴰ·append-left (f .leftRest p) (Memᴰ·map v (with-digit-means (suc p) (omega arith) rs (drop (length ls) ds) (word rs j) .1 (j, h, e, refl))))
+
+module _ (t : List ℕ) (ok : Accepted t) (A : Assignment) (e : List ℕ) (n : Instance t A e) where
+  -- in an instance of an entry, a left term with digit m + q is in the multiset of right label q
+  pub instance-right : (i q : ℕ) → i < length (leftTermsOf t) → q < length (rightLabelsOf t) → word (digitsOf t e) i ≡ length (rightTermsOf t) + suc q → List·Memᴰ (value (nodesIn t) (A .variables) (word (leftTermsOf t) i)) (A .labels (word (rightLabelsOf t) q))
+  instance-right i q h l d =
+      rw (value-after (nodesIn t) (well-formed t ok) (n .unifier) (A .variables) (n .after) (n .variables) (word (leftTermsOf t) i) (rw (nodes-long t) (ok .each-left-term i h)))
+      (in-its-right (leftTermsOf t) (leftLabelsOf t) (rightTermsOf t) (rightLabelsOf t) (digitsOf t e) (λ a. sub (n .after) (value (nodesIn t) (n .unifier) a)) (A .labels) (n .labels) i q h l d)
+
+  -- and a right term with digit p in that of left label p
+  pub instance-left : (j p : ℕ) → j < length (rightTermsOf t) → p < length (leftLabelsOf t) → word (drop (length (leftTermsOf t)) (digitsOf t e)) j ≡ suc p → List·Memᴰ (value (nodesIn t) (A .variables) (word (rightTermsOf t) j)) (A .labels (word (leftLabelsOf t) p))
+  instance-left j p h l d =
+      rw (value-after (nodesIn t) (well-formed t ok) (n .unifier) (A .variables) (n .after) (n .variables) (word (rightTermsOf t) j) (rw (nodes-long t) (ok .each-right-term j h)))
+      (in-its-left (leftTermsOf t) (leftLabelsOf t) (rightTermsOf t) (rightLabelsOf t) (digitsOf t e) (λ a. sub (n .after) (value (nodesIn t) (n .unifier) a)) (A .labels) (n .labels) j p h l d)

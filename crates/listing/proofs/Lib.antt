@@ -1,6 +1,7 @@
 -- Laws of the definitions, from the bottom up.
 pub mod DigitLaws
 pub mod ChoiceLaws
+pub mod PlaceLaws
 pub mod EntryLaws
 pub mod CountLaws
 pub mod UnusedLaws

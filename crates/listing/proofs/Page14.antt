@@ -27,7 +27,7 @@ use Rattle.listing.specs.Instance.{Filled, Instance}
 use Rattle.listing.specs.Answer.{listed, lentAfter, entriesIn}
 use Rattle.listing.specs.Page14.{Page14}
 use Rattle.listing.specs.Computed.Listing.{completeListing}
-use Rattle.listing.proofs.EntryLaws.{Choice, pairs-inside, entry-digits, entry-bindings, listing-complete}
+use Rattle.listing.proofs.EntryLaws.{Choice, pairs-inside, entry-digits, entry-bindings, listing-complete, listing-one}
 use Rattle.listing.proofs.FilledLaws.{filled-same}
 use Rattle.listing.proofs.AnswerLaws.{finished-exactly, left-finished}
 use Rattle.listing.proofs.LentLaws.{entries-lie}
@@ -132,3 +132,7 @@ finished-empty t lent e =
     nothing : (es : List (List ℕ)) → 0 ≡ length es → es ≡ []
     nothing [] q = refl
     nothing (d ∷ ds) q = absurd (omega arith)
+
+-- what demand 3 says of entries leaves no choice of them
+pub page14-one : (t : List ℕ) → refusal t ≡ 0 → (k : ℕ) (words : List ℕ) → Page14 t k words → entriesIn t k words ≡ completeListing t
+page14-one t r k words p = listing-one t (accepted t .0 r) (entriesIn t k words) (p .complete)

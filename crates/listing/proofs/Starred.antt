@@ -17,14 +17,18 @@ use Rattle.unify.specs.Computed.Walks.{someMarked, leads, leadsAt, leadsFrom, w
 use Rattle.unify.specs.Computed.Solution.{firstWith, leastNode, isApplication, isVariable, isNodeOf, nodeOf, resolved, solution, isApplicationIn, isVariableIn, headIn}
 use Rattle.unify.specs.Computed.Binding.{isBoundTo, hasValue, wordFor, wordOf, bindingWords}
 use Rattle.unify.specs.Computed.Unifying.{outcome, unifier, wordsOf}
-use Rattle.unify.specs.Outcome.{unified, clash, occurs}
-use Rattle.unify.specs.Answer.{variableCount, unifyConditions, Answer, ended, answerAfter, unification, wordsAfter}
+use Rattle.unify.specs.declared.Unification.{Unification}
+use Rattle.unify.specs.declared.Unification.the-variants.{Unified, Clash, Occurs}
+use Rattle.unify.specs.Answer.{variableCount, unifyConditions, Answer, answerAfter, unification, wordsAfter}
 use Rattle.unify.proofs.Calls.{x-fx, y-x}
+use Rattle.table.specs.declared.Refusal.the-variants.{WrongLabel}
+use Rattle.listing.specs.declared.Listing.{Listing}
+use Rattle.listing.specs.declared.Listing.the-variants.{Finished, Full, Refused}
 use Rattle.listing.specs.Choice.{pairs}
 use Rattle.listing.specs.Entry.{entryOf}
 use Rattle.listing.specs.Computed.Choices.{among, branch, rights, lefts, choices}
 use Rattle.listing.specs.Computed.Listing.{kept, choicesOf, completeListing}
-use Rattle.listing.specs.Answer.{listConditions, fitting, entriesLeft, listed, lentAfter}
+use Rattle.listing.specs.Answer.{told, listConditions, fitting, entriesLeft, listed, lentAfter}
 
 -- {a, a | M} and {a | N}
 abbrev pub two-and-one : List ℕ
@@ -51,6 +55,11 @@ label-and-none = 12 ∷ 0 ∷ 12 ∷ 0 ∷ 12 ∷ 0 ∷ 12 ∷ 1 ∷ 13 ∷ 0 �
 abbrev pub x-twice-and-two : List ℕ
 x-twice-and-two =
     12 ∷ 12 ∷ 24 ∷ 0 ∷ 24 ∷ 2 ∷ 26 ∷ 0 ∷ 26 ∷ 2 ∷ 28 ∷ 0 ∷ 0 ∷ 0 ∷ 0 ∷ 0 ∷ 1 ∷ 1 ∷ 0 ∷ 0 ∷ 1 ∷ 2 ∷ 0 ∷ 0 ∷ 0 ∷ 0 ∷ 1 ∷ 2 ∷ []
+
+-- 0 x, 1 f(x); {0} and {1}
+abbrev pub x-and-fx : List ℕ
+x-and-fx =
+    12 ∷ 8 ∷ 20 ∷ 1 ∷ 21 ∷ 1 ∷ 22 ∷ 0 ∷ 22 ∷ 1 ∷ 23 ∷ 0 ∷ 0 ∷ 0 ∷ 0 ∷ 0 ∷ 1 ∷ 3 ∷ 0 ∷ 1 ∷ 0 ∷ 0 ∷ 1 ∷ []
 
 -- {a} and { | N, P}
 abbrev pub one-and-labels : List ℕ
@@ -86,51 +95,62 @@ pub data Call : Type 0 where
   list : List ℕ → Call
   unify : List ℕ → ℕ → ℕ → Call
 
--- Its answer: a listing's number and entries, or what unifying comes to.
+-- Its answer, as the operation gives it.
+pub data Given : Type 0 where
+  listing : Listing → Given
+  unifying : Unification → Given
+
+-- What an answer stands for: a listing's number and entries, or what unifying comes to.
 pub data Told : Type 0 where
   entries : ℕ × ℕ → Told
   outcome-is : Answer → Told
 
+abbrev pub stands-for : Given → Told
+stands-for (listing r) = entries (told r)
+stands-for (unifying r) = outcome-is (Rattle.unify.specs.Answer.told r)
+
 -- A call with lent words; then the answer and the lent words after the call.
 abbrev pub Example : Type 0
-Example = Call × List ℕ × Told × List ℕ
+Example = Call × List ℕ × Given × List ℕ
 
 abbrev pub examples : List Example
 examples =
     -- 1: "entries 3", and then `1 2 0`, `2 1 0` and `2 2 1`
-    (list two-and-one, 7 ∷ 7 ∷ 7 ∷ 7 ∷ 7 ∷ 7 ∷ 7 ∷ 7 ∷ 7 ∷ 7 ∷ [], entries (0, 3), 1 ∷ 2 ∷ 0 ∷ 2 ∷ 1 ∷ 0 ∷ 2 ∷ 2 ∷ 1 ∷ 7 ∷ []) ∷
+    (list two-and-one, 7 ∷ 7 ∷ 7 ∷ 7 ∷ 7 ∷ 7 ∷ 7 ∷ 7 ∷ 7 ∷ 7 ∷ [], listing (Finished 3), 1 ∷ 2 ∷ 0 ∷ 2 ∷ 1 ∷ 0 ∷ 2 ∷ 2 ∷ 1 ∷ 7 ∷ []) ∷
     -- 2: "The same with 8 words lent: full, 2 entries, the last 2 words unchanged."
-    (list two-and-one, 7 ∷ 7 ∷ 7 ∷ 7 ∷ 7 ∷ 7 ∷ 8 ∷ 9 ∷ [], entries (10, 2), 1 ∷ 2 ∷ 0 ∷ 2 ∷ 1 ∷ 0 ∷ 8 ∷ 9 ∷ []) ∷
+    (list two-and-one, 7 ∷ 7 ∷ 7 ∷ 7 ∷ 7 ∷ 7 ∷ 8 ∷ 9 ∷ [], listing (Full 2), 1 ∷ 2 ∷ 0 ∷ 2 ∷ 1 ∷ 0 ∷ 8 ∷ 9 ∷ []) ∷
     -- 3: "Both sides empty (12 words): 1 entry of 0 words", in one lent word and in none
-    (list nothing, 7 ∷ [], entries (0, 1), 7 ∷ []) ∷
-    (list nothing, [], entries (0, 1), []) ∷
+    (list nothing, 7 ∷ [], listing (Finished 1), 7 ∷ []) ∷
+    (list nothing, [], listing (Finished 1), []) ∷
     -- 4: "{a | M} and {}: 0 entries."
-    (list one-and-none, 7 ∷ [], entries (0, 0), 7 ∷ []) ∷
+    (list one-and-none, 7 ∷ [], listing (Finished 0), 7 ∷ []) ∷
     -- 5: "{a} and { | N}: 1 entry, `1`."
-    (list one-and-label, 7 ∷ 8 ∷ [], entries (0, 1), 1 ∷ 8 ∷ []) ∷
+    (list one-and-label, 7 ∷ 8 ∷ [], listing (Finished 1), 1 ∷ 8 ∷ []) ∷
     -- 6: "{ | M} and {}: 1 entry of 0 words."
-    (list label-and-none, 7 ∷ [], entries (0, 1), 7 ∷ []) ∷
+    (list label-and-none, 7 ∷ [], listing (Finished 1), 7 ∷ []) ∷
     -- 7: "`1 2 0 0 0 0` and `2 1 0 0 0 0`"
-    (list two-and-two, 7 ∷ 7 ∷ 7 ∷ 7 ∷ 7 ∷ 7 ∷ 7 ∷ 7 ∷ 7 ∷ 7 ∷ 7 ∷ 7 ∷ 8 ∷ [], entries (0, 2), 1 ∷ 2 ∷ 0 ∷ 0 ∷ 0 ∷ 0 ∷ 2 ∷ 1 ∷ 0 ∷ 0 ∷ 0 ∷ 0 ∷ 8 ∷ []) ∷
+    (list two-and-two, 7 ∷ 7 ∷ 7 ∷ 7 ∷ 7 ∷ 7 ∷ 7 ∷ 7 ∷ 7 ∷ 7 ∷ 7 ∷ 7 ∷ 8 ∷ [], listing (Finished 2), 1 ∷ 2 ∷ 0 ∷ 0 ∷ 0 ∷ 0 ∷ 2 ∷ 1 ∷ 0 ∷ 0 ∷ 0 ∷ 0 ∷ 8 ∷ []) ∷
     -- 8: "x with f(x): occurs"
-    (unify x-fx 0 1, 7 ∷ 8 ∷ 9 ∷ [], outcome-is (ended occurs), 7 ∷ 8 ∷ 9 ∷ []) ∷
+    (unify x-fx 0 1, 7 ∷ 8 ∷ 9 ∷ [], unifying Occurs, 7 ∷ 8 ∷ 9 ∷ []) ∷
     -- 9: "f(x, a) with f(g(x), b): clash"
-    (unify clash-and-cycle 4 5, 7 ∷ 8 ∷ 9 ∷ [], outcome-is (ended clash), 7 ∷ 8 ∷ 9 ∷ []) ∷
+    (unify clash-and-cycle 4 5, 7 ∷ 8 ∷ 9 ∷ [], unifying Clash, 7 ∷ 8 ∷ 9 ∷ []) ∷
     -- 10: "p(x, x) with p(f(x), a): clash"
-    (unify p-terms 3 4, 7 ∷ 8 ∷ 9 ∷ [], outcome-is (ended clash), 7 ∷ 8 ∷ 9 ∷ []) ∷
+    (unify p-terms 3 4, 7 ∷ 8 ∷ 9 ∷ [], unifying Clash, 7 ∷ 8 ∷ 9 ∷ []) ∷
     -- 11: "f(a) with f(a, a): clash"
-    (unify two-counts 1 2, 7 ∷ 8 ∷ 9 ∷ [], outcome-is (ended clash), 7 ∷ 8 ∷ 9 ∷ []) ∷
+    (unify two-counts 1 2, 7 ∷ 8 ∷ 9 ∷ [], unifying Clash, 7 ∷ 8 ∷ 9 ∷ []) ∷
     -- 12: "Node 0 y, node 1 x; node 0 with node 1: words 1 1"
-    (unify y-x 0 1, 7 ∷ 8 ∷ 9 ∷ [], outcome-is (ended unified), 1 ∷ 1 ∷ 9 ∷ []) ∷
+    (unify y-x 0 1, 7 ∷ 8 ∷ 9 ∷ [], unifying Unified, 1 ∷ 1 ∷ 9 ∷ []) ∷
     -- beside document 01's: 1 with words that are just enough, and with too few for an entry
-    (list two-and-one, 7 ∷ 7 ∷ 7 ∷ 7 ∷ 7 ∷ 7 ∷ 7 ∷ 7 ∷ 7 ∷ [], entries (0, 3), 1 ∷ 2 ∷ 0 ∷ 2 ∷ 1 ∷ 0 ∷ 2 ∷ 2 ∷ 1 ∷ []) ∷
-    (list two-and-one, 7 ∷ 8 ∷ [], entries (10, 0), 7 ∷ 8 ∷ []) ∷
+    (list two-and-one, 7 ∷ 7 ∷ 7 ∷ 7 ∷ 7 ∷ 7 ∷ 7 ∷ 7 ∷ 7 ∷ [], listing (Finished 3), 1 ∷ 2 ∷ 0 ∷ 2 ∷ 1 ∷ 0 ∷ 2 ∷ 2 ∷ 1 ∷ []) ∷
+    (list two-and-one, 7 ∷ 8 ∷ [], listing (Full 0), 7 ∷ 8 ∷ []) ∷
     -- "{x, x} and {a, b} has no entry"
-    (list x-twice-and-two, 7 ∷ 8 ∷ [], entries (0, 0), 7 ∷ 8 ∷ []) ∷
+    (list x-twice-and-two, 7 ∷ 8 ∷ [], listing (Finished 0), 7 ∷ 8 ∷ []) ∷
+    -- {x} and {f(x)}: the occurs test is not skipped
+    (list x-and-fx, 7 ∷ 8 ∷ 9 ∷ [], listing (Finished 0), 7 ∷ 8 ∷ 9 ∷ []) ∷
     -- a term that goes in either of two labels
-    (list one-and-labels, 7 ∷ 8 ∷ 9 ∷ [], entries (0, 2), 1 ∷ 2 ∷ 9 ∷ []) ∷
+    (list one-and-labels, 7 ∷ 8 ∷ 9 ∷ [], listing (Finished 2), 1 ∷ 2 ∷ 9 ∷ []) ∷
     -- a label that stands twice
-    (list label-twice, 7 ∷ 8 ∷ [], entries (7, 0), 7 ∷ 8 ∷ []) ∷
+    (list label-twice, 7 ∷ 8 ∷ [], listing (Refused WrongLabel), 7 ∷ 8 ∷ []) ∷
     []
 
 -- What the definitions compute for a call.
@@ -139,6 +159,6 @@ computed (list t) lent = (entries (listed t (length lent)), lentAfter t lent)
 computed (unify t a b) lent = (outcome-is (unification t a b (length lent)), Rattle.unify.specs.Answer.lentAfter t a b lent)
 
 -- is what document 01 says of its examples
-pub starred : map (λ e. computed (e .0) (e .1)) examples ≡ map (λ e. (e .2, e .3)) examples
+pub starred : map (λ e. computed (e .0) (e .1)) examples ≡ map (λ e. (stands-for (e .2), e .3)) examples
 unfolding flatten flatMap ℕ-discrete countsBefore someBelow tooFewWords endBefore offsetIsWrong brokenPair sectionIsLong overLimit rightVariable startOf rightApplication rightNode nodeIsWrong nodesAreWrong wrongNode argumentIsWrong runIsWrong wrongArgument termIsWrong wrongTerm labelsAreEqual labelIsWrong wrongLabel conditions firstHeld refusal equal sub tabulate readNode nodesIn each spell termWithin termOf zip zipWith insert variablesOf renamed join joinAll sameSymbol asks gather asked round rounds classes differ clashAt clashWith clashes someMarked leads leadsAt leadsFrom walks cyclic firstWith leastNode isApplication isVariable isNodeOf nodeOf resolved solution isApplicationIn isVariableIn headIn isBoundTo hasValue wordFor wordOf bindingWords outcome unifier wordsOf variableCount unifyConditions answerAfter unification wordsAfter pairs entryOf among branch rights lefts choices kept choicesOf completeListing listConditions fitting entriesLeft listed lentAfter Rattle.unify.specs.Answer.lentAfter
 starred = refl

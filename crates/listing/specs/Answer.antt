@@ -13,7 +13,7 @@ use Rattle.listing.specs.declared.Listing.{Listing}
 use Rattle.listing.specs.declared.Listing.the-variants.{Finished, Full, Refused}
 use Rattle.listing.specs.Computed.Listing.{completeListing}
 
--- What an answer of `list` stands for: document 01's number, 0 for a finished listing, and the number of entries.
+-- What an answer of `list` stands for: document 01's number, 0 for a finished listing, and the number of entries left.
 abbrev pub told : Listing → ℕ × ℕ
 told (Finished k) = (0, k)
 told (Full k) = (10, k)

@@ -14,14 +14,14 @@ pub record IsChoice (n m k l : ℕ) (ds : List ℕ) : Type 0 where
   pub long : length ds ≡ n + m
   -- "1 to m pairs it with that right term, m + q puts it in right label q, counted from 1 in table order"
   pub left-digits : (i : ℕ) → i < n → (0 < word ds i) × (word ds i ≤ m + l)
-  -- "0 if paired, otherwise p for left label p"
+  -- "p for left label p"
   pub right-digits : (j : ℕ) → j < m → word ds (n + j) ≤ k
   -- "No right term is paired twice."
   pub once : (i i′ : ℕ) → i < i′ → i′ < n → word ds i ≡ word ds i′ → m < word ds i
   -- "0 if paired"; "Each right term without a partner has a digit above 0."
   pub paired : (j : ℕ) → j < m → word ds (n + j) ≡ 0 ↔ ((i : ℕ) × (i < n) × (word ds i ≡ suc j))
 
--- The pairs of a choice of the terms of two sides: "1 to m pairs it with that right term".
+-- The pairs of a choice of the terms of two sides: "1 to m pairs it with that right term". No left digit of a choice is 0.
 unfoldable pub pairs : List ℕ → List ℕ → List ℕ → List (ℕ × ℕ)
 pairs [] rs ds = []
 pairs (a ∷ ls) rs [] = []
