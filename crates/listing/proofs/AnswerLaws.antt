@@ -11,14 +11,11 @@ use borrow.Author.Tests.{lt-ltb, le-ltb, leb-true, leb-false, eq-eqb, ne-eqb}
 use lib.Dec.{eqb, leb}
 use lib.ListN.{length, take, drop, length-append, length-drop}
 use lib.Seq.{take-length, take-append-seam, drop-append-seam}
-use Rattle.table.specs.declared.Refusal.{Refusal}
-use Rattle.table.specs.declared.Refusal.the-variants.{TooFewWords, BrokenPair, OverLimit, WrongNode, WrongArgument, WrongTerm, WrongLabel, NotANode, TooFewLent}
-use Rattle.table.specs.Answer.{numberOf}
 use Rattle.table.specs.Code.Accepted.{Accepted}
 use Rattle.table.specs.Refusal.{conditions, firstHeld, refusal}
 use Rattle.table.proofs.RefusalLaws.{First, here, later, none, first-means, refused, refusal-most}
 use Rattle.table.proofs.AcceptedLaws.{pass, accepted}
-use Rattle.table.proofs.AnswerLaws.{number-apart}
+use Rattle.table.proofs.AnswerLaws.{number-apart, number-within, numbered}
 use Rattle.listing.specs.declared.Listing.{Listing}
 use Rattle.listing.specs.declared.Listing.the-variants.{Finished, Full, Refused}
 use Rattle.listing.specs.Computed.Listing.{completeListing}
@@ -268,18 +265,6 @@ module _ (t lent : List ℕ) where
   unfolding lentAfter flatten
   refused-nothing n = rw (none-left t (length lent) n)
 
--- no refusal has the number of a finished or a full listing
-number-between : (r : Refusal) → (0 < numberOf r) × (numberOf r < 10)
-number-between TooFewWords = (omega arith, omega arith)
-number-between BrokenPair = (omega arith, omega arith)
-number-between OverLimit = (omega arith, omega arith)
-number-between WrongNode = (omega arith, omega arith)
-number-between WrongArgument = (omega arith, omega arith)
-number-between WrongTerm = (omega arith, omega arith)
-number-between WrongLabel = (omega arith, omega arith)
-number-between NotANode = (omega arith, omega arith)
-number-between TooFewLent = (omega arith, omega arith)
-
 -- answers that stand for one thing are one answer
 pub told-apart : (r s : Listing) → told r ≡ told s → r ≡ s
 told-apart r s e = go r s (ap (λ (p : ℕ × ℕ). p .0) e) (ap (λ (p : ℕ × ℕ). p .1) e)
@@ -287,25 +272,13 @@ told-apart r s e = go r s (ap (λ (p : ℕ × ℕ). p .0) e) (ap (λ (p : ℕ ×
     go : (r s : Listing) → told r .0 ≡ told s .0 → told r .1 ≡ told s .1 → r ≡ s
     go (Finished j) (Finished k) n e = ap Finished e
     go (Finished j) (Full k) n e = absurd (omega (arith, n))
-    go (Finished j) (Refused s) n e = absurd (omega (arith, n, number-between s .0))
+    go (Finished j) (Refused s) n e = absurd (omega (arith, n, number-within s .0))
     go (Full j) (Finished k) n e = absurd (omega (arith, n))
     go (Full j) (Full k) n e = ap Full e
-    go (Full j) (Refused s) n e = absurd (omega (arith, n, number-between s .1))
-    go (Refused r) (Finished k) n e = absurd (omega (arith, n, number-between r .0))
-    go (Refused r) (Full k) n e = absurd (omega (arith, n, number-between r .1))
+    go (Full j) (Refused s) n e = absurd (omega (arith, n, number-within s .1))
+    go (Refused r) (Finished k) n e = absurd (omega (arith, n, number-within r .0))
+    go (Refused r) (Full k) n e = absurd (omega (arith, n, number-within r .1))
     go (Refused r) (Refused s) n e = ap Refused (number-apart r s n)
-
--- a number from 1 to 7 is that of a refusal
-numbered : (n : ℕ) → 0 < n → n ≤ 7 → (r : Refusal) × (numberOf r ≡ n)
-numbered zero h l = absurd (omega arith)
-numbered (suc zero) h l = (TooFewWords, refl)
-numbered (suc (suc zero)) h l = (BrokenPair, refl)
-numbered (suc (suc (suc zero))) h l = (OverLimit, refl)
-numbered (suc (suc (suc (suc zero)))) h l = (WrongNode, refl)
-numbered (suc (suc (suc (suc (suc zero))))) h l = (WrongArgument, refl)
-numbered (suc (suc (suc (suc (suc (suc zero)))))) h l = (WrongTerm, refl)
-numbered (suc (suc (suc (suc (suc (suc (suc zero))))))) h l = (WrongLabel, refl)
-numbered (suc (suc (suc (suc (suc (suc (suc (suc n)))))))) h l = absurd (omega arith)
 
 -- every call has an answer that stands for what it comes to
 pub told-there : (t : List ℕ) (lent : ℕ) → (r : Listing) × (told r ≡ listed t lent)
@@ -313,7 +286,7 @@ told-there t lent = go (answered t lent)
   where
     go : Answered t lent → (r : Listing) × (told r ≡ listed t lent)
     go (refusing h q) =
-        let r = numbered (refusal t) h (refusal-most t) in
+        let r = numbered (refusal t) h (omega (arith, refusal-most t)) in
         (Refused (r .0), ap (λ (n : ℕ). (n, 0)) (r .1) ∙ sym q)
     go (finishing a l q) = (Finished (length (completeListing t)), sym q)
     go (filling a l q) = (Full (length (fitting lent (completeListing t))), sym q)

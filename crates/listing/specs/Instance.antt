@@ -23,7 +23,7 @@ pub record Filled (ls ks rs qs ds : List ℕ) (v : ℕ → Term) (labels : ℕ �
   pub in-right : (q : ℕ) → q < length qs → Same (labels (word qs q)) (map v (inRight ls rs ds q) ++ rightRest q)
   -- "The rests of the left labels together equal the rests of the right labels together"
   pub balance : Same (flatten (tabulate (length ks) leftRest)) (flatten (tabulate (length qs) rightRest))
-  -- "where the other side has no labels the rests are empty": this follows from the rest (`filled`)
+  -- "where the other side has no labels the rests are empty": these two follow from the other clauses (`filled`)
   pub no-right : qs ≡ [] → (p : ℕ) → p < length ks → leftRest p ≡ []
   pub no-left : ks ≡ [] → (q : ℕ) → q < length qs → rightRest q ≡ []
 

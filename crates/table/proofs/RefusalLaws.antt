@@ -38,18 +38,19 @@ pub refused : (t : List ℕ) (n : ℕ) → refusal t ≡ n ↔ First n (conditio
 unfolding refusal
 refused t n = first-means n (conditions t)
 
-below : {n m : ℕ} {b : Bool} {cs : List (ℕ × Bool)} → m ≤ 7 → (First n cs → n ≤ 7) → First n ((m, b) ∷ cs) → n ≤ 7
-below h f (here e z) = omega arith
-below h f (later z r) = f r
+-- the first condition that holds has no greater number than any of them has
+pub most : {n m top : ℕ} {b : Bool} {cs : List (ℕ × Bool)} → m ≤ top → (First n cs → n ≤ top) → First n ((m, b) ∷ cs) → n ≤ top
+most h f (here e z) = omega arith
+most h f (later z r) = f r
 
-last : {n : ℕ} → First n [] → n ≤ 7
-last (none e) = omega arith
+pub most-none : {n top : ℕ} → First n [] → n ≤ top
+most-none (none e) = omega arith
 
 -- checking a table gives none of the refusals that other operations add
 pub refusal-most : (t : List ℕ) → refusal t ≤ 7
 unfolding conditions
 refusal-most t =
-    below (omega arith) (below (omega arith) (below (omega arith) (below (omega arith) (below (omega arith) (below (omega arith) (below (omega arith) last)))))) (refused t (refusal t) .0 refl)
+    most (omega arith) (most (omega arith) (most (omega arith) (most (omega arith) (most (omega arith) (most (omega arith) (most (omega arith) most-none)))))) (refused t (refusal t) .0 refl)
 
 -- the step from one condition to the next
 pub not-held : (c : ℕ × Bool) (cs : List (ℕ × Bool)) → c .1 ≡ false → firstHeld (c ∷ cs) ≡ firstHeld cs

@@ -11,12 +11,12 @@ use lib.ListN.{length, take, drop, length-map, length-append, length-drop}
 use lib.Seq.{take-at, drop-at}
 use Rattle.table.specs.declared.Refusal.{Refusal}
 use Rattle.table.specs.Answer.{numberOf}
-use Rattle.table.specs.Refusal.{firstHeld}
+use Rattle.table.specs.Refusal.{conditions, firstHeld}
 use Rattle.table.specs.Code.Accepted.{Accepted}
 use Rattle.table.proofs.BoolLaws.{or-false-left, or-false-right, or-both-false}
-use Rattle.table.proofs.RefusalLaws.{First, later, none, first-means}
+use Rattle.table.proofs.RefusalLaws.{First, later, none, first-means, most, most-none}
 use Rattle.table.proofs.AcceptedLaws.{pass, accepted-first}
-use Rattle.table.proofs.AnswerLaws.{number-apart}
+use Rattle.table.proofs.AnswerLaws.{number-apart, numbered}
 use Rattle.terms.specs.Substitution.{Substitution}
 use Rattle.unify.specs.declared.Unification.{Unification}
 use Rattle.unify.specs.Node.{nodesIn, Present}
@@ -236,3 +236,19 @@ told-apart Unification.Unified s e = ended-apart unified s e
 told-apart Unification.Clash s e = ended-apart clash s e
 told-apart Unification.Occurs s e = ended-apart occurs s e
 told-apart (Unification.Refused r) s e = refused-apart r s e
+
+conditions-most : (t : List ℕ) (a b lent : ℕ) → firstHeld (unifyConditions t a b lent) ≤ 9
+unfolding unifyConditions conditions
+conditions-most t a b lent =
+    most (omega arith) (most (omega arith) (most (omega arith) (most (omega arith) (most (omega arith) (most (omega arith) (most (omega arith) (most (omega arith) (most (omega arith) most-none)))))))) (first-means _ (unifyConditions t a b lent) .0 refl)
+
+-- whatever a call comes to, some answer stands for it
+pub told-there : (t : List ℕ) (a b lent : ℕ) → (r : Unification) × (told r ≡ unification t a b lent)
+unfolding unification answerAfter
+told-there t a b lent = go (firstHeld (unifyConditions t a b lent)) (conditions-most t a b lent) (outcome (nodesIn t) ((a, b) ∷ []))
+  where
+    go : (n : ℕ) → n ≤ 9 → (o : Outcome) → (r : Unification) × (told r ≡ answerAfter n o)
+    go zero h unified = (Unification.Unified, refl)
+    go zero h clash = (Unification.Clash, refl)
+    go zero h occurs = (Unification.Occurs, refl)
+    go (suc n) h o = let r = numbered (suc n) (omega arith) h in (Unification.Refused (r .0), ap refused (r .1))
