@@ -39,7 +39,7 @@ find d (e ∷ es) (List·Memᴰ·tail m) = pick (eqb d e) refl (find d es m)
 pub among-member : (d : ℕ) (es : List ℕ) → among d es ≡ true ↔ List·Memᴰ d es
 among-member d es = (found d es, find d es)
 
--- and not found exactly if it is not
+-- and not found if it is not
 pub among-not : (d : ℕ) (es : List ℕ) → (List·Memᴰ d es → ⊥) → among d es ≡ false
 among-not d es h = pick (among d es) refl
   where
@@ -149,7 +149,7 @@ in-lefts {m} {k} {l} (next {used} {ds} {n} {d} a b c s) =
     in-branch 1 (m + l) (following m k l used n) d ds (omega arith) (omega arith) (rw (barred d m used .1 c) (in-lefts s))
 
 -- the strings of digits that are listed are those that the walk meets
-pub digits-listed : (m k l : ℕ) (used : List ℕ) (n : ℕ) (ds : List ℕ) → List·Memᴰ ds (lefts m k l used n) ↔ IsLefts m k l used n ds
+digits-listed : (m k l : ℕ) (used : List ℕ) (n : ℕ) (ds : List ℕ) → List·Memᴰ ds (lefts m k l used n) ↔ IsLefts m k l used n ds
 digits-listed m k l used n ds = (lefts-from m k l used n ds, (λ s. in-lefts s))
 
 -- the list of choices holds exactly the choices
@@ -185,7 +185,7 @@ pub choices-rise : (n m k l : ℕ) → Rising Before (choices n m k l)
 unfolding choices
 choices-rise n m k l = lefts-rise m k l [] n
 
--- The first place where two strings differ, and the first is smaller there.
+-- The first place where two strings differ; the first string is smaller there.
 pub record Smaller (ds es : List ℕ) : Type 0 where
   pub place : ℕ
   pub in-first : place < length ds

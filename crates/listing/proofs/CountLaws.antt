@@ -26,7 +26,7 @@ flatten-counts t (u ∷ us) vs =
     let r = flatten-counts t us vs in
     omega (arith, a, b, r)
 
--- the lists at all places together
+-- a term occurs in the lists of all places together as often as in each, added up
 pub places-count : (t : Term) (k : ℕ) (f : ℕ → List Term) → occurrences t (flatten (tabulate k f)) ≡ total k (λ p. occurrences t (f p))
 unfolding flatten occurrences tabulate total
 places-count t zero f = refl
@@ -36,7 +36,7 @@ places-count t (suc k) f =
     let r = places-count t k f in
     omega (arith, a, b, r)
 
--- sums of equal numbers
+-- sums of equal numbers are equal
 pub total-same : (k : ℕ) (f g : ℕ → ℕ) → ((p : ℕ) → p < k → f p ≡ g p) → total k f ≡ total k g
 unfolding total
 total-same zero f g h = refl
@@ -45,7 +45,7 @@ total-same (suc k) f g h =
     let e = h k (omega arith) in
     omega (arith, r, e)
 
--- a sum of nothing
+-- a sum of noughts is 0
 pub total-none : (k : ℕ) (f : ℕ → ℕ) → ((p : ℕ) → p < k → f p ≡ 0) → total k f ≡ 0
 unfolding total
 total-none zero f h = refl
@@ -54,7 +54,7 @@ total-none (suc k) f h =
     let e = h k (omega arith) in
     omega (arith, r, e)
 
--- sums of sums
+-- a sum of sums is the sum of the two
 pub total-add : (k : ℕ) (f g h : ℕ → ℕ) → ((p : ℕ) → p < k → f p ≡ g p + h p) → total k f ≡ total k g + total k h
 unfolding total
 total-add zero f g h s = refl
@@ -69,7 +69,7 @@ unfolding total
 total-first zero f = omega arith
 total-first (suc k) f = let r = total-first k f in omega (arith, r)
 
--- the lists of all words of a list together
+-- the same of the lists that a function gives to the words of a list
 pub words-count : (t : Term) (f : ℕ → List Term) (xs : List ℕ) → occurrences t (flatMap f xs) ≡ total (length xs) (λ p. occurrences t (f (word xs p)))
 unfolding flatMap occurrences total
 words-count t f [] = refl
@@ -79,7 +79,7 @@ words-count t f (x ∷ xs) =
     let s = total-first (length xs) (λ p. occurrences t (f (word (x ∷ xs) p))) in
     omega (arith, a, r, s)
 
--- sums that differ at one place
+-- where c is added at one place, the sum has c more
 pub total-one : (k : ℕ) (f g : ℕ → ℕ) (c p : ℕ) → p < k → f p ≡ c + g p → ((q : ℕ) → q < k → (q ≡ p → ⊥) → f q ≡ g q) → total k f ≡ c + total k g
 unfolding total
 total-one zero f g c p h e s = absurd (omega arith)

@@ -88,7 +88,7 @@ module _ (v : ℕ → Term) where
                   }
 
   -- Digits for the left terms to come and for all right terms, pairs that are equal, and the rests of all labels.
-  pub record Covered (m k l : ℕ) (rs used ls : List ℕ) (A B : ℕ → List Term) : Type 0 where
+  record Covered (m k l : ℕ) (rs used ls : List ℕ) (A B : ℕ → List Term) : Type 0 where
     pub digits : List ℕ
     pub are : IsLefts m k l used (length ls) digits
     pub equal-pairs : (a b : ℕ) → List·Memᴰ (a, b) (pairs ls rs digits) → v a ≡ v b
@@ -100,7 +100,7 @@ module _ (v : ℕ → Term) where
 
   module _ (m k l : ℕ) (rs : List ℕ) (long : length rs ≡ m) where
     -- sides that are equal under the values are covered by digits
-    pub covered : (used ls : List ℕ) (A B : ℕ → List Term) → ((t : Term) → occurrences t (map v ls) + count t k A ≡ occurrences t (map v (unused 0 used rs)) + count t l B) → Covered m k l rs used ls A B
+    covered : (used ls : List ℕ) (A B : ℕ → List Term) → ((t : Term) → occurrences t (map v ls) + count t k A ≡ occurrences t (map v (unused 0 used rs)) + count t l B) → Covered m k l rs used ls A B
     unfolding withDigit occurrences pairs
     covered used [] A B h = go (rights-covered k used 0 rs A (λ t. count t l B) (λ t. let e = h t in omega (arith, e)))
       where

@@ -1,5 +1,5 @@
 -- Page 14: under an assignment the two sides are equal exactly if it is an instance of an entry of the complete listing.
--- An instance's pairs are equal, so its choice balances (`balance`). Equal sides are accounted for by some choice (`covered`), whose pairs the assignment unifies; so it is admissible, and the assignment comes after its unifier. Assumes nothing.
+-- An instance's pairs are equal, so its choice balances (`filled-equal`). Equal sides are accounted for by some choice (`equal-filled`), whose pairs the assignment unifies; so it is admissible, and the assignment comes after its unifier. Assumes nothing.
 use Prim.Native.Nat.{ℕ, _+_, _<_}
 use mathlib.Core.List.{List, [], _∷_, map, flatMap, List·Memᴰ, List·Memᴰ·not-nil}
 use mathlib.Core.Logic.{_↔_}

@@ -15,17 +15,17 @@ use Rattle.terms.proofs.MultisetLaws.{occurrences-append}
 use Rattle.listing.specs.Choice.{withDigit}
 use Rattle.listing.proofs.CountLaws.{total, total-same, total-one}
 
--- a term with the digit
+-- a term that has the digit comes first
 pub with-digit : (d a : ℕ) (ts ds : List ℕ) → withDigit d (a ∷ ts) (d ∷ ds) ≡ a ∷ withDigit d ts ds
 unfolding withDigit
 with-digit d a ts ds = rw (eq-eqb d d refl) refl
 
--- a term with another
+-- a term that has another is left out
 pub without-digit : (d e a : ℕ) (ts ds : List ℕ) → (e ≡ d → ⊥) → withDigit d (a ∷ ts) (e ∷ ds) ≡ withDigit d ts ds
 unfolding withDigit
 without-digit d e a ts ds h = rw (ne-eqb e d h) refl
 
--- values that are the same place by place
+-- values that are the same place by place give the same list
 pub map-same : (f g : ℕ → Term) (l : List ℕ) → ((i : ℕ) → i < length l → f (word l i) ≡ g (word l i)) → map f l ≡ map g l
 map-same f g [] h = refl
 map-same f g (a ∷ l) h =
@@ -33,7 +33,7 @@ map-same f g (a ∷ l) h =
     let r : map f l ≡ map g l = map-same f g l (λ i q. h (suc i) (omega arith)) in
     rw (e, r)
 
--- are the same for the terms with the digit
+-- and the same list of the terms with a digit
 pub with-same : (f g : ℕ → Term) (d : ℕ) (l ds : List ℕ) → ((i : ℕ) → i < length l → f (word l i) ≡ g (word l i)) → map f (withDigit d l ds) ≡ map g (withDigit d l ds)
 unfolding withDigit
 with-same f g d [] ds h = refl

@@ -105,6 +105,7 @@ pub data Told : Type 0 where
   entries : ℕ × ℕ → Told
   outcome-is : Answer → Told
 
+-- What each answer stands for.
 abbrev pub stands-for : Given → Told
 stands-for (listing r) = entries (told r)
 stands-for (unifying r) = outcome-is (Rattle.unify.specs.Answer.told r)
@@ -113,6 +114,7 @@ stands-for (unifying r) = outcome-is (Rattle.unify.specs.Answer.told r)
 abbrev pub Example : Type 0
 Example = Call × List ℕ × Given × List ℕ
 
+-- Document 01's starred examples, and some calls beside them.
 abbrev pub examples : List Example
 examples =
     -- 1: "entries 3", and then `1 2 0`, `2 1 0` and `2 2 1`
@@ -153,12 +155,12 @@ examples =
     (list label-twice, 7 ∷ 8 ∷ [], listing (Refused WrongLabel), 7 ∷ 8 ∷ []) ∷
     []
 
--- What the definitions compute for a call.
+-- What the definitions compute for a call with lent words.
 abbrev pub computed : Call → List ℕ → Told × List ℕ
 computed (list t) lent = (entries (listed t (length lent)), lentAfter t lent)
 computed (unify t a b) lent = (outcome-is (unification t a b (length lent)), Rattle.unify.specs.Answer.lentAfter t a b lent)
 
--- is what document 01 says of its examples
+-- what they compute is what stands beside each call: for 1 to 12, what document 01 says
 pub starred : map (λ e. computed (e .0) (e .1)) examples ≡ map (λ e. (stands-for (e .2), e .3)) examples
 unfolding flatten flatMap ℕ-discrete countsBefore someBelow tooFewWords endBefore offsetIsWrong brokenPair sectionIsLong overLimit rightVariable startOf rightApplication rightNode nodeIsWrong nodesAreWrong wrongNode argumentIsWrong runIsWrong wrongArgument termIsWrong wrongTerm labelsAreEqual labelIsWrong wrongLabel conditions firstHeld refusal equal sub tabulate readNode nodesIn each spell termWithin termOf zip zipWith insert variablesOf renamed join joinAll sameSymbol asks gather asked round rounds classes differ clashAt clashWith clashes someMarked leads leadsAt leadsFrom walks cyclic firstWith leastNode isApplication isVariable isNodeOf nodeOf resolved solution isApplicationIn isVariableIn headIn isBoundTo hasValue wordFor wordOf bindingWords outcome unifier wordsOf variableCount unifyConditions answerAfter unification wordsAfter pairs entryOf among branch rights lefts choices kept choicesOf completeListing listConditions fitting entriesLeft listed lentAfter Rattle.unify.specs.Answer.lentAfter
 starred = refl

@@ -21,13 +21,13 @@ pub record IsChoice (n m k l : ℕ) (ds : List ℕ) : Type 0 where
   -- "0 if paired"; "Each right term without a partner has a digit above 0."
   pub paired : (j : ℕ) → j < m → word ds (n + j) ≡ 0 ↔ ((i : ℕ) × (i < n) × (word ds i ≡ suc j))
 
--- The pairs of a choice of the terms of two sides: "1 to m pairs it with that right term". No left digit of a choice is 0.
+-- The pairs of a choice ds of the terms ls and rs of two sides: "1 to m pairs it with that right term". No left digit of a choice is 0.
 unfoldable pub pairs : List ℕ → List ℕ → List ℕ → List (ℕ × ℕ)
 pairs [] rs ds = []
 pairs (a ∷ ls) rs [] = []
 pairs (a ∷ ls) rs (d ∷ ds) = cond (leb d (length rs)) ((a, word rs (d - 1)) ∷ pairs ls rs ds) (pairs ls rs ds)
 
--- The terms of a list whose digit is d.
+-- Of a list of terms, those whose digit is d.
 unfoldable pub withDigit : ℕ → List ℕ → List ℕ → List ℕ
 withDigit d [] ds = []
 withDigit d (a ∷ ts) [] = []

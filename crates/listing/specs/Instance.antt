@@ -14,7 +14,7 @@ use Rattle.listing.specs.Choice.{inLeft, inRight}
 use Rattle.listing.specs.Entry.{digitsOf, bindingsOf}
 use Rattle.listing.specs.Assignment.{Assignment}
 
--- The labels hold what the digits put there, each term by its value, and rests. Here ls and rs are the terms of the two sides, ks and qs their labels.
+-- The labels hold what the digits put there, each term by its value, and rests. Here ls and rs are the terms of the two sides, ks and qs their labels, ds the digits, v the values of nodes.
 pub record Filled (ls ks rs qs ds : List ℕ) (v : ℕ → Term) (labels : ℕ → List Term) : Type 0 where
   pub leftRest : ℕ → List Term
   pub rightRest : ℕ → List Term

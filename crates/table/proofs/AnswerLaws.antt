@@ -1,4 +1,4 @@
--- The numbers tell the answers apart: each answer can be read back from its number. Assumes nothing.
+-- The numbers tell the answers apart: each answer can be read back from its number. Those of refusals are 1 to 9. Assumes nothing.
 use Prim.Native.Nat.{ℕ, zero, suc, _<_, _≤_}
 use mathlib.Core.Path.{_≡_, refl, sym, ap, _∙_}
 use Rattle.table.specs.declared.Refusal.{Refusal}

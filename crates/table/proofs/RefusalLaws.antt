@@ -38,11 +38,12 @@ pub refused : (t : List ℕ) (n : ℕ) → refusal t ≡ n ↔ First n (conditio
 unfolding refusal
 refused t n = first-means n (conditions t)
 
--- the first condition that holds has no greater number than any of them has
+-- where no condition has a number above top, the first that holds has none above it: one condition at a time
 pub most : {n m top : ℕ} {b : Bool} {cs : List (ℕ × Bool)} → m ≤ top → (First n cs → n ≤ top) → First n ((m, b) ∷ cs) → n ≤ top
 most h f (here e z) = omega arith
 most h f (later z r) = f r
 
+-- and where none holds it is 0
 pub most-none : {n top : ℕ} → First n [] → n ≤ top
 most-none (none e) = omega arith
 

@@ -5,4 +5,5 @@ pub mod Layout
 pub mod Conditions
 pub mod Refusal
 pub mod Answer
+-- What nobody has to believe: what contracts of inner functions and laws speak of.
 pub mod Code

@@ -1,4 +1,4 @@
--- "Some number below n has the property", as a test that computes.
+-- Some number below n has the property, as a test that computes.
 use Prim.Native.Nat.{ℕ, zero, suc}
 use mathlib.Core.Bool.{Bool, false, _||_}
 

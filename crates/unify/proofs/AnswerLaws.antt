@@ -181,6 +181,7 @@ module _ (t : List ℕ) (a b : ℕ) (lent : List ℕ) where
       let r = clash-exactly .0 e in
       clash-none (nodesIn t) (well-formed t (r .0 .table)) ((a, b) ∷ []) (one-pair (r .0)) σ (unifies-pair σ q) (r .1)
 
+  -- the same of occurs
   pub occurs-fails : unification t a b (length lent) ≡ ended occurs → (σ : Substitution) → value (nodesIn t) σ a ≡ value (nodesIn t) σ b → ⊥
   occurs-fails e σ q =
       let r = occurs-exactly .0 e in

@@ -59,6 +59,7 @@ x-twice =
 abbrev pub Call : Type 0
 Call = List ℕ × ℕ × ℕ × List ℕ × Answer × List ℕ
 
+-- The calls.
 abbrev pub calls : List Call
 calls =
     -- as many words as variables
@@ -81,6 +82,7 @@ calls =
     (x-twice, 1, 1, 7 ∷ [], ended unified, 0 ∷ []) ∷
     []
 
+-- What the definitions compute for a call.
 abbrev pub computed : Call → Answer × List ℕ
 computed e = (unification (e .0) (e .1) (e .2) (length (e .3)), lentAfter (e .0) (e .1) (e .2) (e .3))
 

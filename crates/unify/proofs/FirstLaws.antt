@@ -116,6 +116,7 @@ unfolding isVariable
 is-variable x (variable y) h = ap variable (sym (eqb-true x y h))
 is-variable x (application f us) h = let z : _≡_ {A = ℕ} 0 1 = cc in absurd (omega arith)
 
+-- and the other way round
 pub of-variable : (x : ℕ) (n : Node) → n ≡ variable x → isVariable x n ≡ true
 unfolding isVariable
 of-variable x n e = rw e (eq-eqb x x refl)

@@ -16,7 +16,7 @@ module _ {A : Type 0} (Below : A → A → Type 0) where
       first y (inl m) = b y m
       first y (inr m) = h x y (List·Memᴰ·head refl) m
 
-  -- a list of a rising one, each element by its image, rises
+  -- the images of a rising list rise, where the function keeps the order
   pub rising-map : {B : Type 0} (Under : B → B → Type 0) (f : A → B) (xs : List A) → ((x y : A) → Below x y → Under (f x) (f y)) → Rising Below xs → Rising Under (map f xs)
   rising-map Under f [] h r = end
   rising-map {B} Under f (x ∷ xs) h (before b r) =

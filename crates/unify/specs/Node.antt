@@ -43,11 +43,12 @@ unfoldable pub spell : (ℕ → Term) → Node → Term
 spell v (variable x) = var x
 spell v (application f us) = app f (each v us)
 
--- The term of node i. An argument's number is smaller than that of its node, so that i + 1 steps are enough (`term-node`).
+-- The term of node i, spelt out for k steps.
 unfoldable pub termWithin : ℕ → List Node → ℕ → Term
 termWithin zero ns i = var 0
 termWithin (suc k) ns i = spell (termWithin k ns) (nodeAt ns i)
 
+-- The term of node i. An argument's number is smaller than that of its node, so that i + 1 steps are enough (`term-node`).
 unfoldable pub termOf : List Node → ℕ → Term
 termOf ns i = termWithin (suc i) ns i
 
