@@ -13,7 +13,7 @@ use Rattle.terms.specs.Multiset.{Same}
 use Rattle.terms.proofs.MultisetLaws.{same-append, same-refl, same-sym}
 use Rattle.unify.specs.Node.{nodesIn, Present}
 use Rattle.unify.specs.Unifier.{value}
-use Rattle.unify.proofs.TableLaws.{nodes-long, well-formed}
+use Rattle.unify.proofs.TableLaws.{well-formed, left-node, right-node}
 use Rattle.unify.proofs.NodeLaws.{value-agree}
 use Rattle.listing.specs.Assignment.{Assignment, side, EqualSides}
 use Rattle.listing.specs.Instance.{Instance}
@@ -58,8 +58,8 @@ module _ (t : List ℕ) (A B : Assignment) (g : Agree t A B) where
 
   equal-there : Accepted t → EqualSides t A → EqualSides t B
   equal-there a s =
-      let l = side-same a (leftTermsOf t) (leftLabelsOf t) (λ i h. rw (nodes-long t) (a .each-left-term i h)) left-label in
-      let r = side-same a (rightTermsOf t) (rightLabelsOf t) (λ i h. rw (nodes-long t) (a .each-right-term i h)) right-label in
+      let l = side-same a (leftTermsOf t) (leftLabelsOf t) (left-node t a) left-label in
+      let r = side-same a (rightTermsOf t) (rightLabelsOf t) (right-node t a) right-label in
       λ u. sym (l u) ∙ s u ∙ r u
 
   instance-there : (e : List ℕ) → Instance t A e → Instance t B e

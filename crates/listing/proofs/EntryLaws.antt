@@ -11,14 +11,14 @@ use Rattle.table.specs.Layout.{leftTermsOf, rightTermsOf, leftLabelsOf, rightLa
 use Rattle.table.specs.Code.Accepted.{Accepted}
 use Rattle.terms.specs.Substitution.{Substitution}
 use Rattle.unify.specs.Node.{nodesIn, Present}
-use Rattle.unify.specs.Unifier.{MostGeneral}
+use Rattle.unify.specs.Unifier.{Unifiable, MostGeneral}
 use Rattle.unify.specs.Code.Given.{Inside}
 use Rattle.unify.specs.Words.{Rising, end, before, AreWords, Reads}
 use Rattle.unify.specs.Outcome.{Outcome, unified, clash, occurs}
 use Rattle.unify.specs.Computed.Unifying.{outcome, unifier, wordsOf}
 use Rattle.unify.specs.Answer.{variableCount}
 use Rattle.unify.proofs.RisingLaws.{rising-map, rising-same, rising-once}
-use Rattle.unify.proofs.TableLaws.{nodes-long, well-formed}
+use Rattle.unify.proofs.TableLaws.{well-formed, left-node, right-node}
 use Rattle.unify.proofs.AnswerLaws.{words-long}
 use Rattle.unify.proofs.ReadingLaws.{reads-one}
 use Rattle.unify.proofs.OutcomeLaws.{outcome-unified, words-readable, reading-most-general, words-least}
@@ -36,7 +36,11 @@ Choice t ds = IsChoice (length (leftTermsOf t)) (length (rightTermsOf t)) (lengt
 pub pairs-inside : (t : List ℕ) → Accepted t → (ds : List ℕ) → Choice t ds → Inside (nodesIn t) (pairsOf t ds)
 pairs-inside t g ds c a b m =
     let s = pairs-mean (leftTermsOf t) (rightTermsOf t) ds (λ i q. c .left-digits i q .0) a b .0 m in
-    (rw (nodes-long t, s .5) (g .each-left-term (s .0) (s .2)), rw (nodes-long t, s .6) (g .each-right-term (s .1) (s .3)))
+    (rw (s .5) (left-node t g (s .0) (s .2)), rw (s .6) (right-node t g (s .1) (s .3)))
+
+-- so the outcome decides whether they have a unifier
+pub choice-decided : (t : List ℕ) → Accepted t → (ds : List ℕ) → Choice t ds → outcome (nodesIn t) (pairsOf t ds) ≡ unified ↔ Unifiable (nodesIn t) (pairsOf t ds)
+choice-decided t g ds c = outcome-unified (nodesIn t) (well-formed t g) (pairsOf t ds) (pairs-inside t g ds c)
 
 -- the digits of an entry are those of its choice
 pub entry-digits : (t ds : List ℕ) → Choice t ds → digitsOf t (entryOf t ds) ≡ ds
@@ -122,13 +126,13 @@ module _ (t : List ℕ) where
     listed-from e m =
         let s = kept-from (λ ds. outcome (nodesIn t) (pairsOf t ds)) (entryOf t) (choicesOf t) e m in
         let c = is-choice (s .0) .0 (s .1) in
-        (s .0, (c, outcome-unified (nodesIn t) (well-formed t g) (pairsOf t (s .0)) (pairs-inside t g (s .0) c) .0 (s .2)), s .3)
+        (s .0, (c, choice-decided t g (s .0) c .0 (s .2)), s .3)
 
     in-listing : (ds : List ℕ) → Admissible t ds → List·Memᴰ (entryOf t ds) (completeListing t)
     unfolding completeListing
     in-listing ds (c, u) =
         in-kept (λ es. outcome (nodesIn t) (pairsOf t es)) (entryOf t) (choicesOf t) ds (is-choice ds .1 c)
-        (outcome-unified (nodesIn t) (well-formed t g) (pairsOf t ds) (pairs-inside t g ds c) .1 u)
+        (choice-decided t g ds c .1 u)
 
     -- what is computed is the complete listing
     pub listing-complete : IsCompleteListing t (completeListing t)
@@ -187,7 +191,7 @@ module _ (t e : List ℕ) (g : Accepted t) (m : List·Memᴰ e (completeListing 
 
   unified-pairs : outcome (nodesIn t) pairsIn ≡ unified
   unified-pairs =
-      outcome-unified (nodesIn t) (well-formed t g) pairsIn (pairs-inside t g (digitsOf t e) choice) .1
+      choice-decided t g (digitsOf t e) choice .1
       (listing-digits t g .1 (digitsOf t e) .0 (Memᴰ·map (digitsOf t) m) .1)
 
   -- the binding words of an entry are those of its pairs

@@ -22,7 +22,7 @@ use Rattle.terms.proofs.MultisetLaws.{same-member, same-sym}
 use Rattle.unify.specs.Node.{tabulate, nodesIn}
 use Rattle.unify.specs.Unifier.{value}
 use Rattle.unify.specs.Computed.Unifying.{unifier}
-use Rattle.unify.proofs.TableLaws.{nodes-long, well-formed}
+use Rattle.unify.proofs.TableLaws.{well-formed, left-node, right-node}
 use Rattle.unify.proofs.NodeLaws.{value-after}
 use Rattle.listing.specs.Choice.{inLeft, inRight}
 use Rattle.listing.specs.Entry.{pairsOf, digitsOf}
@@ -138,11 +138,11 @@ module _ (t : List ℕ) (ok : Accepted t) (A : Assignment) (e : List ℕ) (n : I
   -- in an instance of an entry, a left term with digit m + q is in the multiset of right label q
   pub instance-right : (i q : ℕ) → i < length (leftTermsOf t) → q < length (rightLabelsOf t) → word (digitsOf t e) i ≡ length (rightTermsOf t) + suc q → List·Memᴰ (value (nodesIn t) (A .variables) (word (leftTermsOf t) i)) (A .labels (word (rightLabelsOf t) q))
   instance-right i q h l d =
-      rw (value-after (nodesIn t) (well-formed t ok) (n .unifier) (A .variables) (n .after) (n .variables) (word (leftTermsOf t) i) (rw (nodes-long t) (ok .each-left-term i h)))
+      rw (value-after (nodesIn t) (well-formed t ok) (n .unifier) (A .variables) (n .after) (n .variables) (word (leftTermsOf t) i) (left-node t ok i h))
       (in-its-right (leftTermsOf t) (leftLabelsOf t) (rightTermsOf t) (rightLabelsOf t) (digitsOf t e) (λ a. sub (n .after) (value (nodesIn t) (n .unifier) a)) (A .labels) (n .labels) i q h l d)
 
   -- and a right term with digit p in that of left label p
   pub instance-left : (j p : ℕ) → j < length (rightTermsOf t) → p < length (leftLabelsOf t) → word (drop (length (leftTermsOf t)) (digitsOf t e)) j ≡ suc p → List·Memᴰ (value (nodesIn t) (A .variables) (word (rightTermsOf t) j)) (A .labels (word (leftLabelsOf t) p))
   instance-left j p h l d =
-      rw (value-after (nodesIn t) (well-formed t ok) (n .unifier) (A .variables) (n .after) (n .variables) (word (rightTermsOf t) j) (rw (nodes-long t) (ok .each-right-term j h)))
+      rw (value-after (nodesIn t) (well-formed t ok) (n .unifier) (A .variables) (n .after) (n .variables) (word (rightTermsOf t) j) (right-node t ok j h))
       (in-its-left (leftTermsOf t) (leftLabelsOf t) (rightTermsOf t) (rightLabelsOf t) (digitsOf t e) (λ a. sub (n .after) (value (nodesIn t) (n .unifier) a)) (A .labels) (n .labels) j p h l d)

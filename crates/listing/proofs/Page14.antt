@@ -18,16 +18,16 @@ use Rattle.unify.specs.Node.{nodesIn, Present}
 use Rattle.unify.specs.Unifier.{value, Unifies}
 use Rattle.unify.specs.Outcome.{unified}
 use Rattle.unify.specs.Computed.Unifying.{outcome, unifier}
-use Rattle.unify.proofs.TableLaws.{nodes-long, well-formed}
+use Rattle.unify.proofs.TableLaws.{well-formed, left-node, right-node}
 use Rattle.unify.proofs.NodeLaws.{value-after}
-use Rattle.unify.proofs.OutcomeLaws.{outcome-unified, unifier-most-general, words-readable, reading-most-general}
+use Rattle.unify.proofs.OutcomeLaws.{unifier-most-general, words-readable, reading-most-general}
 use Rattle.listing.specs.Entry.{pairsOf, Admissible, entryOf}
 use Rattle.listing.specs.Assignment.{Assignment, side, EqualSides}
 use Rattle.listing.specs.Instance.{Filled, Instance}
 use Rattle.listing.specs.Answer.{listed, lentAfter, entriesIn}
 use Rattle.listing.specs.Page14.{Page14}
 use Rattle.listing.specs.Computed.Listing.{completeListing}
-use Rattle.listing.proofs.EntryLaws.{Choice, pairs-inside, entry-digits, entry-bindings, listing-complete, listing-one}
+use Rattle.listing.proofs.EntryLaws.{Choice, pairs-inside, choice-decided, entry-digits, entry-bindings, listing-complete, listing-one}
 use Rattle.listing.proofs.FilledLaws.{filled-same}
 use Rattle.listing.proofs.AnswerLaws.{finished-exactly, left-finished}
 use Rattle.listing.proofs.LentLaws.{entries-lie}
@@ -45,16 +45,6 @@ module _ (t : List ℕ) (ok : Accepted t) (A : Assignment) where
       let b = words-count u (A .labels) labels in
       omega (arith, a, b)
 
-  left-node : (i : ℕ) → i < length (leftTermsOf t) → word (leftTermsOf t) i < length (nodesIn t)
-  left-node i h = rw (nodes-long t) (ok .each-left-term i h)
-
-  right-node : (j : ℕ) → j < length (rightTermsOf t) → word (rightTermsOf t) j < length (nodesIn t)
-  right-node j h = rw (nodes-long t) (ok .each-right-term j h)
-
-  -- the pairs of an admissible choice are unified
-  unified-there : (ds : List ℕ) → Admissible t ds → outcome (nodesIn t) (pairsOf t ds) ≡ unified
-  unified-there ds a = outcome-unified (nodesIn t) (well-formed t ok) (pairsOf t ds) (pairs-inside t ok ds (a .0)) .1 (a .1)
-
   -- what comes after a unifier gives nodes the values of the assignment
   after-values : (σ ρ : Substitution) → ((x : ℕ) → Present (nodesIn t) x → A .variables x ≡ sub ρ (σ x)) → (a : ℕ) → a < length (nodesIn t) → value (nodesIn t) (A .variables) a ≡ sub ρ (value (nodesIn t) σ a)
   after-values σ ρ h = value-after (nodesIn t) (well-formed t ok) σ (A .variables) ρ h
@@ -66,10 +56,10 @@ module _ (t : List ℕ) (ok : Accepted t) (A : Assignment) where
       let ρ = n .after in
       let v = value (nodesIn t) (A .variables) in
       let w : ℕ → Term = λ c. sub ρ (value (nodesIn t) σ c) in
-      let g = reading-most-general (nodesIn t) (well-formed t ok) (pairsOf t ds) (pairs-inside t ok ds (a .0)) (unified-there ds a) σ (rw (entry-bindings t ds (a .0)) at (n .read)) in
+      let g = reading-most-general (nodesIn t) (well-formed t ok) (pairsOf t ds) (pairs-inside t ok ds (a .0)) (choice-decided t ok ds (a .0) .1 (a .1)) σ (rw (entry-bindings t ds (a .0)) at (n .read)) in
       let f = filled-equal (leftTermsOf t) (leftLabelsOf t) (rightTermsOf t) (rightLabelsOf t) w (A .labels) ds (a .0) (λ b c m. ap (sub ρ) (g .unifies b c m)) (rw (entry-digits t ds (a .0)) at (n .labels)) u in
-      let l = ap (occurrences u) (map-same v w (leftTermsOf t) (λ i h. after-values σ ρ (n .variables) (word (leftTermsOf t) i) (left-node i h))) in
-      let r = ap (occurrences u) (map-same v w (rightTermsOf t) (λ j h. after-values σ ρ (n .variables) (word (rightTermsOf t) j) (right-node j h))) in
+      let l = ap (occurrences u) (map-same v w (leftTermsOf t) (λ i h. after-values σ ρ (n .variables) (word (leftTermsOf t) i) (left-node t ok i h))) in
+      let r = ap (occurrences u) (map-same v w (rightTermsOf t) (λ j h. after-values σ ρ (n .variables) (word (rightTermsOf t) j) (right-node t ok j h))) in
       let x = side-count u (leftTermsOf t) (leftLabelsOf t) in
       let y = side-count u (rightTermsOf t) (rightLabelsOf t) in
       omega (arith, f, l, r, x, y)
@@ -85,7 +75,7 @@ module _ (t : List ℕ) (ok : Accepted t) (A : Assignment) where
           a = (c, (A .variables, s))
 
           o : outcome (nodesIn t) (pairsOf t ds) ≡ unified
-          o = unified-there ds a
+          o = choice-decided t ok ds c .1 (A .variables, s)
 
           σ : Substitution
           σ = unifier (nodesIn t) (pairsOf t ds)
@@ -97,7 +87,7 @@ module _ (t : List ℕ) (ok : Accepted t) (A : Assignment) where
                 read = rw (entry-bindings t ds c) (words-readable (nodesIn t) (well-formed t ok) (pairsOf t ds) (pairs-inside t ok ds c) o);
                 after = ρ;
                 variables = h;
-                labels = rw (entry-digits t ds c) (filled-same (leftTermsOf t) (leftLabelsOf t) (rightTermsOf t) (rightLabelsOf t) ds (value (nodesIn t) (A .variables)) (λ b. sub ρ (value (nodesIn t) σ b)) (A .labels) (λ i b. after-values σ ρ h (word (leftTermsOf t) i) (left-node i b)) (λ j b. after-values σ ρ h (word (rightTermsOf t) j) (right-node j b)) f);
+                labels = rw (entry-digits t ds c) (filled-same (leftTermsOf t) (leftLabelsOf t) (rightTermsOf t) (rightLabelsOf t) ds (value (nodesIn t) (A .variables)) (λ b. sub ρ (value (nodesIn t) σ b)) (A .labels) (λ i b. after-values σ ρ h (word (leftTermsOf t) i) (left-node t ok i b)) (λ j b. after-values σ ρ h (word (rightTermsOf t) j) (right-node t ok j b)) f);
               }
 
 -- "any assignment [..] put into both sides, makes them equal exactly when it is an instance of one of these entries"

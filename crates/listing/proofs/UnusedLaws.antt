@@ -66,11 +66,8 @@ unused-taken v t j (suc i) d used (r ∷ rs) h e f =
 pub unused-place : (j : ℕ) (used rs : List ℕ) (a : ℕ) → List·Memᴰ a (unused j used rs) → (i : ℕ) × (i < length rs) × (among (suc (j + i)) used ≡ false) × (a ≡ word rs i)
 unfolding unused
 unused-place j used [] a m = absurd (List·Memᴰ·not-nil m)
-unused-place j used (r ∷ rs) a m = pick (among (suc j) used) refl (rw e at m) (unused-place (suc j) used rs a)
+unused-place j used (r ∷ rs) a m = pick (among (suc j) used) refl m (unused-place (suc j) used rs a)
   where
-    e : unused j used (r ∷ rs) ≡ cond (among (suc j) used) (unused (suc j) used rs) (r ∷ unused (suc j) used rs)
-    e = refl
-
     Placed : Type 0
     Placed = (i : ℕ) × (i < length (r ∷ rs)) × (among (suc (j + i)) used ≡ false) × (a ≡ word (r ∷ rs) i)
 

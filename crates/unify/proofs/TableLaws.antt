@@ -9,7 +9,7 @@ use native.Mathlib.Omega.{arith}
 use borrow.Author.Tests.{eq-eqb, ne-eqb}
 use lib.ListN.{length, getD, take, drop, length-drop}
 use lib.Seq.{length-take-le, getD-take, getD-drop, ext-getD}
-use Rattle.table.specs.Layout.{nodesOf, argumentsOf, kindOf, nameOf, firstOf, countOf, nodeCount, argumentOf}
+use Rattle.table.specs.Layout.{word, nodesOf, argumentsOf, leftTermsOf, rightTermsOf, kindOf, nameOf, firstOf, countOf, nodeCount, argumentOf}
 use Rattle.table.specs.Code.Accepted.{Accepted, RightNode}
 use Rattle.table.proofs.AcceptedLaws.{arguments-inside}
 use Rattle.unify.specs.Node.{variable, application, readNode, nodesIn, nodeAt}
@@ -123,3 +123,10 @@ well-formed t g =
           let d : a ≡ argumentOf (nodesOf t) (argumentsOf t) i (s .0) = s .2 ∙ getD-drop (firstOf (nodesOf t) i) (argumentsOf t) (s .0) 0 in
           rw d (g .each-argument i (s .0) (rw (nodes-long t) at h) (s .1));
     }
+
+-- the terms of an accepted table are nodes
+pub left-node : (t : List ℕ) → Accepted t → (i : ℕ) → i < length (leftTermsOf t) → word (leftTermsOf t) i < length (nodesIn t)
+left-node t a i h = rw (nodes-long t) (a .each-left-term i h)
+
+pub right-node : (t : List ℕ) → Accepted t → (j : ℕ) → j < length (rightTermsOf t) → word (rightTermsOf t) j < length (nodesIn t)
+right-node t a j h = rw (nodes-long t) (a .each-right-term j h)
