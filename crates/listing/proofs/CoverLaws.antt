@@ -184,7 +184,7 @@ module _ (v : ℕ → Term) where
                 back c =
                     record {
                       digits = (m + suc (o .place)) ∷ c .digits;
-                      are = next {d = m + suc (o .place)} (omega arith) (omega (arith, o .below)) (λ x y. absurd (omega (arith, x))) (c .are);
+                      are = next {d = m + suc (o .place)} (omega arith) (omega (arith, o .below)) (λ x (y : List·Memᴰ (m + suc (o .place)) used). absurd (omega (arith, x))) (c .are);
                       equal-pairs = λ x y z. c .equal-pairs x y (rw (without-pair rs a ls (m + suc (o .place)) (c .digits) (omega arith)) at z);
                       leftRest = c .leftRest;
                       rightRest = c .rightRest;
