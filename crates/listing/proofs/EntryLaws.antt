@@ -1,6 +1,6 @@
 -- The complete listing is what document 01 says, the only such list, and what its entries are made of.
 -- The pairs of a choice are of nodes, so that the outcome decides whether they have a unifier. Assumes nothing.
-use Prim.Native.Nat.{ℕ, _+_}
+use Prim.Native.Nat.{ℕ}
 use mathlib.Core.List.{List, [], _∷_, _++_, map, flatMap, List·Memᴰ, List·Memᴰ·head, List·Memᴰ·tail, List·Memᴰ·not-nil, Memᴰ·append-right, Memᴰ·map, Memᴰ·of-map}
 use mathlib.Core.Logic.{_↔_}
 use mathlib.Core.Path.{_≡_, refl, sym, ap, _∙_}
@@ -16,7 +16,6 @@ use Rattle.unify.specs.Code.Given.{Inside}
 use Rattle.unify.specs.Words.{Rising, end, before, AreWords, Reads}
 use Rattle.unify.specs.Outcome.{Outcome, unified, clash, occurs}
 use Rattle.unify.specs.Computed.Unifying.{outcome, unifier, wordsOf}
-use Rattle.unify.specs.Answer.{variableCount}
 use Rattle.unify.proofs.RisingLaws.{rising-map, rising-same, rising-once}
 use Rattle.unify.proofs.TableLaws.{well-formed, left-node, right-node}
 use Rattle.unify.proofs.AnswerLaws.{words-long}
@@ -24,6 +23,7 @@ use Rattle.unify.proofs.ReadingLaws.{reads-one}
 use Rattle.unify.proofs.OutcomeLaws.{outcome-unified, words-readable, reading-most-general, words-least}
 use Rattle.listing.specs.Choice.{IsChoice, Before}
 use Rattle.listing.specs.Entry.{pairsOf, Admissible, entryOf, digitsOf, bindingsOf, IsCompleteListing}
+use Rattle.listing.specs.Answer.{entryWords}
 use Rattle.listing.specs.Computed.Listing.{kept, choicesOf, completeListing}
 use Rattle.listing.proofs.PlaceLaws.{pairs-mean}
 use Rattle.listing.proofs.ChoiceLaws.{choices-are, choices-rise, before-one-way}
@@ -172,8 +172,8 @@ module _ (t : List ℕ) where
         made e (ds, a, q) = ap (λ (f : List ℕ). entryOf t (digitsOf t f)) q ∙ ap (entryOf t) (entry-digits t ds (a .0)) ∙ sym q
 
 -- "With V variables present an entry is n + m + V words"
-pub entry-long : (t e : List ℕ) → Accepted t → List·Memᴰ e (completeListing t) → length e ≡ length (leftTermsOf t) + length (rightTermsOf t) + variableCount t
-unfolding entryOf
+pub entry-long : (t e : List ℕ) → Accepted t → List·Memᴰ e (completeListing t) → length e ≡ entryWords t
+unfolding entryOf entryWords
 entry-long t e g m =
     let s = listed-from t g e m in
     let l = length-append (s .0) (wordsOf (nodesIn t) (pairsOf t (s .0))) in

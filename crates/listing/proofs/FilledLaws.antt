@@ -1,32 +1,21 @@
 -- Labels that are filled. Rests that together equal nothing are empty, so that document 01 need not say so of them: a term of one of them would be a term of all together.
 -- Only the values of the terms of both sides matter. Assumes nothing.
-use Prim.Native.Nat.{ℕ, zero, suc, _<_}
+use Prim.Native.Nat.{ℕ, _<_}
 use mathlib.Core.List.{List, [], _∷_, _++_, map, flatten, List·Memᴰ, List·Memᴰ·head, List·Memᴰ·tail, Memᴰ·append-left, Memᴰ·append-right, List·Memᴰ·not-nil}
-use mathlib.Core.Path.{_≡_, refl, ap}
-use native.Mathlib.Decide.{decLt}
-use native.Mathlib.Omega.{arith}
+use mathlib.Core.Path.{_≡_, refl}
 use lib.ListN.{length, drop}
 use Rattle.table.specs.Layout.{word}
 use Rattle.terms.specs.Term.{Term}
 use Rattle.terms.specs.Multiset.{Same}
 use Rattle.terms.proofs.MultisetLaws.{same-member, same-sym}
 use Rattle.unify.specs.Node.{tabulate}
+use Rattle.unify.proofs.ListLaws.{tabulate-member}
 use Rattle.listing.specs.Choice.{inLeft, inRight}
 use Rattle.listing.specs.Instance.{Filled}
 use Rattle.listing.proofs.PutLaws.{with-same}
 use Rattle.listing.proofs.BalanceLaws.{leftDigit, rightDigit}
 
--- each list is one of those put together
-tabulated : {A : Type 0} (n : ℕ) (f : ℕ → A) (p : ℕ) → p < n → List·Memᴰ (f p) (tabulate n f)
-unfolding tabulate
-tabulated zero f p h = absurd (omega arith)
-tabulated {A} (suc n) f p h = go (tabulated n f p) (decLt p n)
-  where
-    go : (p < n → List·Memᴰ (f p) (tabulate n f)) → Dec (p < n) → List·Memᴰ (f p) (tabulate n f ++ (f n ∷ []))
-    go r (yes q) = Memᴰ·append-left (f n ∷ []) (r q)
-    go r (no q) = let e : p ≡ n = omega arith in Memᴰ·append-right (tabulate n f) (List·Memᴰ·head (ap f e))
-
--- what is in one of them is in all together
+-- what is in one of several lists is in all together
 flattened : {A : Type 0} (x : A) (xs : List A) (xss : List (List A)) → List·Memᴰ xs xss → List·Memᴰ x xs → List·Memᴰ x (flatten xss)
 unfolding flatten
 flattened x xs (ys ∷ xss) (List·Memᴰ·head e) m = Memᴰ·append-left (flatten xss) (rw e at m)
@@ -40,7 +29,7 @@ rests-empty k rest rest′ h p l = go (rest p) refl
     go : (us : List Term) → rest p ≡ us → us ≡ []
     go [] e = refl
     go (u ∷ us) e =
-        absurd (List·Memᴰ·not-nil (same-member (flatten (tabulate k rest)) [] h u (flattened u (rest p) (tabulate k rest) (tabulated k rest p l) (rw e (List·Memᴰ·head refl)))))
+        absurd (List·Memᴰ·not-nil (same-member (flatten (tabulate k rest)) [] h u (flattened u (rest p) (tabulate k rest) (tabulate-member k rest p l) (rw e (List·Memᴰ·head refl)))))
 
 -- labels are filled where their terms and rests are right and the rests balance: the two clauses on empty rests follow
 pub filled : (ls ks rs qs ds : List ℕ) (v : ℕ → Term) (labels : ℕ → List Term) (leftRest rightRest : ℕ → List Term) → ((p : ℕ) → p < length ks → Same (labels (word ks p)) (map v (inLeft ls rs ds p) ++ leftRest p)) → ((q : ℕ) → q < length qs → Same (labels (word qs q)) (map v (inRight ls rs ds q) ++ rightRest q)) → Same (flatten (tabulate (length ks) leftRest)) (flatten (tabulate (length qs) rightRest)) → Filled ls ks rs qs ds v labels

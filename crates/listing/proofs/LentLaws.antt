@@ -55,7 +55,7 @@ taken-in (suc k) (y ∷ xs) x (List·Memᴰ·tail m) = List·Memᴰ·tail (taken
 
 -- the entries that the answer counts lie in the lent words, one after the other from the first word on
 pub entries-lie : (t lent : List ℕ) → Accepted t → entriesIn t (listed t (length lent) .1) (lentAfter t lent) ≡ entriesLeft t (length lent)
-unfolding entriesIn lentAfter listed entryWords
+unfolding entriesIn lentAfter listed
 entries-lie t lent a =
     cut-out (entryWords t) (entriesLeft t (length lent))
     (λ e m. entry-long t e a (taken-in (listed t (length lent) .1) (completeListing t) e (rw (entries-left t (length lent)) at m)))

@@ -2,15 +2,15 @@
 -- So the first node with a property is the least. Assumes nothing.
 use Prim.Native.Nat.{ℕ, zero, suc, _<_, _≤_}
 use mathlib.Core.Bool.{Bool, true, false, cond, false≢true}
-use mathlib.Core.List.{List, [], _∷_, _++_, List·Memᴰ, List·Memᴰ·head, List·Memᴰ·tail, Memᴰ·append-left, Memᴰ·append-right, List·Memᴰ·append-cases, List·Memᴰ·cases-cons, List·Memᴰ·eq-of-singleton, List·Memᴰ·not-nil}
+use mathlib.Core.List.{List, [], _∷_, List·Memᴰ, List·Memᴰ·head, List·Memᴰ·tail, List·Memᴰ·append-cases, List·Memᴰ·cases-cons, List·Memᴰ·eq-of-singleton, List·Memᴰ·not-nil}
 use mathlib.Core.Logic.{_⊎_, inl, inr}
 use mathlib.Core.Path.{_≡_, refl, sym, ap}
-use native.Mathlib.Decide.{decLt}
 use native.Mathlib.Omega.{arith}
 use borrow.Author.Tests.{eqb-true, eq-eqb}
 use lib.ListN.{length}
 use Rattle.unify.specs.Node.{Node, variable, application, nodeAt, tabulate, Present}
 use Rattle.unify.specs.Words.{Rising, end, before, Least}
+use Rattle.unify.proofs.ListLaws.{tabulate-member}
 use Rattle.unify.proofs.RisingLaws.{rising-append}
 use Rattle.unify.specs.Computed.Solution.{firstWith, leastNode, isApplication, isVariable, isNodeOf, nodeOf}
 
@@ -65,13 +65,7 @@ first-least p d (y ∷ ys) (before b s) x m h = go (firstWith p d (y ∷ ys)) (f
 
 -- the numbers below n
 below : (n i : ℕ) → i < n → List·Memᴰ i (tabulate n (λ i. i))
-unfolding tabulate
-below zero i h = absurd (omega arith)
-below (suc n) i h = go (below n i) (decLt i n)
-  where
-    go : (i < n → List·Memᴰ i (tabulate n (λ i. i))) → Dec (i < n) → List·Memᴰ i (tabulate n (λ i. i) ++ (n ∷ []))
-    go r (yes q) = Memᴰ·append-left (n ∷ []) (r q)
-    go r (no q) = let e : i ≡ n = omega arith in Memᴰ·append-right (tabulate n (λ i. i)) (List·Memᴰ·head e)
+below n i h = tabulate-member n (λ i. i) i h
 
 is-below : (n i : ℕ) → List·Memᴰ i (tabulate n (λ i. i)) → i < n
 unfolding tabulate

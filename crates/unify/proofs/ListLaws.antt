@@ -29,6 +29,16 @@ tabulate-at {A} (suc n) f d i h = go (tabulate-at n f d i) (decLt i n)
         let e : n ≡ i = omega arith in
         getD-at (tabulate n f) (f n) [] d i (tabulate-length n f ∙ e) ∙ ap f e
 
+-- what is made of a number below n is in the list
+pub tabulate-member : {A : Type 0} (n : ℕ) (f : ℕ → A) (i : ℕ) → i < n → List·Memᴰ (f i) (tabulate n f)
+unfolding tabulate
+tabulate-member zero f i h = absurd (omega arith)
+tabulate-member {A} (suc n) f i h = go (tabulate-member n f i) (decLt i n)
+  where
+    go : (i < n → List·Memᴰ (f i) (tabulate n f)) → Dec (i < n) → List·Memᴰ (f i) (tabulate n f ++ (f n ∷ []))
+    go r (yes q) = Memᴰ·append-left (f n ∷ []) (r q)
+    go r (no q) = let e : i ≡ n = omega arith in Memᴰ·append-right (tabulate n f) (List·Memᴰ·head (ap f e))
+
 pub gathered : {A : Type 0} (n : ℕ) (f : ℕ → List A) (x : A) (i : ℕ) → i < n → List·Memᴰ x (f i) → List·Memᴰ x (gather n f)
 unfolding gather
 gathered zero f x i h m = absurd (omega arith)
