@@ -2,7 +2,7 @@
 -- By cases on the refusal and on whether all words fit, and by induction on the entries. Assumes nothing.
 use Prim.Native.Nat.{ℕ, zero, suc, _-_, _<_, _≤_}
 use mathlib.Core.Bool.{Bool, true, false, cond}
-use mathlib.Core.List.{List, [], _∷_, _++_, flatten}
+use mathlib.Core.List.{List, [], _∷_, flatten}
 use mathlib.Core.Logic.{_↔_, _⊎_, inl, inr}
 use mathlib.Core.Path.{_≡_, refl, sym, ap, _∙_}
 use native.Mathlib.Decide.{decLt}
@@ -12,9 +12,9 @@ use lib.Dec.{eqb, leb}
 use lib.ListN.{length, take, drop, length-append, length-drop}
 use lib.Seq.{take-length, take-append-seam, drop-append-seam}
 use Rattle.table.specs.Code.Accepted.{Accepted}
-use Rattle.table.specs.Refusal.{conditions, firstHeld, refusal}
-use Rattle.table.proofs.RefusalLaws.{First, here, later, none, first-means, refused, refusal-most}
-use Rattle.table.proofs.AcceptedLaws.{pass, accepted}
+use Rattle.table.specs.Refusal.{firstHeld, refusal}
+use Rattle.table.proofs.RefusalLaws.{here, later, none, first-means, first-before, refused, refusal-most}
+use Rattle.table.proofs.AcceptedLaws.{accepted, first-after}
 use Rattle.table.proofs.AnswerLaws.{number-apart, number-within, numbered}
 use Rattle.listing.specs.declared.Listing.{Listing}
 use Rattle.listing.specs.declared.Listing.the-variants.{Finished, Full, Refused}
@@ -102,20 +102,6 @@ fitting-less lent es h = go (decLt (length (fitting lent es)) (length es))
 -- what is taken fits
 fitting-fits : (lent : ℕ) (es : List (List ℕ)) → length (flatten (fitting lent es)) ≤ lent
 fitting-fits lent es = rw (fitting-first lent es) (fitting-greatest lent es .fits)
-
--- a condition that holds comes before all that are added
-first-before : {n : ℕ} {cs : List (ℕ × Bool)} (ds : List (ℕ × Bool)) → 0 < n → First n cs → First n (cs ++ ds)
-first-before ds h (here e q) = here e q
-first-before ds h (later q f) = later q (first-before ds h f)
-first-before ds h (none e) = absurd (omega arith)
-
-skip : {n m : ℕ} {b : Bool} {cs ds : List (ℕ × Bool)} → (First 0 cs → First n ds) → First 0 ((suc m, b) ∷ cs) → First n ((suc m, b) ∷ ds)
-skip f z = let p = pass z in later (p .0) (f (p .1))
-
--- where none of a table's conditions holds, the first is among those that are added
-first-after : (n : ℕ) (t : List ℕ) (ds : List (ℕ × Bool)) → First 0 (conditions t) → First n ds → First n (conditions t ++ ds)
-unfolding conditions
-first-after n t ds z f = skip (skip (skip (skip (skip (skip (skip (λ y. f))))))) z
 
 module _ (t : List ℕ) (lent : ℕ) where
   -- a call leaves no entry where the table is refused

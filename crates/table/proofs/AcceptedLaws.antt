@@ -33,6 +33,14 @@ pub pass : {n : ℕ} {b : Bool} {cs : List (ℕ × Bool)} → First 0 ((suc n, b
 pass (here e h) = absurd (omega arith)
 pass (later h f) = (h, f)
 
+skip : {n m : ℕ} {b : Bool} {cs ds : List (ℕ × Bool)} → (First 0 cs → First n ds) → First 0 ((suc m, b) ∷ cs) → First n ((suc m, b) ∷ ds)
+skip f z = let p = pass z in later (p .0) (f (p .1))
+
+-- where none of a table's conditions holds, the first is among those that are added
+pub first-after : (n : ℕ) (t : List ℕ) (ds : List (ℕ × Bool)) → First 0 (conditions t) → First n ds → First n (conditions t ++ ds)
+unfolding conditions
+first-after n t ds z f = skip (skip (skip (skip (skip (skip (skip (λ y. f))))))) z
+
 -- none of a table's conditions holds, nor any of others after them
 clear-first : (t : List ℕ) (cs : List (ℕ × Bool)) → First 0 (conditions t ++ cs) → Clear t × First 0 cs
 unfolding conditions

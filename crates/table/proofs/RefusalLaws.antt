@@ -1,9 +1,9 @@
 -- A refusal is given exactly if its condition holds and none before it. By induction on the conditions. Assumes nothing.
-use Prim.Native.Nat.{ℕ, _≤_}
+use Prim.Native.Nat.{ℕ, _<_, _≤_}
 use mathlib.Core.Bool.{Bool, true, false}
 use mathlib.Core.Path.{_≡_, refl, sym}
 use mathlib.Core.Logic.{_↔_}
-use mathlib.Core.List.{List, [], _∷_}
+use mathlib.Core.List.{List, [], _∷_, _++_}
 use native.Mathlib.Omega.{arith}
 use lib.ListN.{drop}
 use Rattle.table.specs.Refusal.{conditions, firstHeld, refusal}
@@ -32,6 +32,12 @@ held-first n (c ∷ cs) e = pick (c .1) refl (held-first n cs)
 -- the number is n exactly if condition n holds and none before it
 pub first-means : (n : ℕ) (cs : List (ℕ × Bool)) → firstHeld cs ≡ n ↔ First n cs
 first-means n cs = (held-first n cs, first-held n)
+
+-- a condition that holds comes before all that are added
+pub first-before : {n : ℕ} {cs : List (ℕ × Bool)} (ds : List (ℕ × Bool)) → 0 < n → First n cs → First n (cs ++ ds)
+first-before ds h (here e q) = here e q
+first-before ds h (later q f) = later q (first-before ds h f)
+first-before ds h (none e) = absurd (omega arith)
 
 -- refusal n is given exactly if condition n holds and none before it
 pub refused : (t : List ℕ) (n : ℕ) → refusal t ≡ n ↔ First n (conditions t)
