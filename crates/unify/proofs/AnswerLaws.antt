@@ -19,7 +19,7 @@ use Rattle.table.proofs.AcceptedLaws.{pass, accepted-first}
 use Rattle.table.proofs.AnswerLaws.{number-apart, numbered}
 use Rattle.terms.specs.Substitution.{Substitution}
 use Rattle.unify.specs.declared.Unification.{Unification}
-use Rattle.unify.specs.Node.{nodesIn, Present}
+use Rattle.unify.specs.Node.{Node, nodesIn, Present}
 use Rattle.unify.specs.Unifier.{value, Unifies, MostGeneral}
 use Rattle.unify.specs.Code.Given.{Inside}
 use Rattle.unify.specs.Closure.{Clash, Occurs}
@@ -91,9 +91,14 @@ enough : (t : List ℕ) (a b lent : ℕ) → unification t a b lent ≡ ended un
 enough t a b lent e = answered-exactly t a b lent unified .0 e .0 .enough
 
 -- there is a binding word for each variable
+pub words-counted : (ns : List Node) (ps : List (ℕ × ℕ)) → length (wordsOf ns ps) ≡ length (variablesOf ns)
+unfolding wordsOf bindingWords
+words-counted ns ps = length-map (variablesOf ns) (wordOf ns (unifier ns ps))
+
+-- and so it is of a table
 pub words-long : (t : List ℕ) (ps : List (ℕ × ℕ)) → length (wordsOf (nodesIn t) ps) ≡ variableCount t
-unfolding wordsOf bindingWords variableCount
-words-long t ps = length-map (variablesOf (nodesIn t)) (wordOf (nodesIn t) (unifier (nodesIn t) ps))
+unfolding variableCount
+words-long t ps = words-counted (nodesIn t) ps
 
 -- no call changes how many words are lent
 pub lent-long : (t : List ℕ) (a b : ℕ) (lent : List ℕ) → length (lentAfter t a b lent) ≡ length lent

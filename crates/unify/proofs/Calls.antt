@@ -2,8 +2,8 @@
 use Prim.Native.Nat.{ℕ}
 use mathlib.Core.List.{List, [], _∷_, map, zip, zipWith}
 use mathlib.Core.Path.{_≡_, refl}
-use lib.ListN.{length}
 use native.Mathlib.Decide.{ℕ-discrete}
+use lib.ListN.{length}
 use Rattle.table.specs.Layout.{countsBefore}
 use Rattle.table.specs.Some.{someBelow}
 use Rattle.table.specs.Conditions.{tooFewWords, endBefore, offsetIsWrong, brokenPair, sectionIsLong, overLimit, rightVariable, startOf, rightApplication, rightNode, nodeIsWrong, nodesAreWrong, wrongNode, argumentIsWrong, runIsWrong, wrongArgument, termIsWrong, wrongTerm, labelsAreEqual, labelIsWrong, wrongLabel}
@@ -31,12 +31,12 @@ y-x =
     12 ∷ 8 ∷ 20 ∷ 0 ∷ 20 ∷ 0 ∷ 20 ∷ 0 ∷ 20 ∷ 0 ∷ 20 ∷ 0 ∷ 0 ∷ 1 ∷ 0 ∷ 0 ∷ 0 ∷ 0 ∷ 0 ∷ 0 ∷ []
 
 -- 0 variable 64
-abbrev pub wrong-name : List ℕ
+abbrev wrong-name : List ℕ
 wrong-name =
     12 ∷ 4 ∷ 16 ∷ 0 ∷ 16 ∷ 0 ∷ 16 ∷ 0 ∷ 16 ∷ 0 ∷ 16 ∷ 0 ∷ 0 ∷ 64 ∷ 0 ∷ 0 ∷ []
 
 -- 0 x, 1 y, 2 f(y), 3 f(x), 4 z, 5 p(x, z), 6 p(y, f(x))
-abbrev pub equal-values : List ℕ
+abbrev equal-values : List ℕ
 equal-values =
     12 ∷ 28 ∷ 40 ∷ 6 ∷ 46 ∷ 0 ∷ 46 ∷ 0 ∷ 46 ∷ 0 ∷ 46 ∷ 0 ∷ 0 ∷ 0 ∷ 0 ∷ 0 ∷ 0 ∷ 1 ∷ 0 ∷ 0 ∷ 1 ∷ 3 ∷ 0 ∷ 1 ∷ 1 ∷ 3 ∷ 1 ∷ 1 ∷ 0 ∷ 2 ∷ 0 ∷ 0 ∷ 1 ∷ 5 ∷ 2 ∷ 2 ∷ 1 ∷ 5 ∷ 4 ∷ 2 ∷ 1 ∷ 0 ∷ 0 ∷ 4 ∷ 1 ∷ 3 ∷ []
 
@@ -51,12 +51,12 @@ apart =
     12 ∷ 12 ∷ 24 ∷ 0 ∷ 24 ∷ 0 ∷ 24 ∷ 0 ∷ 24 ∷ 0 ∷ 24 ∷ 0 ∷ 1 ∷ 1 ∷ 0 ∷ 0 ∷ 0 ∷ 63 ∷ 0 ∷ 0 ∷ 0 ∷ 4 ∷ 0 ∷ 0 ∷ []
 
 -- 0 x, 1 x
-abbrev pub x-twice : List ℕ
+abbrev x-twice : List ℕ
 x-twice =
     12 ∷ 8 ∷ 20 ∷ 0 ∷ 20 ∷ 0 ∷ 20 ∷ 0 ∷ 20 ∷ 0 ∷ 20 ∷ 0 ∷ 0 ∷ 0 ∷ 0 ∷ 0 ∷ 0 ∷ 0 ∷ 0 ∷ 0 ∷ []
 
 -- A table, two of its nodes and lent words; then the answer and the lent words after the call.
-abbrev pub Call : Type 0
+abbrev Call : Type 0
 Call = List ℕ × ℕ × ℕ × List ℕ × Answer × List ℕ
 
 -- The calls.

@@ -5,26 +5,26 @@ use mathlib.Core.Bool.{Bool, true, false, not, _&&_, false≢true}
 use mathlib.Core.List.{List, [], _∷_, List·Memᴰ, List·Memᴰ·head, List·Memᴰ·tail, List·Memᴰ·not-nil, List·Memᴰ·eq-of-singleton, zip}
 use mathlib.Core.Logic.{inl, inr, _↔_}
 use mathlib.Core.Path.{_≡_, refl, sym, ap, _∙_}
-use native.Mathlib.Decide.{ℕ-discrete}
 use native.Mathlib.Omega.{arith}
 use borrow.Author.Tests.{eqb-true, eq-eqb}
 use lib.Dec.{eqb}
 use lib.ListN.{length}
-use Rattle.table.proofs.BoolLaws.{and-true-left, and-true-right}
+use Rattle.table.proofs.BoolLaws.{and-true-left, and-true-right, both-equal}
 use Rattle.table.proofs.SomeLaws.{some-means, some-here}
 use Rattle.unify.specs.Node.{Node, variable, application, nodeAt, tabulate}
 use Rattle.unify.specs.Closure.{OneSymbol, Joined, given, one-variable, arguments, same, back, on, Clash, different}
 use Rattle.unify.specs.Code.Given.{WellFormed, Inside}
 use Rattle.unify.specs.Computed.Classes.{classOf, join, joinAll, sameSymbol, asks, gather, asked, round, rounds, classes, differ, clashAt, clashWith, clashes}
+use Rattle.unify.specs.Code.Heads.{Partition, roots}
+use Rattle.unify.specs.Code.Closing.{Unites}
 use Rattle.unify.proofs.ListLaws.{tabulate-length, tabulate-at, gathered, gathered-from}
-use Rattle.unify.proofs.JoinedLaws.{joined-inside}
-use Rattle.unify.proofs.CountLaws.{Partition, Settled, Lowers, roots, roots-most, roots-some, join-length, join-first, join-second, join-other, join-stays, join-keeps, join-all-lowers}
+use Rattle.unify.proofs.JoinedLaws.{joined-inside, classes-stay}
+use Rattle.unify.proofs.CountLaws.{Lowers, roots-most, roots-some, join-length, join-first, join-second, join-stays, join-keeps, join-all-lowers}
 
 -- the test of symbols
 pub symbol-means : (f : ℕ) (us : List ℕ) (g : ℕ) (vs : List ℕ) → sameSymbol f us g vs ≡ true ↔ OneSymbol f us g vs
 unfolding sameSymbol
-symbol-means f us g vs =
-    ((λ e. (eqb-true f g (and-true-left (eqb f g) (eqb (length us) (length vs)) e), eqb-true (length us) (length vs) (and-true-right (eqb f g) (eqb (length us) (length vs)) e))), (λ l. rw (eq-eqb f g (l .0), eq-eqb (length us) (length vs) (l .1))))
+symbol-means f us g vs = both-equal f g (length us) (length vs)
 
 join-all-keeps : (P : List ℕ → Type 0) (qs : List (ℕ × ℕ)) → ((cs : List ℕ) (a b : ℕ) → List·Memᴰ (a, b) qs → P cs → P (join cs (a, b))) → (cs : List ℕ) → P cs → P (joinAll cs qs)
 unfolding joinAll
@@ -91,22 +91,10 @@ module _ (ns : List Node) (w : WellFormed ns) (ps : List (ℕ × ℕ)) (h : Insi
   sound-joined cs s i j hi hj e = on (rw e at (s .named i hi)) (back (s .named j hj))
 
   join-sound : (cs : List ℕ) (a b : ℕ) → Joined ns ps a b → Sound cs → Sound (join cs (a, b))
-  join-sound cs a b q s = record { partition = join-keeps (length ns) cs a b (r .0) (r .1) (s .partition); named = named-after }
+  join-sound cs a b q s = record { partition = join-keeps (length ns) cs a b (r .0) (r .1) (s .partition); named = classes-stay ns ps cs a b (s .partition .size) (r .0) (r .1) q (s .named) }
     where
       r : (a < length ns) × (b < length ns)
       r = joined-inside ns w ps h q
-
-      named-after : (i : ℕ) → i < length ns → Joined ns ps i (classOf (join cs (a, b)) i)
-      named-after i hi = go (ℕ-discrete (classOf cs i) (classOf cs b))
-        where
-          hl : i < length cs
-          hl = rw (s .partition .size) hi
-
-          go : Dec (classOf cs i ≡ classOf cs b) → Joined ns ps i (classOf (join cs (a, b)) i)
-          go (yes z) =
-              rw (join-second cs a b i hl z)
-              (on (sound-joined cs s i b hi (r .1) z) (on (back q) (s .named a (r .0))))
-          go (no z) = rw (join-other cs a b i hl z) (s .named i hi)
 
   join-all-sound : (qs : List (ℕ × ℕ)) → ((a b : ℕ) → List·Memᴰ (a, b) qs → Joined ns ps a b) → (cs : List ℕ) → Sound cs → Sound (joinAll cs qs)
   join-all-sound qs f = join-all-keeps Sound qs (λ cs a b m. join-sound cs a b (f a b m))
@@ -147,7 +135,7 @@ module _ (ns : List Node) (w : WellFormed ns) (ps : List (ℕ × ℕ)) (h : Insi
   round-sound cs s = join-all-sound (wanted ns cs) (wanted-joined cs s) cs s
 
   -- with as many rounds as there are classes all that is asked is of one class
-  settles : (k : ℕ) (cs : List ℕ) → Sound cs → roots (length ns) cs ≤ k → Settled (rounds k ns cs) (wanted ns (rounds k ns cs))
+  settles : (k : ℕ) (cs : List ℕ) → Sound cs → roots (length ns) cs ≤ k → Unites (rounds k ns cs) (wanted ns (rounds k ns cs))
   unfolding rounds round
   settles zero cs s l =
       λ a b m.
@@ -157,7 +145,7 @@ module _ (ns : List Node) (w : WellFormed ns) (ps : List (ℕ × ℕ)) (h : Insi
   settles (suc k) cs s l =
       go (λ q. settles k (round ns cs) (round-sound cs s) q) (join-all-lowers (length ns) (wanted ns cs) cs (s .partition) (λ a b m. joined-inside ns w ps h (wanted-joined cs s a b m)))
     where
-      go : (roots (length ns) (round ns cs) ≤ k → Settled (rounds k ns (round ns cs)) (wanted ns (rounds k ns (round ns cs)))) → Lowers (length ns) (wanted ns cs) cs → Settled (rounds (suc k) ns cs) (wanted ns (rounds (suc k) ns cs))
+      go : (roots (length ns) (round ns cs) ≤ k → Unites (rounds k ns (round ns cs)) (wanted ns (rounds k ns (round ns cs)))) → Lowers (length ns) (wanted ns cs) cs → Unites (rounds (suc k) ns cs) (wanted ns (rounds (suc k) ns cs))
       go f (inl q) = f (omega arith)
       go f (inr r) = rw (rounds-stay ns (suc k) cs (r .0)) (r .1)
 
@@ -186,7 +174,7 @@ module _ (ns : List Node) (w : WellFormed ns) (ps : List (ℕ × ℕ)) (h : Insi
   unfolding classes
   classes-sound = rounds-keep Sound ns round-sound (length ns) (joinAll alone ps) given-sound
 
-  classes-settled : Settled (classes ns ps) (wanted ns (classes ns ps))
+  classes-settled : Unites (classes ns ps) (wanted ns (classes ns ps))
   unfolding classes
   classes-settled = settles (length ns) (joinAll alone ps) given-sound (roots-most (length ns) (joinAll alone ps))
 

@@ -2,22 +2,26 @@
 -- Assumes nothing.
 use Prim.Native.Nat.{ℕ, zero, suc, _+_, _<_, _≤_}
 use mathlib.Core.Bool.{Bool, true, false, cond, false≢true}
-use mathlib.Core.List.{List, [], _∷_, map, List·Memᴰ, List·Memᴰ·head, List·Memᴰ·tail, List·Memᴰ·not-nil}
+use mathlib.Core.List.{List, [], _∷_, List·Memᴰ, List·Memᴰ·head, List·Memᴰ·tail, List·Memᴰ·not-nil}
 use mathlib.Core.Logic.{_⊎_, inl, inr}
 use mathlib.Core.Path.{_≡_, refl, sym, ap, _∙_}
 use native.Mathlib.Decide.{decLt, ℕ-discrete}
 use native.Mathlib.Omega.{arith}
 use borrow.Author.Tests.{eqb-true, eq-eqb, ne-eqb}
-use lib.Dec.{eqb}
-use lib.ListN.{length, getD, length-map}
+use lib.ListN.{length, length-map}
 use lib.Seq.{ext-getD}
 use Rattle.unify.specs.Computed.Classes.{classOf, renamed, join, joinAll}
+use Rattle.unify.specs.Code.Heads.{Partition, countBelow, isRoot, roots}
+use Rattle.unify.specs.Code.Closing.{Unites}
+use Rattle.unify.proofs.ListLaws.{map-at}
 
-renamed-here : (b a c : ℕ) → c ≡ b → renamed b a c ≡ a
+-- the class that is renamed
+pub renamed-here : (b a c : ℕ) → c ≡ b → renamed b a c ≡ a
 unfolding renamed
 renamed-here b a c e = rw (eq-eqb c b e)
 
-renamed-other : (b a c : ℕ) → (c ≡ b → ⊥) → renamed b a c ≡ c
+-- any other stays
+pub renamed-other : (b a c : ℕ) → (c ≡ b → ⊥) → renamed b a c ≡ c
 unfolding renamed
 renamed-other b a c d = rw (ne-eqb c b d)
 
@@ -27,11 +31,6 @@ renamed-new b a = go (ℕ-discrete a b)
     go : Dec (a ≡ b) → renamed b a a ≡ a
     go (yes e) = renamed-here b a a e
     go (no d) = renamed-other b a a d
-
-map-at : (f : ℕ → ℕ) (cs : List ℕ) (i : ℕ) → i < length cs → getD (map f cs) i 0 ≡ f (getD cs i 0)
-map-at f [] i h = absurd (omega arith)
-map-at f (c ∷ cs) zero h = refl
-map-at f (c ∷ cs) (suc i) h = map-at f cs i (omega arith)
 
 -- joining nodes leaves as many of them
 pub join-length : (cs : List ℕ) (p : ℕ × ℕ) → length (join cs p) ≡ length cs
@@ -73,13 +72,8 @@ join-same cs a b e = ext-getD 0 (join cs (a, b)) cs (join-length cs (a, b)) at
         go (yes z) = join-second cs a b i h z ∙ e ∙ sym z
         go (no z) = join-other cs a b i h z
 
--- Each class of n nodes is named by one of its nodes.
-pub record Partition (n : ℕ) (cs : List ℕ) : Type 0 where
-  pub size : length cs ≡ n
-  pub below : (i : ℕ) → i < n → classOf cs i < n
-  pub own : (i : ℕ) → i < n → classOf cs (classOf cs i) ≡ classOf cs i
-
-in-list : {n : ℕ} {cs : List ℕ} → Partition n cs → (i : ℕ) → i < n → i < length cs
+-- a node has its class
+pub in-list : {n : ℕ} {cs : List ℕ} → Partition n cs → (i : ℕ) → i < n → i < length cs
 in-list p i h = rw (p .size) h
 
 -- so it is after joining two nodes
@@ -104,10 +98,6 @@ join-keeps n cs a b ha hb p = record { size = join-length cs (a, b) ∙ p .size;
             rw (join-other cs a b i (in-list p i h) z)
             (join-other cs a b (classOf cs i) (in-list p (classOf cs i) (p .below i h)) (λ e. z (sym (p .own i h) ∙ e)) ∙ p .own i h)
 
-countBelow : ℕ → (ℕ → Bool) → ℕ
-countBelow zero p = 0
-countBelow (suc n) p = countBelow n p + cond (p n) 1 0
-
 bit-le : (a b : Bool) → (a ≡ true → b ≡ true) → cond a 1 0 ≤ cond b 1 0
 bit-le true b f = rw (f refl) (omega arith)
 bit-le false b f = omega arith
@@ -116,7 +106,8 @@ bit-most : (a : Bool) → cond a 1 0 ≤ 1
 bit-most true = omega arith
 bit-most false = omega arith
 
-count-most : (n : ℕ) (p : ℕ → Bool) → countBelow n p ≤ n
+-- at most n numbers below n have a property
+pub count-most : (n : ℕ) (p : ℕ → Bool) → countBelow n p ≤ n
 unfolding countBelow
 count-most zero p = omega arith
 count-most (suc n) p =
@@ -124,7 +115,8 @@ count-most (suc n) p =
     let s = bit-most (p n) in
     omega (arith, r, s)
 
-count-le : (p q : ℕ → Bool) (n : ℕ) → ((i : ℕ) → i < n → q i ≡ true → p i ≡ true) → countBelow n q ≤ countBelow n p
+-- where q has it p has it too: no more have q
+pub count-le : (p q : ℕ → Bool) (n : ℕ) → ((i : ℕ) → i < n → q i ≡ true → p i ≡ true) → countBelow n q ≤ countBelow n p
 unfolding countBelow
 count-le p q zero f = omega arith
 count-le p q (suc n) f =
@@ -132,7 +124,8 @@ count-le p q (suc n) f =
     let s = bit-le (q n) (p n) (f n (omega arith)) in
     omega (arith, r, s)
 
-count-less : (p q : ℕ → Bool) (n : ℕ) → ((i : ℕ) → i < n → q i ≡ true → p i ≡ true) → (k : ℕ) → k < n → p k ≡ true → q k ≡ false → countBelow n q < countBelow n p
+-- and fewer, where one has p and not q
+pub count-less : (p q : ℕ → Bool) (n : ℕ) → ((i : ℕ) → i < n → q i ≡ true → p i ≡ true) → (k : ℕ) → k < n → p k ≡ true → q k ≡ false → countBelow n q < countBelow n p
 unfolding countBelow
 count-less p q zero f k h y z = absurd (omega arith)
 count-less p q (suc n) f k h y z = go (λ g. count-less p q n (λ i u. f i (omega arith)) k g y z) (decLt k n)
@@ -149,13 +142,6 @@ count-less p q (suc n) f k h y z = go (λ g. count-less p q n (λ i u. f i (omeg
         let l = count-le p q n (λ i u. f i (omega arith)) in
         rw (y′, z′) (omega (arith, l))
 
-isRoot : List ℕ → ℕ → Bool
-isRoot cs i = eqb (classOf cs i) i
-
--- how many nodes below n name their class
-pub roots : ℕ → List ℕ → ℕ
-roots n cs = countBelow n (isRoot cs)
-
 -- there are at most n
 pub roots-most : (n : ℕ) (cs : List ℕ) → roots n cs ≤ n
 unfolding roots
@@ -169,7 +155,8 @@ roots-some n cs p i h =
     let l = count-less (isRoot cs) none n (λ k q e. absurd (false≢true e)) (classOf cs i) (p .below i h) (eq-eqb _ _ (p .own i h)) refl in
     omega (arith, l)
 
-join-lowers : (n : ℕ) (cs : List ℕ) (a b : ℕ) → a < n → b < n → Partition n cs → (classOf cs a ≡ classOf cs b → ⊥) → roots n (join cs (a, b)) < roots n cs
+-- joining two classes lowers their number
+pub join-lowers : (n : ℕ) (cs : List ℕ) (a b : ℕ) → a < n → b < n → Partition n cs → (classOf cs a ≡ classOf cs b → ⊥) → roots n (join cs (a, b)) < roots n cs
 unfolding roots isRoot
 join-lowers n cs a b ha hb p d =
     count-less (isRoot cs) (isRoot (join cs (a, b))) n were (classOf cs b) (p .below b hb) (eq-eqb _ _ (p .own b hb))
@@ -184,13 +171,15 @@ join-lowers n cs a b ha hb p d =
             ap (classOf cs) y ∙ p .own a ha ∙ sym y
         go e (no z) = sym (join-other cs a b i (in-list p i h) z) ∙ e
 
--- Each pair is of one class.
-abbrev pub Settled : List ℕ → List (ℕ × ℕ) → Type 0
-Settled cs qs = (a b : ℕ) → List·Memᴰ (a, b) qs → classOf cs a ≡ classOf cs b
+-- one pair more is joined
+pub unites-front : (ds : List ℕ) (a b : ℕ) (todo : List (ℕ × ℕ)) → classOf ds a ≡ classOf ds b → Unites ds todo → Unites ds ((a, b) ∷ todo)
+unites-front ds a b todo e u c d (List·Memᴰ·head z) =
+    ap (λ (t : ℕ × ℕ). classOf ds (t .0)) z ∙ e ∙ sym (ap (λ (t : ℕ × ℕ). classOf ds (t .1)) z)
+unites-front ds a b todo e u c d (List·Memᴰ·tail m) = u c d m
 
 -- Joining the pairs lowers the number of classes, or each was of one class and nothing changes.
 abbrev pub Lowers : ℕ → List (ℕ × ℕ) → List ℕ → Type 0
-Lowers n qs cs = (roots n (joinAll cs qs) < roots n cs) ⊎ ((joinAll cs qs ≡ cs) × Settled cs qs)
+Lowers n qs cs = (roots n (joinAll cs qs) < roots n cs) ⊎ ((joinAll cs qs ≡ cs) × Unites cs qs)
 
 -- so it is with pairs of nodes
 pub join-all-lowers : (n : ℕ) (qs : List (ℕ × ℕ)) (cs : List ℕ) → Partition n cs → ((a b : ℕ) → List·Memᴰ (a, b) qs → (a < n) × (b < n)) → Lowers n qs cs
@@ -208,14 +197,9 @@ join-all-lowers n (q ∷ qs) cs p h =
     kept : Partition n (join cs q)
     kept = join-keeps n cs (q .0) (q .1) (both .0) (both .1) p
 
-    all : classOf cs (q .0) ≡ classOf cs (q .1) → Settled cs qs → (a b : ℕ) → List·Memᴰ (a, b) (q ∷ qs) → classOf cs a ≡ classOf cs b
-    all e r a b (List·Memᴰ·head z) =
-        ap (λ (t : ℕ × ℕ). classOf cs (t .0)) z ∙ e ∙ sym (ap (λ (t : ℕ × ℕ). classOf cs (t .1)) z)
-    all e r a b (List·Memᴰ·tail m) = r a b m
-
     go : Dec (classOf cs (q .0) ≡ classOf cs (q .1)) → Lowers n qs cs → Lowers n qs (join cs q) → Lowers n (q ∷ qs) cs
     go (yes e) (inl l) s = inl (rw (join-same cs (q .0) (q .1) e) l)
-    go (yes e) (inr r) s = inr (rw (join-same cs (q .0) (q .1) e) (r .0), all e (r .1))
+    go (yes e) (inr r) s = inr (rw (join-same cs (q .0) (q .1) e) (r .0), unites-front cs (q .0) (q .1) qs e (r .1))
     go (no d) r (inl l) =
         let k = join-lowers n cs (q .0) (q .1) (both .0) (both .1) p d in
         inl (omega (arith, k, l))

@@ -2,7 +2,7 @@
 -- So the first node with a property is the least. Assumes nothing.
 use Prim.Native.Nat.{ℕ, zero, suc, _<_, _≤_}
 use mathlib.Core.Bool.{Bool, true, false, cond, false≢true}
-use mathlib.Core.List.{List, [], _∷_, List·Memᴰ, List·Memᴰ·head, List·Memᴰ·tail, List·Memᴰ·append-cases, List·Memᴰ·cases-cons, List·Memᴰ·eq-of-singleton, List·Memᴰ·not-nil}
+use mathlib.Core.List.{List, [], _∷_, List·Memᴰ, List·Memᴰ·head, List·Memᴰ·tail, List·Memᴰ·cases-cons, List·Memᴰ·eq-of-singleton, List·Memᴰ·not-nil}
 use mathlib.Core.Logic.{_⊎_, inl, inr}
 use mathlib.Core.Path.{_≡_, refl, sym, ap}
 use native.Mathlib.Omega.{arith}
@@ -10,9 +10,9 @@ use borrow.Author.Tests.{eqb-true, eq-eqb}
 use lib.ListN.{length}
 use Rattle.unify.specs.Node.{Node, variable, application, nodeAt, tabulate, Present}
 use Rattle.unify.specs.Words.{Rising, end, before, Least}
-use Rattle.unify.proofs.ListLaws.{tabulate-member}
-use Rattle.unify.proofs.RisingLaws.{rising-append}
 use Rattle.unify.specs.Computed.Solution.{firstWith, leastNode, isApplication, isVariable, isNodeOf, nodeOf}
+use Rattle.unify.proofs.ListLaws.{tabulate-member, tabulate-from}
+use Rattle.unify.proofs.RisingLaws.{rising-append}
 
 -- what `firstWith` gives: the first with the property, or one further on
 data First (p : ℕ → Bool) (d x : ℕ) (xs : List ℕ) : ℕ → Type 0 where
@@ -41,6 +41,13 @@ first-in p d (y ∷ ys) x m h = go (firstWith p d (y ∷ ys)) (first p d y ys) (
     go w (here e) r = List·Memᴰ·head refl
     go w (later e) r = List·Memᴰ·tail (r (further p x y ys e h m))
 
+-- with none that has it, it is the number given
+first-none : (p : ℕ → Bool) (d : ℕ) (xs : List ℕ) → ((x : ℕ) → List·Memᴰ x xs → p x ≡ false) → firstWith p d xs ≡ d
+unfolding firstWith
+first-none p d [] h = refl
+first-none p d (x ∷ xs) h =
+    rw (h x (List·Memᴰ·head refl)) (first-none p d xs (λ y m. h y (List·Memᴰ·tail m)))
+
 -- and it has the property
 pub first-has : (p : ℕ → Bool) (d : ℕ) (xs : List ℕ) (x : ℕ) → List·Memᴰ x xs → p x ≡ true → p (firstWith p d xs) ≡ true
 first-has p d [] x m h = absurd (List·Memᴰ·not-nil m)
@@ -68,13 +75,7 @@ below : (n i : ℕ) → i < n → List·Memᴰ i (tabulate n (λ i. i))
 below n i h = tabulate-member n (λ i. i) i h
 
 is-below : (n i : ℕ) → List·Memᴰ i (tabulate n (λ i. i)) → i < n
-unfolding tabulate
-is-below zero i m = absurd (List·Memᴰ·not-nil m)
-is-below (suc n) i m = go (is-below n i) (List·Memᴰ·append-cases (tabulate n (λ i. i)) m)
-  where
-    go : (List·Memᴰ i (tabulate n (λ i. i)) → i < n) → List·Memᴰ i (tabulate n (λ i. i)) ⊎ List·Memᴰ i (n ∷ []) → i < suc n
-    go r (inl k) = let h = r k in omega (arith, h)
-    go r (inr k) = let e = List·Memᴰ·eq-of-singleton k in omega (arith, e)
+is-below n i m = let r = tabulate-from n (λ i. i) i m in rw (r .2) (r .1)
 
 numbers-rise : (n : ℕ) → Rising _<_ (tabulate n (λ i. i))
 unfolding tabulate
@@ -126,3 +127,13 @@ node-of ns x p =
   where
     h : isNodeOf ns x (p .0) ≡ true
     h = of-variable x (nodeAt ns (p .0)) (p .2)
+
+-- a variable that is not present has no node: the number of nodes stands for it
+pub node-of-none : (ns : List Node) (x : ℕ) → ((i : ℕ) → i < length ns → nodeAt ns i ≡ variable x → ⊥) → nodeOf ns x ≡ length ns
+unfolding nodeOf leastNode isNodeOf
+node-of-none ns x none =
+    first-none (isNodeOf ns x) (length ns) _ (λ i m. go i (is-below (length ns) i m) (isNodeOf ns x i) refl)
+  where
+    go : (i : ℕ) → i < length ns → (b : Bool) → isNodeOf ns x i ≡ b → isNodeOf ns x i ≡ false
+    go i h true e = absurd (none i h (is-variable x (nodeAt ns i) e))
+    go i h false e = e

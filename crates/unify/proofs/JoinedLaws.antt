@@ -3,6 +3,7 @@ use Prim.Native.Nat.{ℕ, suc, _<_, _≤_}
 use mathlib.Core.List.{List, List·Memᴰ, zip}
 use mathlib.Core.Path.{_≡_, refl, sym, ap, _∙_}
 use native.Mathlib.Omega.{arith}
+use native.Mathlib.Decide.{ℕ-discrete}
 use lib.ListN.{length}
 use Rattle.terms.specs.Term.{app}
 use Rattle.terms.specs.Substitution.{Substitution}
@@ -11,8 +12,10 @@ use Rattle.unify.specs.Node.{Node, variable, application, nodeAt, each}
 use Rattle.unify.specs.Unifier.{value, Unifies}
 use Rattle.unify.specs.Code.Given.{WellFormed, Inside}
 use Rattle.unify.specs.Closure.{OneSymbol, Joined, given, one-variable, arguments, same, back, on, Clash, different, Reaches, step, steps}
+use Rattle.unify.specs.Computed.Classes.{classOf, join}
 use Rattle.unify.proofs.ListLaws.{zip-left, zip-right}
 use Rattle.unify.proofs.NodeLaws.{each-long, each-at, each-size, value-variable, value-application}
+use Rattle.unify.proofs.CountLaws.{join-second, join-other}
 
 -- The three rules of the closure, and those of an equivalence, for a relation R.
 pub record Rules (ns : List Node) (ps : List (ℕ × ℕ)) (R : ℕ → ℕ → Type 0) : Type 0 where
@@ -113,3 +116,13 @@ module _ (ns : List Node) (w : WellFormed ns) (ps : List (ℕ × ℕ)) (h : Insi
     -- so a class that reaches itself leaves none either
     pub cycle-none : (i : ℕ) → Reaches ns ps i i → ⊥
     cycle-none i r = let l : size (value ns σ i) < size (value ns σ i) = reaches-smaller r in omega arith
+
+-- nodes stay joined with those that name their classes, where joined nodes are put in one class
+pub classes-stay : (ns : List Node) (ps : List (ℕ × ℕ)) (cs : List ℕ) (a b : ℕ) → length cs ≡ length ns → a < length ns → b < length ns → Joined ns ps a b → ((i : ℕ) → i < length ns → Joined ns ps i (classOf cs i)) → (i : ℕ) → i < length ns → Joined ns ps i (classOf (join cs (a, b)) i)
+classes-stay ns ps cs a b l p q d named i h = go (ℕ-discrete (classOf cs i) (classOf cs b))
+  where
+    go : Dec (classOf cs i ≡ classOf cs b) → Joined ns ps i (classOf (join cs (a, b)) i)
+    go (yes z) =
+        rw (join-second cs a b i (rw l h) z)
+        (on (on (on (rw z at (named i h)) (back (named b q))) (back d)) (named a p))
+    go (no z) = rw (join-other cs a b i (rw l h) z) (named i h)

@@ -164,6 +164,7 @@ module _ (ns : List Node) (w : WellFormed ns) (ps : List (ℕ × ℕ)) (h : Insi
           solution-first ns w ps h (headIn ns (classes ns ps)) (longest ns (classes ns ps)) (to-solved tested e) (suc (length ns)) bounded τ u x p ∙ ap (sub τ) (reads-one ns w (wordsOf ns ps) (unifier ns ps) σ (words-readable e) r x p ∙ restricted-present ns σ x p)
       go (no p) = sym (ap (sub τ) (restricted-absent ns σ x p))
 
+  -- the words are read in one way at most
   pub one-reading : (σ τ : Substitution) → Reads ns (wordsOf ns ps) σ → Reads ns (wordsOf ns ps) τ → (x : ℕ) → Present ns x → σ x ≡ τ x
   one-reading σ τ r q = reads-one ns w (wordsOf ns ps) σ τ r q
 

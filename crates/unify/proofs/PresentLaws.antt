@@ -71,7 +71,7 @@ finite-unifier ns w ps h σ = unifies-agree ns w ps h σ (restricted ns σ) (res
 
 module _ (ns : List Node) (w : WellFormed ns) (ps : List (ℕ × ℕ)) (h : Inside ns ps) (σ : Substitution) where
   -- what comes after a unifier is a unifier
-  pub after-unifies : Unifies ns ps σ → (τ ρ : Substitution) → ((x : ℕ) → Present ns x → τ x ≡ sub ρ (σ x)) → Unifies ns ps τ
+  after-unifies : Unifies ns ps σ → (τ ρ : Substitution) → ((x : ℕ) → Present ns x → τ x ≡ sub ρ (σ x)) → Unifies ns ps τ
   after-unifies u τ ρ e a b m =
       value-after ns w σ τ ρ e a (h a b m .0) ∙ ap (sub ρ) (u a b m) ∙ sym (value-after ns w σ τ ρ e b (h a b m .1))
 

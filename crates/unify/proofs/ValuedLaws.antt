@@ -110,7 +110,7 @@ module _ (ns : List Node) (w : WellFormed ns) (ps : List (ℕ × ℕ)) (h : Insi
       sym (at-node i x p e) ∙ value-resolved ns w ps h head order s k enough i p ∙ spelt i p n d
 
   -- a word that is found by names is the word
-  pub named-word : (x u : ℕ) → IsNamed ns head name x u → IsWord ns (solution k ns head) x u
+  named-word : (x u : ℕ) → IsNamed ns head name x u → IsWord ns (solution k ns head) x u
   unfolding spell
   named-word x u (IsNamed.bound {i} {f} {w} {us} p e d l) =
       IsWord.bound (by-head i x p e (application f us) d)

@@ -65,7 +65,7 @@ module _ (ns : List Node) (w : WellFormed ns) (ps : List (ℕ × ℕ)) where
     application-kept f ts e = let h = g .factors τ u in (subs (h .0) ts, h .1 x q ∙ ap (sub (h .0)) e)
 
   -- a word is the same under every most general unifier
-  pub word-same : (σ τ : Substitution) → MostGeneral ns ps σ → MostGeneral ns ps τ → (x v : ℕ) → Present ns x → IsWord ns σ x v → IsWord ns τ x v
+  word-same : (σ τ : Substitution) → MostGeneral ns ps σ → MostGeneral ns ps τ → (x v : ℕ) → Present ns x → IsWord ns σ x v → IsWord ns τ x v
   word-same σ τ g h x v q (bound {f = f} {ts = ts} e l) =
       bound (application-kept σ τ g (h .unifies) x q f ts e .1)
       (record {
@@ -161,6 +161,7 @@ module _ (ns : List Node) (σ : Substitution) (held : Held ns σ) where
   reads-word low x v q (free {z = z} {y = y} e l m) =
       of-variable (m .holds .0) (m .holds .1) (e ∙ ap var (sym (least-one l (low x z q e))))
 
+  -- so it is of all words
   pub words-read : Lowest ns σ → Reads ns (bindingWords ns σ) σ
   words-read low = matched-map (λ x v m a. reads-word low x v (variables-present ns x m) a) words-computed
 

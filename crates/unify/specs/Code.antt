@@ -1,4 +1,18 @@
 -- What contracts of inner functions and laws speak of. No reader has to believe these.
 pub mod Given
+pub mod Sections
+pub mod Heads
+pub mod Kept
+pub mod Present
+pub mod Start
+pub mod Order
+pub mod Ordering
 pub mod Solved
 pub mod Valued
+pub mod Named
+pub mod Naming
+pub mod Binding
+pub mod Closing
+pub mod Settled
+pub mod Stands
+pub mod Calling

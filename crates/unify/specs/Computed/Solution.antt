@@ -47,10 +47,11 @@ resolved (suc k) ns head i = spell (resolved k ns head) (nodeAt ns (head i))
 unfoldable pub solution : ℕ → List Node → (ℕ → ℕ) → Substitution
 solution k ns head x = resolved k ns head (nodeOf ns x)
 
--- Node j is an application in the class of node i; variable x has a node in the class of node i.
+-- Node j is an application in the class of node i.
 unfoldable pub isApplicationIn : List Node → List ℕ → ℕ → ℕ → Bool
 isApplicationIn ns cs i j = eqb (classOf cs i) (classOf cs j) && isApplication (nodeAt ns j)
 
+-- Variable x has a node in the class of node i.
 unfoldable pub isVariableIn : List Node → List ℕ → ℕ → ℕ → Bool
 isVariableIn ns cs i x = eqb (classOf cs i) (classOf cs (nodeOf ns x))
 

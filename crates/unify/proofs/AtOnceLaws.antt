@@ -1,0 +1,105 @@
+-- Pairs that the heads of the two nodes decide at once: one head, or applications of different symbols. Assumes nothing.
+use Prim.Native.Nat.{ℕ, _<_}
+use mathlib.Core.Bool.{Bool, true, false, not, _&&_, false≢true}
+use mathlib.Core.List.{List, [], _∷_}
+use mathlib.Core.Path.{_≡_, refl, sym, _∙_}
+use native.Mathlib.Omega.{arith}
+use borrow.Author.Tests.{eqb-false}
+use lib.Dec.{eqb}
+use lib.ListN.{length}
+use lib.Seq.{getD-take}
+use Rattle.table.specs.Layout.{word, kindOf, nameOf, nodeCount}
+use Rattle.unify.specs.declared.Classes.{Classes}
+use Rattle.unify.specs.declared.Extended.the-variants.{Unified, Clash}
+use Rattle.unify.specs.Node.{application, nodeAt}
+use Rattle.unify.specs.Closure.{OneSymbol}
+use Rattle.unify.specs.Computed.Classes.{classOf}
+use Rattle.unify.specs.Code.Sections.{nodesFrom, Sections, symbolTest, differTest}
+use Rattle.unify.specs.Code.Heads.{Partition}
+use Rattle.unify.specs.Code.Given.{Inside}
+use Rattle.unify.specs.Code.Solved.{Closed}
+use Rattle.unify.specs.Code.Closing.{Closing}
+use Rattle.unify.specs.Code.Stands.{headsOf, orderOf, Formed, Stands, Extends}
+use Rattle.unify.proofs.OutcomeLaws.{outcome-clash, solved-decides}
+use Rattle.unify.proofs.SectionLaws.{run, run-long, nodes-long, sections-well-formed, application-from, symbol-test}
+use Rattle.unify.proofs.ClosingLaws.{already, heads-clash, opened, closed-at-last}
+use Rattle.unify.proofs.OrderedLaws.{placeIn, ordered-solved, ordered-enough}
+use Rattle.unify.proofs.ExtensionLaws.{inside-more}
+
+-- what the test for applications of different symbols tells
+differ-means : (words : List ℕ) (g h : ℕ) → differTest words g h ≡ true → (kindOf words g ≡ 0 → ⊥) × (kindOf words h ≡ 0 → ⊥) × (symbolTest words g h ≡ false)
+differ-means words g h = pick (eqb (kindOf words g) 0) refl (eqb (kindOf words h) 0) refl (symbolTest words g h) refl
+  where
+    pick : (x : Bool) → eqb (kindOf words g) 0 ≡ x → (y : Bool) → eqb (kindOf words h) 0 ≡ y → (z : Bool) → symbolTest words g h ≡ z → (not x && not y && not z) ≡ true → (kindOf words g ≡ 0 → ⊥) × (kindOf words h ≡ 0 → ⊥) × (symbolTest words g h ≡ false)
+    pick true d y e z t q = absurd (false≢true q)
+    pick false d true e z t q = absurd (false≢true q)
+    pick false d false e true t q = absurd (false≢true q)
+    pick false d false e false t q = (eqb-false _ _ d, eqb-false _ _ e, t)
+
+module _ (words args : List ℕ) (s : Sections words args) (c : Classes) (f : Formed words args c) (a b : ℕ) (p : a < nodeCount words) (q : b < nodeCount words) where
+  -- the head of a node is read in the whole list
+  at-head : (i : ℕ) → i < nodeCount words → classOf (headsOf words c) i ≡ word (c .of) i
+  at-head i h = getD-take (nodeCount words) (c .of) i 0 h
+
+  inside : (i : ℕ) → i < nodeCount words → i < length (nodesFrom words args)
+  inside i h = rw (nodes-long words args) h
+
+  heads : Partition (length (nodesFrom words args)) (headsOf words c)
+  heads = rw (nodes-long words args) (f .partition)
+
+  module _ (ps : List (ℕ × ℕ)) (d : Stands words args c ps) where
+    longer : Inside (nodesFrom words args) ((a, b) ∷ ps)
+    longer = inside-more (nodesFrom words args) ps a b (inside a p) (inside b q) (d .inside)
+
+    waiting : Closing (nodesFrom words args) ((a, b) ∷ ps) (headsOf words c) ((a, b) ∷ [])
+    waiting = opened (nodesFrom words args) (sections-well-formed words args s) ps (d .inside) (headsOf words c) heads a b (d .closed)
+
+    -- nodes with one head are joined already
+    joined-already : word (c .of) a ≡ word (c .of) b → Closed (nodesFrom words args) ((a, b) ∷ ps) (classOf (headsOf words c))
+    joined-already e =
+        let n = f .partition .size in
+        closed-at-last (nodesFrom words args) ((a, b) ∷ ps) (headsOf words c)
+        (already (nodesFrom words args) ((a, b) ∷ ps) (headsOf words c) a b [] (omega (arith, n)) (omega (arith, n)) (at-head a p ∙ e ∙ sym (at-head b q)) waiting)
+
+  -- one head: the classes stand for the longer list too
+  pub extends-together : word (c .of) a ≡ word (c .of) b → Extends words args c a b Unified c
+  extends-together e =
+      record {
+        answers = λ ps d.
+            let k = joined-already ps d e in
+            let h = longer ps d in
+            sym (solved-decides (nodesFrom words args) (sections-well-formed words args s) ((a, b) ∷ ps) h (classOf (headsOf words c)) (placeIn (orderOf c)) (ordered-solved words args s (headsOf words c) ((a, b) ∷ ps) h k (orderOf c) (f .ordered)) (length (orderOf c)) (ordered-enough words args s (headsOf words c) ((a, b) ∷ ps) h k (orderOf c) (f .ordered)) .0);
+        formed = λ z. f;
+        stands = λ z ps d. record { inside = longer ps d; closed = joined-already ps d e };
+      }
+
+  -- The head of a node, by its number g.
+  module _ (i g : ℕ) (h : i < nodeCount words) (e : g ≡ word (c .of) i) where
+    is-head : classOf (headsOf words c) i ≡ g
+    is-head = at-head i h ∙ sym e
+
+    -- it is a node
+    pub head-inside : g < nodeCount words
+    head-inside = rw is-head at (f .partition .below i h)
+
+    head-applied : (kindOf words g ≡ 0 → ⊥) → nodeAt (nodesFrom words args) (classOf (headsOf words c) i) ≡ application (nameOf words g) (run words args g)
+    head-applied k = rw is-head (application-from words args g head-inside k)
+
+  -- applications of different symbols: a clash
+  pub extends-differ : (g h : ℕ) → g ≡ word (c .of) a → h ≡ word (c .of) b → differTest words g h ≡ true → Extends words args c a b Clash c
+  extends-differ g h x y t =
+      record {
+        answers = λ ps d.
+            sym (outcome-clash (nodesFrom words args) (sections-well-formed words args s) ((a, b) ∷ ps) (longer ps d) .1
+            (heads-clash (nodesFrom words args) ((a, b) ∷ ps) (headsOf words c) a b [] (inside a p) (inside b q) _ _ _ _ (head-applied a g p x (k .0)) (head-applied b h q y (k .1)) different (waiting ps d)));
+        formed = λ z. let w : _≡_ {A = ℕ} 0 1 = cc in absurd (omega arith);
+        stands = λ z. let w : _≡_ {A = ℕ} 0 1 = cc in absurd (omega arith);
+      }
+    where
+      k : (kindOf words g ≡ 0 → ⊥) × (kindOf words h ≡ 0 → ⊥) × (symbolTest words g h ≡ false)
+      k = differ-means words g h t
+
+      different : OneSymbol (nameOf words g) (run words args g) (nameOf words h) (run words args h) → ⊥
+      different (n, m) =
+          let l = sym (run-long words args s g (head-inside a g p x)) ∙ m ∙ run-long words args s h (head-inside b h q y) in
+          false≢true (sym (k .2) ∙ symbol-test words g h .1 (n, l))

@@ -1,0 +1,195 @@
+-- The words that are found by names are the binding words: the least application with a name, or the least node of the lowest
+-- variable with it, as the variables present are listed in rising order. Assumes nothing.
+use Prim.Native.Nat.{ℕ, zero, suc, _<_, _≤_}
+use mathlib.Core.List.{List, [], _∷_, _++_, map, List·Memᴰ, map-map}
+use mathlib.Core.Path.{_≡_, refl, sym, ap, _∙_}
+use native.Mathlib.Decide.{ℕ-discrete}
+use native.Mathlib.Omega.{arith}
+use lib.ListN.{length, drop}
+use lib.Seq.{take-length}
+use Rattle.table.specs.Layout.{word, kindOf, nameOf, nodeCount}
+use Rattle.unify.specs.declared.Classes.{Classes}
+use Rattle.unify.specs.Code.Stands.{headsOf, Leaves}
+use Rattle.unify.specs.Node.{Node, variable, application, nodeAt, Present}
+use Rattle.unify.specs.Words.{Rising, before, Least, Matched}
+use Rattle.unify.specs.Computed.Classes.{classOf}
+use Rattle.unify.specs.Computed.Variables.{variablesOf}
+use Rattle.unify.specs.Computed.Solution.{nodeOf}
+use Rattle.unify.specs.Computed.Unifying.{wordsOf}
+use Rattle.unify.specs.Code.Sections.{nodesFrom, Sections}
+use Rattle.unify.specs.Code.Heads.{Partition}
+use Rattle.unify.specs.Code.Order.{Ordered}
+use Rattle.unify.specs.Code.Kept.{Writes}
+use Rattle.unify.specs.Code.Present.{leastNodes}
+use Rattle.unify.specs.Code.Named.{valueName, Named}
+use Rattle.unify.specs.Code.Solved.{Closed}
+use Rattle.unify.specs.Code.Valued.{NamedVariable, IsNamed, bound, free}
+use Rattle.unify.specs.Code.Binding.{HeadNames, IsFree, nameAt, ApplicationsFrom, FreeFrom, readAt, AreNodes, WordsFound, Binds}
+use Rattle.unify.proofs.MatchedLaws.{matched-by}
+use Rattle.unify.proofs.VariableLaws.{variables-rise, variables-present, present-variables}
+use Rattle.unify.proofs.FirstLaws.{node-of}
+use Rattle.unify.proofs.SectionLaws.{run, nodes-long, application-from, from-application, sections-well-formed, counted, is-node}
+use Rattle.unify.proofs.OrderedLaws.{placeIn, ordered-enough, ordered-solved}
+use Rattle.unify.proofs.ValuedLaws.{names-decide}
+use Rattle.unify.proofs.NamedLaws.{variable-name, named-valued}
+use Rattle.unify.proofs.ListLaws.{taken, placed, map-at}
+use Rattle.unify.proofs.LeastLaws.{least-long}
+
+-- what is in a list stands at some place
+member-place : (xs : List ℕ) (x : ℕ) → List·Memᴰ x xs → (k : ℕ) × (k < length xs) × (x ≡ word xs k)
+member-place xs x m = taken (length xs) xs x (rw (take-length xs) m)
+
+-- a rising list rises from place to place
+rising-places : (xs : List ℕ) → Rising _<_ xs → (j k : ℕ) → j ≤ k → k < length xs → word xs j ≤ word xs k
+rising-places [] r j k l h = absurd (omega arith)
+rising-places (x ∷ xs) r zero zero l h = omega arith
+rising-places (x ∷ xs) (before b r) zero (suc k) l h =
+    let q = b (word xs k) (placed xs k (omega arith)) in
+    omega (arith, q)
+rising-places (x ∷ xs) r (suc j) zero l h = absurd (omega arith)
+rising-places (x ∷ xs) (before b r) (suc j) (suc k) l h = rising-places xs r j k (omega arith) (omega arith)
+
+module _ (words args list : List ℕ) (e : list ≡ leastNodes (nodesFrom words args)) where
+  -- The nodes of the two sections.
+  abbrev ns : List Node
+  ns = nodesFrom words args
+
+  -- there is a place for each variable present
+  list-long : length list ≡ length (variablesOf ns)
+  list-long = ap length e ∙ least-long words args
+
+  -- with its least node
+  list-at : (k : ℕ) → k < length (variablesOf ns) → word list k ≡ nodeOf ns (word (variablesOf ns) k)
+  unfolding leastNodes
+  list-at k h =
+      ap (λ (l : List ℕ). word l k) e ∙ map-at (nodeOf ns) (variablesOf ns) k h
+
+  -- a variable that is present has a place
+  place-of : (x : ℕ) → Present ns x → (k : ℕ) × (k < length list) × (x ≡ word (variablesOf ns) k) × (word list k ≡ nodeOf ns x)
+  place-of x p =
+      let r = member-place (variablesOf ns) x (present-variables ns x p) in
+      (r .0, rw list-long (r .1), r .2, list-at (r .0) (r .1) ∙ ap (nodeOf ns) (sym (r .2)))
+
+  -- a place has a variable that is present
+  at : (k : ℕ) → k < length list → Present ns (word (variablesOf ns) k)
+  at k h =
+      variables-present ns (word (variablesOf ns) k) (placed (variablesOf ns) k (rw list-long at h))
+
+  -- the least nodes are nodes
+  pub least-nodes : AreNodes words list
+  least-nodes =
+      record {
+        node = λ k h.
+            let l = node-of ns (word (variablesOf ns) k) (at k h) in
+            rw (list-at k (rw list-long at h)) (rw (nodes-long words args) at (l .holds .0));
+      }
+
+  module _ (cs names : List ℕ) (m : HeadNames words args cs names) (ps : List (ℕ × ℕ)) (c : Closed ns ps (classOf cs)) (by all : List ℕ) (a : ApplicationsFrom words cs names by 0) (f : FreeFrom words cs names list by all 0) where
+    -- What stands at the name of variable x is its word by names.
+    abbrev IsFound : ℕ → Type 0
+    IsFound x = IsNamed ns (classOf cs) (valueName cs names) x (word all (valueName cs names (nodeOf ns x)))
+
+    -- where the head is an application
+    named-bound : (x i g : ℕ) (us : List ℕ) → i < length ns → nodeAt ns i ≡ variable x → nodeAt ns (classOf cs i) ≡ application g us → IsNamed ns (classOf cs) (valueName cs names) x (word all (valueName cs names i))
+    named-bound x i g us p v d =
+        let n = counted words args i p in
+        let b = m .readable .partition .below i n in
+        let k = from-application words args (classOf cs i) b g us d .0 in
+        let o : valueName cs names (classOf cs i) ≡ valueName cs names i = ap (word names) (m .readable .partition .own i n) in
+        let r = a .kept .kept (classOf cs i) (omega arith) b k in
+        let q : word all (valueName cs names i) ≡ r .0 = f .applied (valueName cs names i) (m .named .application i n k) ∙ ap (word by) (sym o) ∙ r .2 in
+        rw q
+        (bound {i = i} {f = g} {w = r .0} {us = us} p v d
+        (record {
+          holds = (nameOf words (r .0), run words args (r .0), is-node words args (r .0) (r .1 .holds .1), application-from words args (r .0) (r .1 .holds .1) (r .1 .holds .2), r .1 .holds .3 ∙ o);
+          least = λ j t. r .1 .least j (omega arith, counted words args j (t .2), from-application words args j (counted words args j (t .2)) (t .0) (t .1) (t .3) .0, t .4 ∙ sym o);
+        }))
+
+    -- where it is a variable
+    module _ (x z : ℕ) (p : Present ns x) (d : nodeAt ns (classOf cs (nodeOf ns x)) ≡ variable z) where
+      -- the node of the variable, and its head
+      own : Least (λ j. (j < length ns) × (nodeAt ns j ≡ variable x)) (nodeOf ns x)
+      own = node-of ns x p
+
+      head-free : (kindOf words (classOf cs (nodeOf ns x)) ≡ 0) × (valueName cs names (nodeOf ns x) ≡ classOf cs (nodeOf ns x))
+      head-free =
+          variable-name words args cs names (m .readable .sections) (m .readable .partition) (m .named) (nodeOf ns x) z (own .holds .0) d
+
+      -- a place with its name has a variable for a head
+      place-free : (k : ℕ) → k < length list → nameAt cs names list k ≡ valueName cs names (nodeOf ns x) → IsFree words cs list k
+      place-free k h n = pick (ℕ-discrete (kindOf words (classOf cs (word list k))) 0)
+        where
+          pick : Dec (IsFree words cs list k) → IsFree words cs list k
+          pick (yes y) = y
+          pick (no y) =
+              absurd (m .named .application (word list k) (least-nodes .node k h) y (ap (kindOf words) (n ∙ head-free .1) ∙ head-free .0))
+
+      -- a variable with its name has a place with its name
+      named-place : (y : ℕ) → NamedVariable ns (valueName cs names) (valueName cs names (nodeOf ns x)) y → (k : ℕ) × (k < length list) × (y ≡ word (variablesOf ns) k) × (nameAt cs names list k ≡ valueName cs names (nodeOf ns x))
+      named-place y (j, b, v, n) =
+          let r = place-of y (j, b, v) in
+          let l = node-of ns y (j, b, v) in
+          let g : classOf cs (nodeOf ns y) ≡ classOf cs j = c .one-variable (nodeOf ns y) j y (l .holds .0) b (l .holds .1) v in
+          (r .0, r .1, r .2, ap (valueName cs names) (r .3) ∙ ap (word names) g ∙ n)
+
+      -- so the variable at the least such place is the lowest with its name
+      named-lowest : (k : ℕ) → Least (Writes (IsFree words cs list) (nameAt cs names list) 0 (length list) (valueName cs names (nodeOf ns x))) k → word all (valueName cs names (nodeOf ns x)) ≡ word list k → IsFound x
+      named-lowest k r q =
+          let h : k < length list = r .holds .1 in
+          let w : word list k ≡ nodeOf ns (word (variablesOf ns) k) = list-at k (rw list-long at h) in
+          let l = node-of ns (word (variablesOf ns) k) (at k h) in
+          rw (q ∙ w)
+          (free {i = nodeOf ns x} {z = z} {y = word (variablesOf ns) k} {w = nodeOf ns (word (variablesOf ns) k)} (own .holds .0) (own .holds .1) d
+          (record {
+            holds = (nodeOf ns (word (variablesOf ns) k), l .holds .0, l .holds .1, ap (valueName cs names) (sym w) ∙ r .holds .3);
+            least = λ y n. lowest y (named-place y n);
+          })
+          l)
+        where
+          lowest : (y : ℕ) → (j : ℕ) × (j < length list) × (y ≡ word (variablesOf ns) j) × (nameAt cs names list j ≡ valueName cs names (nodeOf ns x)) → word (variablesOf ns) k ≤ y
+          lowest y (j, h, e, n) =
+              let b = r .least j (omega arith, h, place-free j h n, n) in
+              let t = rising-places (variablesOf ns) (variables-rise ns) k j b (rw list-long at h) in
+              omega (arith, t)
+
+      named-free : IsFound x
+      named-free =
+          let r = place-of x p in
+          let n : nameAt cs names list (r .0) ≡ valueName cs names (nodeOf ns x) = ap (valueName cs names) (r .3) in
+          let t = rw n at (f .kept .kept (r .0) (omega arith) (r .1) (place-free (r .0) (r .1) n)) in
+          named-lowest (t .0) (t .1) (t .2)
+
+    -- in both cases
+    named-present : (x : ℕ) → List·Memᴰ x (variablesOf ns) → IsFound x
+    named-present x k =
+        let p = variables-present ns x k in
+        pick p (node-of ns x p) (nodeAt ns (classOf cs (nodeOf ns x))) refl
+      where
+        pick : Present ns x → Least (λ j. (j < length ns) × (nodeAt ns j ≡ variable x)) (nodeOf ns x) → (n : Node) → nodeAt ns (classOf cs (nodeOf ns x)) ≡ n → IsFound x
+        pick p l (variable z) d = named-free x z p d
+        pick p l (application g us) d =
+            named-bound x (nodeOf ns x) g us (l .holds .0) (l .holds .1) d
+
+    -- so all that is read are the words by names
+    named-read : Matched (IsNamed ns (classOf cs) (valueName cs names)) (variablesOf ns) (readAt cs names all list)
+    unfolding readAt leastNodes
+    named-read =
+        rw (ap (map (λ v. word all (valueName cs names v))) e ∙ map-map (λ v. word all (valueName cs names v)) (nodeOf ns) (variablesOf ns))
+        (matched-by (λ x. word all (valueName cs names (nodeOf ns x))) (variablesOf ns) named-present)
+
+-- the sections, heads and their names
+pub heads-named : (words args cs names : List ℕ) → Named words args cs names → Sections words args → Partition (nodeCount words) cs → length names ≡ nodeCount words → HeadNames words args cs names
+heads-named words args cs names m s p l = record { readable = record { sections = s; partition = p; long = l }; named = m }
+
+-- the words found are the binding words
+pub found-bind : (words args cs order names list out out′ : List ℕ) → WordsFound words cs names list out out′ → HeadNames words args cs names → Ordered words args cs order → list ≡ leastNodes (nodesFrom words args) → Binds (nodesFrom words args) cs out out′
+found-bind words args cs order names list out out′ f m o e ps h c =
+    let s = m .readable .sections in
+    let d : wordsOf (nodesFrom words args) ps ≡ readAt cs names (f .all) list = names-decide (nodesFrom words args) (sections-well-formed words args s) ps h (classOf cs) (placeIn order) (ordered-solved words args s cs ps h c order o) (length order) (ordered-enough words args s cs ps h c order o) (valueName cs names) (named-valued words args cs names s (m .readable .partition) (m .named)) (readAt cs names (f .all) list) (named-read words args list e cs names m ps c (f .applications) (f .all) (f .applied) (f .free)) in
+    f .words-read ∙ ap (λ (l : List ℕ). l ++ drop (length list) out) (sym d) ∙ ap (λ (l : List ℕ). wordsOf (nodesFrom words args) ps ++ drop (length l) out) e
+
+-- the words of the classes' heads are those of the classes
+pub leaves : (words args : List ℕ) (c : Classes) (heads out out′ : List ℕ) → heads ≡ headsOf words c → Binds (nodesFrom words args) heads out out′ → Leaves words args c out out′
+leaves words args c heads out out′ e b ps s =
+    let d : Closed (nodesFrom words args) ps (classOf heads) = rw e (s .closed) in
+    rw (← least-long words args) (b ps (s .inside) d)

@@ -1,0 +1,60 @@
+-- `unify::present::note_variables` meets its contract: the nodes from i on are noted. Assumes nothing.
+use Prim.Native.Nat.{_≤_}
+use mathlib.Core.Path.{sym}
+use borrow.Author.Needs.{needs}
+use Rattle.table.specs.Layout.{nodeCount}
+use Rattle.unify.proofs.LeastLaws.{NotedFrom, noted-none, noted-down, noted-all}
+use Rattle.unify.proofs.present.note_variables.Statement.{statement}
+use Rattle.unify.proofs.present.note_variables.Tie as tie
+
+abbrev Inv-loop : tie.InvT-loop
+Inv-loop nodes arguments least₀ i₀ least i = (i ≤ nodeCount nodes) × NotedFrom nodes least i
+
+abbrev μ-loop : tie.MeasureT-loop
+μ-loop nodes arguments least₀ i₀ least i = i
+
+node-count-requires : tie.Need-node-count-requires Inv-loop μ-loop
+node-count-requires c κs = search needs
+
+loop-holds : tie.Need-loop-holds Inv-loop μ-loop
+loop-holds c =
+    let s = c .before .before .before .before in
+    (search needs, noted-none _ _ _ (sym (c .node-count .ensures .0)) (s .pre .1 .0) (s .pre .1 .1))
+
+sub-i : tie.Need-sub-i Inv-loop μ-loop
+sub-i c = search needs
+
+note-variable-requires : tie.Need-note-variable-requires Inv-loop μ-loop
+note-variable-requires c κs = search needs
+
+loop-less : tie.Need-loop-less Inv-loop μ-loop
+loop-less c = search needs
+
+loop-again : tie.Need-loop-again Inv-loop μ-loop
+loop-again c =
+    let l = c .before .before .before .before .before in
+    let s = l .before .before .before .before .before in
+    (search needs, rw (c .before .before .note-variable .ensures) (noted-down _ _ (s .pre .0) _ (l .loop .i) (c .before .before .before .before .loop-test .taken) (l .loop .inv .0) (l .loop .inv .1)))
+
+same-length : tie.Need-same-length Inv-loop μ-loop
+same-length c = search needs
+
+returns : tie.Need-returns Inv-loop μ-loop
+returns c =
+    let l = c .before in
+    noted-all _ _ (l .before .before .before .before .before .pre .0) _ (l .loop .i) (c .loop-test .left) (l .loop .inv .1)
+
+pub note-variables-spec : {M : Type 1} → statement M
+note-variables-spec =
+    tie.close
+    (tie.spec
+    Inv-loop
+    μ-loop
+    node-count-requires
+    loop-holds
+    sub-i
+    note-variable-requires
+    loop-less
+    loop-again
+    same-length
+    returns)

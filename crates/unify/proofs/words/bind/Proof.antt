@@ -1,0 +1,103 @@
+-- `unify::words::bind` meets its contract. Assumes nothing.
+use Prim.Native.Nat.{ℕ, _-_}
+use mathlib.Core.Path.{_≡_, ap}
+use native.Mathlib.Omega.{arith}
+use native.Mathlib.Nat.{sub-zero}
+use borrow.Author.Needs.{needs}
+use lib.ListN.{length, take}
+use Rattle.table.specs.Limits.{maxNodes}
+use Rattle.table.specs.Layout.{nodeCount}
+use Rattle.unify.specs.Code.Present.{variableNames}
+use Rattle.unify.proofs.ListLaws.{part-long}
+use Rattle.unify.proofs.BindingLaws.{leaves}
+use Rattle.unify.proofs.words.bind.Statement.{statement}
+use Rattle.unify.proofs.words.bind.Tie as tie
+
+-- the lists lent are as long as there can be nodes and variables
+of-long : (c : tie.Start) → length (c .args .classes .of) ≡ maxNodes
+of-long c = search needs
+
+order-long : (c : tie.Start) → length (c .args .classes .order) ≡ maxNodes
+order-long c = search needs
+
+list-long : (c : tie.Start) → length (c .args .variables .nodes) ≡ variableNames
+list-long c = search needs
+
+-- as many heads are lent as there are nodes
+all : (c : tie.After-node-count) → c .node-count .result - 0 ≡ nodeCount (c .before .before .before .before .args .nodes .now)
+all c = omega (arith, c .node-count .ensures .0)
+
+node-count-requires : tie.Need-node-count-requires
+node-count-requires c κs = search needs
+
+sub-write-bindings : tie.Need-sub-write-bindings
+sub-write-bindings c = search needs
+
+part-write-bindings-start : tie.Need-part-write-bindings-start
+part-write-bindings-start c = search needs
+
+part-write-bindings-end : tie.Need-part-write-bindings-end
+part-write-bindings-end c =
+    let n = c .before .before .before .before .node-count in
+    let l = of-long (c .before .before .before .before .before .before .before .before) in
+    omega (arith, l, n .ensures .1)
+
+sub-write-bindings-2 : tie.Need-sub-write-bindings-2
+sub-write-bindings-2 c = search needs
+
+part-write-bindings-start-2 : tie.Need-part-write-bindings-start-2
+part-write-bindings-start-2 c = search needs
+
+part-write-bindings-end-2 : tie.Need-part-write-bindings-end-2
+part-write-bindings-end-2 c =
+    let n = c .before .before .before .before .before .before .node-count in
+    let s = c .before .before .before .before .before .before .before .before .before .before in
+    let l = order-long s in
+    omega (arith, l, n .ensures .0, n .ensures .1, s .pre .1 .0 .counted)
+
+sub-write-bindings-3 : tie.Need-sub-write-bindings-3
+sub-write-bindings-3 c = search needs
+
+part-write-bindings-start-3 : tie.Need-part-write-bindings-start-3
+part-write-bindings-start-3 c = search needs
+
+part-write-bindings-end-3 : tie.Need-part-write-bindings-end-3
+part-write-bindings-end-3 c =
+    let s = c .before .before .before .before .before .before .before .before .before .before .before .before in
+    let l = list-long s in
+    omega (arith, l, s .pre .1 .1 .0 .within)
+
+write-bindings-requires : tie.Need-write-bindings-requires
+write-bindings-requires c κs =
+    let s = c .before .before .before .before .before .before .before .before .before .before .before .before .before .before in
+    let z = all (c .before .before .before .before .before .before .before .before .before .before) in
+    let l = list-long s in
+    let v = s .pre .1 .1 .0 in
+    let p = part-long (s .args .variables .nodes) (s .args .variables .count) (omega (arith, l, v .within)) in
+    (s .pre .0, (rw z (s .pre .1 .0 .partition), (rw (z, sub-zero (s .args .classes .count)) (s .pre .1 .0 .ordered), (rw (sub-zero (s .args .variables .count)) (v .nodes), omega (arith, p)))))
+
+same-length : tie.Need-same-length
+same-length c = search needs
+
+returns : tie.Need-returns
+returns c =
+    let e = ap (λ (k : ℕ). take k (c .before .before .before .before .before .before .before .before .before .before .before .before .before .before .before .before .before .args .classes .of)) (all (c .before .before .before .before .before .before .before .before .before .before .before .before .before)) in
+    leaves _ _ _ _ _ _ e (c .before .before .write-bindings .ensures)
+
+pub bind-spec : {M : Type 1} → statement M
+bind-spec =
+    tie.close
+    (tie.spec
+    node-count-requires
+    sub-write-bindings
+    part-write-bindings-start
+    part-write-bindings-end
+    sub-write-bindings-2
+    part-write-bindings-start-2
+    part-write-bindings-end-2
+    sub-write-bindings-3
+    part-write-bindings-start-3
+    part-write-bindings-end-3
+    write-bindings-requires
+    same-length
+    returns)

@@ -1,0 +1,23 @@
+-- What a call of `unify` with an accepted table answers, by the table's nodes.
+use Prim.Native.Nat.{ℕ}
+use mathlib.Core.Bool.{cond, _||_}
+use mathlib.Core.List.{List, [], _∷_}
+use mathlib.Core.Path.{_≡_}
+use lib.Dec.{leb, ltb}
+use lib.ListN.{length}
+use Rattle.unify.specs.declared.Unification.{Unification}
+use Rattle.unify.specs.Node.{Node}
+use Rattle.unify.specs.Computed.Variables.{variablesOf}
+use Rattle.unify.specs.Computed.Unifying.{outcome, wordsOf}
+use Rattle.unify.specs.Answer.{Answer, ended, refused, told, wordsAfter}
+
+-- The answer, where the table is accepted (`accepted-table`).
+unfoldable pub called : List Node → ℕ → ℕ → ℕ → Answer
+called ns a b lent =
+    cond (leb (length ns) a || leb (length ns) b) (refused 8)
+    (cond (ltb lent (length (variablesOf ns))) (refused 9) (ended (outcome ns ((a, b) ∷ []))))
+
+-- The answer r and the lent words after a call are what they should be.
+pub record Answers (ns : List Node) (a b : ℕ) (lent : List ℕ) (r : Unification) (lent′ : List ℕ) : Type 0 where
+  pub answer : told r ≡ called ns a b (length lent)
+  pub words : lent′ ≡ wordsAfter (called ns a b (length lent)) (wordsOf ns ((a, b) ∷ [])) lent

@@ -1,0 +1,86 @@
+-- Putting the classes in order by depth-first search: what is marked and listed, and what a visit leaves.
+use Prim.Native.Nat.{ℕ, _<_, _≤_}
+use mathlib.Core.Bool.{Bool}
+use mathlib.Core.List.{List}
+use mathlib.Core.Path.{_≡_}
+use lib.Dec.{eqb}
+use lib.ListN.{length, take}
+use Rattle.table.specs.Layout.{word, nodeCount, argumentOf}
+use Rattle.unify.specs.declared.order.Placed.{Placed}
+use Rattle.unify.specs.declared.order.Placed.the-variants.{Cycle, Count}
+use Rattle.unify.specs.Computed.Classes.{classOf}
+use Rattle.unify.specs.Code.Heads.{Partition, countBelow}
+use Rattle.unify.specs.Code.Sections.{Sections}
+use Rattle.unify.specs.Code.Order.{Leads, ArgumentsBefore, Ordered}
+
+-- Node k is not visited yet.
+unfoldable pub isNew : List ℕ → ℕ → Bool
+isNew marks k = eqb (word marks k) 0
+
+-- Node k stands in the order.
+unfoldable pub isDone : List ℕ → ℕ → Bool
+isDone marks k = eqb (word marks k) 2
+
+-- The first places of the order hold the nodes that are done, those of arguments first. A mark is 0 for a new node, 1 for an open one, 2 for one that is done.
+pub record Ordering (words args cs marks order : List ℕ) (count : ℕ) : Type 0 where
+  pub marks-size : length marks ≡ nodeCount words
+  pub order-size : length order ≡ nodeCount words
+  pub range : (k : ℕ) → k < nodeCount words → word marks k ≤ 2
+  pub listed : (p : ℕ) → p < count → (word order p < nodeCount words) × (word marks (word order p) ≡ 2)
+  pub once : (p q : ℕ) → p < q → q < count → word order p ≡ word order q → ⊥
+  pub first : (p : ℕ) → p < count → ArgumentsBefore words args cs order (word order p) p
+  pub done : (k : ℕ) → k < nodeCount words → word marks k ≡ 2 → (p : ℕ) × (p < count) × (word order p ≡ k)
+  pub room : count ≤ countBelow (nodeCount words) (isDone marks)
+
+-- What a visit of node h asks: every open node leads to it.
+pub record Visiting (words args cs marks order : List ℕ) (count h : ℕ) : Type 0 where
+  pub sections : Sections words args
+  pub partition : Partition (nodeCount words) cs
+  pub ordering : Ordering words args cs marks order count
+  pub node : h < nodeCount words
+  pub leads : (k : ℕ) → k < nodeCount words → word marks k ≡ 1 → Leads words args cs k h
+
+-- Some node leads to itself.
+abbrev pub Looped : List ℕ → List ℕ → List ℕ → Type 0
+Looped words args cs = (h : ℕ) × (h < nodeCount words) × Leads words args cs h h
+
+-- The marks of nodes that were not new stay, and no node is open that was not.
+pub record Later (n : ℕ) (marks later : List ℕ) : Type 0 where
+  pub kept : (k : ℕ) → k < n → (word marks k ≡ 0 → ⊥) → word later k ≡ word marks k
+  pub none-opened : (k : ℕ) → k < n → word later k ≡ 1 → word marks k ≡ 1
+
+-- What a visit of node h leaves where it finds no cycle: h is done.
+pub record Passed (words args cs marks : List ℕ) (h : ℕ) (after order : List ℕ) (count : ℕ) : Type 0 where
+  pub ordering : Ordering words args cs after order count
+  pub passed : word after h ≡ 2
+  pub later : Later (nodeCount words) marks after
+
+-- Before argument j of node h is visited, where h is open among these marks: the heads of the arguments before it are done.
+pub record Turn (words args cs marks : List ℕ) (h : ℕ) (after order : List ℕ) (count j : ℕ) : Type 0 where
+  pub ordering : Ordering words args cs after order count
+  pub later : Later (nodeCount words) marks after
+  pub arguments : (i : ℕ) → i < j → word after (classOf cs (argumentOf words args h i)) ≡ 2
+
+-- What a visit of node h answers and leaves.
+pub record Visited (words args cs marks : List ℕ) (h : ℕ) (r : Placed) (after order : List ℕ) : Type 0 where
+  pub cycle : r ≡ Cycle → Looped words args cs
+  pub counted : (c : ℕ) → r ≡ Count c → Passed words args cs marks h after order c
+
+-- What the whole search asks: every node is new.
+pub record Starting (words args cs marks order : List ℕ) : Type 0 where
+  pub sections : Sections words args
+  pub partition : Partition (nodeCount words) cs
+  pub marks-size : length marks ≡ nodeCount words
+  pub order-size : length order ≡ nodeCount words
+  pub new : (k : ℕ) → k < nodeCount words → word marks k ≡ 0
+
+-- Before the head of node i is visited: the heads of the nodes before it are done, and no node is open.
+pub record Sweep (words args cs marks order : List ℕ) (count i : ℕ) : Type 0 where
+  pub ordering : Ordering words args cs marks order count
+  pub none-open : (k : ℕ) → k < nodeCount words → word marks k ≡ 1 → ⊥
+  pub heads : (k : ℕ) → k < i → word marks (classOf cs k) ≡ 2
+
+-- What the search answers: a class that leads to itself, or an order in the first places.
+pub record FoundOrder (words args cs : List ℕ) (r : Placed) (order : List ℕ) : Type 0 where
+  pub cycle : r ≡ Cycle → Looped words args cs
+  pub ordered : (c : ℕ) → r ≡ Count c → (c ≤ nodeCount words) × Ordered words args cs (take c order)

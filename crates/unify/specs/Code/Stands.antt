@@ -1,0 +1,68 @@
+-- Classes that stand for a list of pairs, and how they are extended by one pair more. The listing builds on these.
+use Prim.Native.Nat.{ℕ, _≤_}
+use mathlib.Core.List.{List, [], _∷_, _++_}
+use mathlib.Core.Path.{_≡_}
+use lib.ListN.{length, take, drop}
+use Rattle.table.specs.Layout.{nodeCount}
+use Rattle.unify.specs.declared.Classes.{Classes}
+use Rattle.unify.specs.declared.Variables.{Variables}
+use Rattle.unify.specs.declared.Extended.{Extended}
+use Rattle.unify.specs.declared.Extended.the-variants.{Unified, Clash, Occurs}
+use Rattle.unify.specs.Outcome.{Outcome, unified, clash, occurs}
+use Rattle.unify.specs.Computed.Classes.{classOf}
+use Rattle.unify.specs.Computed.Unifying.{outcome, wordsOf}
+use Rattle.unify.specs.Computed.Variables.{variablesOf}
+use Rattle.unify.specs.Code.Given.{Inside}
+use Rattle.unify.specs.Code.Sections.{nodesFrom}
+use Rattle.unify.specs.Code.Heads.{Partition}
+use Rattle.unify.specs.Code.Order.{Ordered}
+use Rattle.unify.specs.Code.Present.{variableNames, leastNodes}
+use Rattle.unify.specs.Code.Solved.{Closed}
+
+-- The heads of the nodes.
+abbrev pub headsOf : List ℕ → Classes → List ℕ
+headsOf words c = take (nodeCount words) (c .of)
+
+-- The heads in an order in which those of arguments come first.
+abbrev pub orderOf : Classes → List ℕ
+orderOf c = take (c .count) (c .order)
+
+-- The heads are those of classes of nodes, and they stand in such an order.
+pub record Formed (words args : List ℕ) (c : Classes) : Type 0 where
+  pub partition : Partition (nodeCount words) (headsOf words c)
+  pub counted : c .count ≤ nodeCount words
+  pub ordered : Ordered words args (headsOf words c) (orderOf c)
+
+-- They are the classes of a list of pairs.
+pub record Stands (words args : List ℕ) (c : Classes) (ps : List (ℕ × ℕ)) : Type 0 where
+  pub inside : Inside (nodesFrom words args) ps
+  pub closed : Closed (nodesFrom words args) ps (classOf (headsOf words c))
+
+-- What the answer to an extension stands for.
+abbrev pub extended : Extended → Outcome
+extended Unified = unified
+extended Clash = clash
+extended Occurs = occurs
+
+-- Classes c are extended by the pair of a and b: the answer is what unifying the longer list comes to, and where that is unified,
+-- classes c′ stand for it.
+pub record Extends (words args : List ℕ) (c : Classes) (a b : ℕ) (r : Extended) (c′ : Classes) : Type 0 where
+  pub answers : (ps : List (ℕ × ℕ)) → Stands words args c ps → extended r ≡ outcome (nodesFrom words args) ((a, b) ∷ ps)
+  pub formed : r ≡ Unified → Formed words args c′
+  pub stands : r ≡ Unified → (ps : List (ℕ × ℕ)) → Stands words args c ps → Stands words args c′ ((a, b) ∷ ps)
+
+-- The variables present, by their least nodes.
+pub record Lists (words args : List ℕ) (v : Variables) : Type 0 where
+  pub within : v .count ≤ variableNames
+  pub counted : v .count ≡ length (variablesOf (nodesFrom words args))
+  pub nodes : take (v .count) (v .nodes) ≡ leastNodes (nodesFrom words args)
+
+-- What unifying begins with: the variables present, and the classes of no pair.
+pub record Begins (words args : List ℕ) (v : Variables) (c : Classes) : Type 0 where
+  pub lists : Lists words args v
+  pub formed : Formed words args c
+  pub stands : Stands words args c []
+
+-- The binding words stand in the lent words, before those past them, for whatever pairs the classes stand for.
+abbrev pub Leaves : List ℕ → List ℕ → Classes → List ℕ → List ℕ → Type 0
+Leaves words args c lent lent′ = (ps : List (ℕ × ℕ)) → Stands words args c ps → lent′ ≡ wordsOf (nodesFrom words args) ps ++ drop (length (variablesOf (nodesFrom words args))) lent

@@ -1,0 +1,106 @@
+// The nodes of a checked table and lists of nodes, as the code of unification reads them.
+ghost use mathlib.Core.Path.{_≡_};
+ghost use Prim.Native.Nat.{_≤_, _<_};
+ghost use lib.ListN.{length};
+ghost use lib.Dec.{eqb};
+ghost use Rattle.table.specs.Limits.{maxNodes, maxCount};
+ghost use Rattle.table.specs.Layout.{word, kindOf, nameOf, countOf, nodeCount, argumentOf};
+ghost use Rattle.unify.specs.Code.Sections.{Sections, symbolTest, differTest};
+ghost use Rattle.unify.specs.Code.Named.{valueName};
+use table::Node;
+use table::Variable;
+use table::layout;
+use table::layout::index;
+
+// The node that a byte names.
+pub fn node(x: u8) -> Node
+    ensures { λ r. ⌜ (r .0 ≡ x) × (r .0 < maxNodes) ⌝ }
+{
+    Node(x as u32)
+}
+
+// The node at a place of a list of nodes.
+pub fn node_in(list: &[u8], i: usize) -> Node
+    requires { ⌜ i < length (now list) ⌝ }
+    ensures { λ r. ⌜ (r .0 ≡ word (now (list .entry)) i) × (r .0 < maxNodes) ⌝ }
+{
+    node(list[i])
+}
+
+// The number at a place of a list of half words.
+pub fn entry(list: &[u16], i: usize) -> usize
+    requires { ⌜ i < length (now list) ⌝ }
+    ensures { λ r. ⌜ r ≡ word (now (list .entry)) i ⌝ }
+{
+    list[i] as usize
+}
+
+// The name of the value of a node, given the heads of the nodes and the names of heads.
+pub fn value_name(of: &[u8], names: &[u8], node: Node) -> Node
+    requires { ⌜ (node .0 < length (now of)) × (word (now of) (node .0) < length (now names)) ⌝ }
+    ensures { λ r. ⌜ (r .0 ≡ valueName (now (of .entry)) (now (names .entry)) (node .0)) × (r .0 < maxNodes) ⌝ }
+{
+    let i = node.0 as usize;
+    let head = of[i] as usize;
+    node_in(names, head)
+}
+
+// How many nodes there are.
+pub fn node_count(nodes: &[u32], arguments: &[u32]) -> usize
+    requires { ⌜ Sections (now nodes) (now arguments) ⌝ }
+    ensures { λ r. ⌜ (r ≡ nodeCount (now (nodes .entry))) × (r ≤ maxNodes) ⌝ }
+{
+    index(layout::node_count(nodes))
+}
+
+// Whether a node is a variable.
+pub fn is_variable(nodes: &[u32], node: Node) -> bool
+    requires { ⌜ node .0 < nodeCount (now nodes) ⌝ }
+    ensures { λ r. ⌜ r ≡ eqb (kindOf (now (nodes .entry)) (node .0)) 0 ⌝ }
+{
+    layout::kind(nodes, node) == 0
+}
+
+// The number of a variable, by a node of it.
+pub fn variable(nodes: &[u32], node: Node) -> Variable
+    requires { ⌜ node .0 < nodeCount (now nodes) ⌝ }
+    ensures { λ r. ⌜ r .0 ≡ nameOf (now (nodes .entry)) (node .0) ⌝ }
+{
+    Variable(layout::name(nodes, node))
+}
+
+// How many arguments a node has.
+pub fn arity(nodes: &[u32], arguments: &[u32], node: Node) -> usize
+    requires { ⌜ Sections (now nodes) (now arguments) ⌝ }
+    requires { ⌜ node .0 < nodeCount (now nodes) ⌝ }
+    ensures { λ r. ⌜ (r ≡ countOf (now (nodes .entry)) (node .0)) × (r ≤ maxCount) ⌝ }
+{
+    index(layout::count(nodes, node))
+}
+
+// Argument j of a node.
+pub fn argument(nodes: &[u32], arguments: &[u32], node: Node, j: usize) -> Node
+    requires { ⌜ Sections (now nodes) (now arguments) ⌝ }
+    requires { ⌜ (node .0 < nodeCount (now nodes)) × (j < countOf (now nodes) (node .0)) ⌝ }
+    ensures { λ r. ⌜ (r .0 ≡ argumentOf (now (nodes .entry)) (now (arguments .entry)) (node .0) j) × (r .0 < node .0) ⌝ }
+{
+    let first = index(layout::first(nodes, node));
+    layout::node_at(arguments, first + j)
+}
+
+// Whether two applications have one symbol.
+pub fn one_symbol(nodes: &[u32], g: Node, h: Node) -> bool
+    requires { ⌜ (g .0 < nodeCount (now nodes)) × (h .0 < nodeCount (now nodes)) ⌝ }
+    ensures { λ r. ⌜ r ≡ symbolTest (now (nodes .entry)) (g .0) (h .0) ⌝ }
+{
+    (layout::name(nodes, g) == layout::name(nodes, h))
+        & (layout::count(nodes, g) == layout::count(nodes, h))
+}
+
+// Whether two nodes are applications of different symbols.
+pub fn differ(nodes: &[u32], g: Node, h: Node) -> bool
+    requires { ⌜ (g .0 < nodeCount (now nodes)) × (h .0 < nodeCount (now nodes)) ⌝ }
+    ensures { λ r. ⌜ r ≡ differTest (now (nodes .entry)) (g .0) (h .0) ⌝ }
+{
+    !is_variable(nodes, g) & !is_variable(nodes, h) & !one_symbol(nodes, g, h)
+}
