@@ -12,23 +12,27 @@ pub struct Arguments {
     pub count: u64,
     /// `--patience SECONDS`
     pub patience: Duration,
-    /// Whether the one flag of the program is given.
-    pub flag: bool,
+    /// The flag of the program that is given, at most one.
+    pub flag: Option<&'static str>,
 }
 
 impl Arguments {
     /// The arguments of this process, or none where one is wrong.
-    pub fn of_process(flag: &str) -> Option<Arguments> {
+    pub fn of_process(flags: &[&'static str]) -> Option<Arguments> {
         let mut read =
-            Arguments { programs: vec![], seed: 1, count: 5000, patience: Duration::from_secs(20), flag: false };
+            Arguments { programs: vec![], seed: 1, count: 5000, patience: Duration::from_secs(20), flag: None };
         let mut arguments = std::env::args().skip(1);
         while let Some(argument) = arguments.next() {
             match argument.as_str() {
                 "--seed" => read.seed = arguments.next()?.parse().ok()?,
                 "--count" => read.count = arguments.next()?.parse().ok().filter(|&count| count > 0)?,
                 "--patience" => read.patience = Duration::from_secs(arguments.next()?.parse().ok()?),
-                option if option == flag => read.flag = true,
-                option if option.starts_with('-') => return None,
+                option if option.starts_with('-') => {
+                    let flag = flags.iter().copied().find(|&flag| flag == option)?;
+                    if read.flag.replace(flag).is_some() {
+                        return None;
+                    }
+                }
                 program => read.programs.push(PathBuf::from(program)),
             }
         }

@@ -11,16 +11,32 @@ pub enum Outcome {
     Occurs,
 }
 
-/// What becomes of some pairs of nodes together.
+/// What becomes of some pairs of nodes together. "Here clash goes first."
 pub fn outcome(problem: &Problem, pairs: &[(usize, usize)]) -> Outcome {
-    let joined = closure(problem, pairs);
-    if clash(problem, &joined) {
-        Outcome::Clash
-    } else if occurs(problem, &joined) {
-        Outcome::Occurs
-    } else {
-        Outcome::Unified
+    match failures(problem, pairs) {
+        Failures { clash: true, .. } => Outcome::Clash,
+        Failures { occurs: true, .. } => Outcome::Occurs,
+        _ => Outcome::Unified,
     }
+}
+
+/// The failures that apply.
+#[derive(Clone, Copy, Debug, PartialEq, Eq)]
+pub struct Failures {
+    pub clash: bool,
+    pub occurs: bool,
+}
+
+/// Whether some pairs of nodes together make a clash, and whether some class reaches itself.
+pub fn failures(problem: &Problem, pairs: &[(usize, usize)]) -> Failures {
+    let joined = closure(problem, pairs);
+    Failures { clash: clash(problem, &joined), occurs: occurs(problem, &joined) }
+}
+
+/// Whether two nodes are joined by the closure of some pairs.
+pub fn joined(problem: &Problem, pairs: &[(usize, usize)]) -> impl Fn(usize, usize) -> bool {
+    let joined = closure(problem, pairs);
+    move |a, b| joined.holds(a, b)
 }
 
 /// A relation on nodes: a row of bits a node.

@@ -1,15 +1,17 @@
 //! A program held against this one on generated tables.
 
 use crate::generator::{self, Made};
+use crate::lines::Question;
 use crate::listing::{by_algorithm_1, by_choices};
-use crate::operations::{check, printed, words_of, LENT};
+use crate::operations::{printed, words_of, LENT};
+use crate::pairs::unifications;
 use crate::table::read;
 use crate::tally::Tally;
-use std::fmt::Display;
 use std::io::{self, Read, Write};
 use std::os::unix::process::ExitStatusExt;
 use std::path::PathBuf;
 use std::process::{Child, Command, ExitStatus, Stdio};
+use std::rc::Rc;
 use std::sync::mpsc;
 use std::thread;
 use std::time::{Duration, Instant};
@@ -20,7 +22,7 @@ const MOST_UNANSWERED: usize = 3;
 /// How many differences are printed, at most.
 const SHOWN: usize = 10;
 
-/// How many tables passed and failed.
+/// How many tables, or questions about tables, passed and failed.
 #[derive(Clone, Copy, Debug, Default, PartialEq, Eq)]
 pub struct Count {
     pub passed: usize,
@@ -78,68 +80,68 @@ pub fn modes_agree(input: &[u8]) -> Option<bool> {
     Some(listing == by_choices(&problem, LENT))
 }
 
-/// A table as a line of name, colon and words, and the line that answers it.
-struct Question {
-    made: Made,
-    line: String,
-    answer: String,
-}
-
-impl Question {
-    /// The question about an input that is whole words.
-    fn of(made: Made) -> Option<Question> {
-        let table = made.words()?;
-        let words: Vec<String> = table.iter().map(u32::to_string).collect();
-        let line = format!("{}: {}\n", made.index, words.join(" "));
-        let answer = checked(made.index, &table);
-        Some(Question { made, line, answer })
-    }
-}
-
-/// The answer to the question whether a table is accepted.
-pub fn checked(name: impl Display, table: &[u32]) -> String {
-    match check(table) {
-        None => format!("{name}: accepted\n"),
-        Some(refusal) => format!("{name}: refused {refusal}\n"),
-    }
-}
-
-/// The most bytes that are given to a program that checks tables.
-const MOST_CHECKED: usize = 65_000;
+/// The most bytes of lines that are given to a program at once.
+const MOST_LINES: usize = 65_000;
 
 /// Runs a program that checks tables, each a line, on those generated tables that are whole words, and prints what they
 /// were.
 pub fn compare_checks(program: &Program, seed: u64, count: u64) -> Count {
+    let check = |made: &Made| made.words().map(|table| Question::check(made.index.to_string(), table));
+    compare_answers(program, seed, count, |made| check(made).into_iter().collect())
+}
+
+/// Runs a program that unifies two nodes of a table, each a line, on pairs of nodes of generated tables, and prints what
+/// the tables were.
+pub fn compare_unifications(program: &Program, seed: u64, count: u64) -> Count {
+    compare_answers(program, seed, count, unifications)
+}
+
+/// A question about a generated table as a line, and the line that answers it.
+struct Asked {
+    made: Rc<Made>,
+    line: String,
+    answered: String,
+}
+
+fn compare_answers(program: &Program, seed: u64, count: u64, questions: impl Fn(&Made) -> Vec<Question>) -> Count {
     let mut counted = Count::default();
     let mut tally = Tally::default();
-    let mut batch: Vec<Question> = Vec::new();
+    let mut batch: Vec<Asked> = Vec::new();
     let mut size = 0;
-    for question in (0..count).filter_map(|index| Question::of(generator::make(seed, index))) {
-        if size + question.line.len() > MOST_CHECKED {
-            compare_batch(program, &batch, &mut counted);
-            batch.clear();
-            size = 0;
+    for made in (0..count).map(|index| Rc::new(generator::make(seed, index))) {
+        let questions = questions(&made);
+        if !questions.is_empty() {
+            tally.table(&made);
         }
-        size += question.line.len();
-        tally.count(&question.made, question.answer.split_once(": ").map_or("", |(_, answer)| answer.trim_end()));
-        batch.push(question);
+        for question in questions {
+            let answer = question.answer();
+            tally.answer(&answer.answer);
+            let line = question.line();
+            if size + line.len() > MOST_LINES {
+                compare_batch(program, &batch, &mut counted);
+                batch.clear();
+                size = 0;
+            }
+            size += line.len();
+            batch.push(Asked { made: made.clone(), line, answered: question.answered(&answer) });
+        }
     }
     compare_batch(program, &batch, &mut counted);
     print!("{tally}");
     counted
 }
 
-fn compare_batch(program: &Program, batch: &[Question], counted: &mut Count) {
-    let lines: String = batch.iter().map(|question| question.line.as_str()).collect();
+fn compare_batch(program: &Program, batch: &[Asked], counted: &mut Count) {
+    let lines: String = batch.iter().map(|asked| asked.line.as_str()).collect();
     let output = program.run(lines.as_bytes()).map(|output| String::from_utf8_lossy(&output).to_string());
     let mut rest = output.as_deref().unwrap_or_default();
-    for (i, question) in batch.iter().enumerate() {
-        // The answers of the last table are all that is left.
+    for (i, asked) in batch.iter().enumerate() {
+        // The answers to the last line are all that is left.
         let end = if i + 1 < batch.len() { rest.find('\n').map_or(rest.len(), |at| at + 1) } else { rest.len() };
         let (found, others) = rest.split_at(end);
         rest = others;
-        let difference = output.as_ref().map_or_else(|why| Some(why.clone()), |_| difference(&question.answer, found));
-        counted.add(&question.made, difference);
+        let difference = output.as_ref().map_or_else(|why| Some(why.clone()), |_| difference(&asked.answered, found));
+        counted.add(&asked.made, difference);
     }
 }
 

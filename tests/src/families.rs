@@ -244,6 +244,21 @@ fn doubling(problem: &mut Problem, names: &mut Vec<u32>, length: usize) -> (Vec<
     ((1..=length).map(doubled).collect(), variables)
 }
 
+/// The terms of each side as the arguments of one term, so that all their pairs are unified together.
+pub fn packed(random: &mut Random) -> Problem {
+    let make = random.pick(&[small, medium, variants, hopeless, alike, cycles, exponential, large]);
+    let mut problem = make(random);
+    let count = problem.left.terms.len().min(problem.right.terms.len());
+    if problem.nodes.len() + 2 > 256 || problem.arguments() + 2 * count > 512 {
+        return problem;
+    }
+    let name = random.within(1, 10) as u32;
+    let (left, right) = (problem.left.terms[..count].to_vec(), problem.right.terms[..count].to_vec());
+    problem.left.terms = vec![problem.application(name, left)];
+    problem.right.terms = vec![problem.application(name, right)];
+    problem
+}
+
 /// Many terms and labels, whose listings are mostly full.
 pub fn wide(random: &mut Random) -> Problem {
     let variables = random.pick(&[0, 2, 6, 20]);

@@ -36,7 +36,7 @@ impl Made {
 /// A family: its name, its share of the tables, and how one is made.
 pub type Family = (&'static str, usize, fn(&mut Random) -> Vec<u8>);
 
-pub const FAMILIES: [Family; 17] = [
+pub const FAMILIES: [Family; 18] = [
     ("small", 24, |random| bytes(families::small(random))),
     ("medium", 6, |random| bytes(families::medium(random))),
     ("large", 3, |random| bytes(families::large(random))),
@@ -46,6 +46,7 @@ pub const FAMILIES: [Family; 17] = [
     ("alike", 4, |random| bytes(families::alike(random))),
     ("cycles", 5, |random| bytes(families::cycles(random))),
     ("exponential", 3, |random| bytes(families::exponential(random))),
+    ("packed", 10, |random| bytes(families::packed(random))),
     ("wide", 6, |random| bytes(families::wide(random))),
     ("limits", 3, |random| bytes(families::limits(random))),
     ("boundaries", 3, |random| bytes(families::boundaries(random))),

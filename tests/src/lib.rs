@@ -12,7 +12,9 @@
 //! - [`assignments`]: assignments, equal sides and instances, for demand 3
 //! - [`generator`]: tables to compare on, of [`families`] of problems, right or with some [`damage`]
 //! - [`random`], [`drawing`]: how they are drawn
+//! - [`pairs`]: which of their nodes are unified
 //! - [`tally`]: what generated tables were
+//! - [`lines`]: the lines of this project's program `examples`
 //! - [`comparison`], [`arguments`]: a program held against this one
 
 pub mod algorithms;
@@ -24,8 +26,10 @@ pub mod damage;
 pub mod drawing;
 pub mod families;
 pub mod generator;
+pub mod lines;
 pub mod listing;
 pub mod operations;
+pub mod pairs;
 pub mod random;
 pub mod table;
 pub mod tally;

@@ -15,10 +15,14 @@ pub struct Tally {
 }
 
 impl Tally {
-    /// Counts a table by its answer.
-    pub fn count(&mut self, made: &Made, answer: &str) {
+    /// Counts a table.
+    pub fn table(&mut self, made: &Made) {
         self.tables += 1;
         *self.families.entry(made.family).or_default() += 1;
+    }
+
+    /// Counts an answer.
+    pub fn answer(&mut self, answer: &str) {
         *self.answers.entry(answer.to_string()).or_default() += 1;
     }
 
@@ -31,7 +35,8 @@ impl Tally {
             Some(("full", _)) => "full",
             _ => first,
         };
-        self.count(made, answer);
+        self.table(made);
+        self.answer(answer);
         if let Some(problem) = words_of(&made.input).ok().and_then(|table| read(&table).ok()) {
             let entries = printed.lines().count() - 1;
             for feature in features(&problem, answer, entries) {

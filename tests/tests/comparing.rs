@@ -99,7 +99,7 @@ fn a_word_that_is_not_the_least_is_found() {
 
 #[test]
 fn a_program_that_is_not_there_fails() {
-    for options in [&[][..], &["--checks"]] {
+    for options in [&[][..], &["--checks"], &["--unifications"]] {
         let output = compare("no-such-program", "", options);
         assert_eq!(counts(&output).0, 0);
         assert!(!output.status.success());
@@ -107,10 +107,19 @@ fn a_program_that_is_not_there_fails() {
 }
 
 #[test]
-fn answers_to_lines_of_tables_are_compared() {
-    agrees(env!("CARGO_BIN_EXE_faulty"), "checks none", &["--checks"]);
-    finds("checks refusal", &["--checks"]);
-    finds("checks more", &["--checks"]);
+fn checks_are_compared() {
+    agrees(env!("CARGO_BIN_EXE_faulty"), "answers none", &["--checks"]);
+    for fault in ["refusal", "more"] {
+        finds(&format!("answers {fault}"), &["--checks"]);
+    }
+}
+
+#[test]
+fn unifications_are_compared() {
+    agrees(env!("CARGO_BIN_EXE_faulty"), "answers none", &["--unifications"]);
+    for fault in ["refusal", "lent", "refused", "occurs", "clash", "changed", "past", "word", "joined", "more"] {
+        finds(&format!("answers {fault}"), &["--unifications"]);
+    }
 }
 
 /// A program that does something else than to answer.
@@ -142,7 +151,8 @@ fn a_program_that_is_killed_fails() {
 
 #[test]
 fn wrong_arguments_are_refused() {
-    for arguments in [&[][..], &["a", "b"], &["a", "--count", "0"], &["a", "--seed"], &["a", "--unknown"]] {
+    let two_modes = &["a", "--checks", "--unifications"];
+    for arguments in [&[][..], &["a", "b"], &["a", "--count", "0"], &["a", "--seed"], &["a", "--unknown"], two_modes] {
         let output = Command::new(env!("CARGO_BIN_EXE_compare")).args(arguments).output().expect("compare runs");
         assert_eq!(output.status.code(), Some(2), "{arguments:?}");
     }

@@ -1,12 +1,23 @@
-// Checks the tables of its input. A line is a name, a colon and the table's words; the answer is printed after the name.
+// Checks the tables of its input, or unifies two of their nodes. A line is a name, a colon and the table's words; the answer is printed after the name.
+// A name that begins `unify A B with L lent` asks for a unification, with L words lent; they are printed after the answer.
 ghost use mathlib.Core.Path.{_≡_};
 ghost use Prim.Native.Nat.{_+_, _≤_, _<_};
 ghost use lib.ListN.{length};
 use libc::STDIN_FILENO;
 use libc::STDOUT_FILENO;
+use table::Checked;
+use table::Node;
+use table::Refusal;
+use unify::Unification;
+
+// More bytes than the input has.
+const MOST_BYTES: usize = 131072;
 
 // More words than any table of the input has.
 const MOST_WORDS: usize = 2048;
+
+// The most words that are lent.
+const MOST_LENT: usize = 128;
 
 // A number that was read, and where the text goes on.
 struct Digits {
@@ -103,22 +114,114 @@ fn read_words(text: &[u8], words: &mut [u32]) -> usize
     place.count
 }
 
+// Fills words with numbers that are no nodes, all different.
+fn fill(words: &mut [u32])
+    requires { ⌜ length (now words) ≤ 1000 ⌝ }
+    ensures { λ r. ⌜ length (now (words .exit)) ≡ length (now (words .entry)) ⌝ }
+{
+    let mut i: usize = 0;
+    while i < words.len() {
+        words[i] = 9000 + (i as u32);
+        i += 1;
+    }
+}
+
+fn begins_with(text: &[u8], beginning: &[u8]) -> bool {
+    if text.len() < beginning.len() {
+        return false;
+    }
+    let mut i: usize = 0;
+    while i < beginning.len() {
+        if text[i] != beginning[i] {
+            return false;
+        }
+        i += 1;
+    }
+    true
+}
+
 fn print(text: &[u8]) {
     io::write_all(STDOUT_FILENO, text);
 }
 
-fn print_answer(answer: table::Checked) {
-    match answer {
-        table::Checked::Accepted => print(b": accepted\n"),
-        table::Checked::Refused(refusal) => {
-            print(b": refused ");
-            io::print_decimal(STDOUT_FILENO, refusal.number() as u64);
-            print(b"\n");
-        }
+fn print_refusal(refusal: Refusal) {
+    print(b": refused ");
+    io::print_decimal(STDOUT_FILENO, refusal.number() as u64);
+}
+
+fn print_checked(checked: Checked) {
+    match checked {
+        Checked::Accepted => print(b": accepted"),
+        Checked::Refused(refusal) => print_refusal(refusal),
+    }
+    print(b"\n");
+}
+
+fn print_unification(unification: Unification) {
+    match unification {
+        Unification::Unified => print(b": unified"),
+        Unification::Clash => print(b": clash"),
+        Unification::Occurs => print(b": occurs"),
+        Unification::Refused(refusal) => print_refusal(refusal),
     }
 }
 
-// Checks the table of one line.
+// Prints a comma, if any words follow it.
+fn print_comma(words: &[u32]) {
+    if words.len() > 0 {
+        print(b",");
+    }
+}
+
+fn print_word(word: u32) {
+    print(b" ");
+    io::print_decimal(STDOUT_FILENO, word as u64);
+}
+
+fn print_words(words: &[u32]) {
+    let mut i: usize = 0;
+    while i < words.len() {
+        print_word(words[i]);
+        i += 1;
+    }
+}
+
+fn print_lent(lent: &[u32]) {
+    print_comma(lent);
+    print_words(lent);
+    print(b"\n");
+}
+
+// Unifies two nodes, and prints the answer and the lent words after it.
+fn unify_nodes(table: &[u32], a: u32, b: u32, lent: &mut [u32]) {
+    print_unification(unify::unify(table, Node(a), Node(b), lent));
+    print_lent(lent);
+}
+
+// Unifies two nodes of a table. The name has their numbers and how many words are lent.
+fn run_unification(name: &[u8], table: &[u32]) {
+    let mut given = [0u32; 3];
+    read_words(name, &mut given);
+    if given[2] > MOST_LENT as u32 {
+        print(b": too many lent\n");
+        return;
+    }
+    let n = given[2] as usize;
+    let mut lent = [0u32; MOST_LENT];
+    fill(&mut lent);
+    unify_nodes(table, given[0], given[1], &mut lent[0..n]);
+}
+
+// Answers what a name asks of a table.
+fn answer(name: &[u8], table: &[u32]) {
+    if begins_with(name, b"unify ") {
+        run_unification(name, table);
+        return;
+    }
+    print_checked(table::check(table));
+}
+
+// Prints the name of one line and the answer to it.
 fn run_line(line: &[u8]) {
     let colon = find(line, 0, b':');
     print(&line[0..colon]);
@@ -128,7 +231,7 @@ fn run_line(line: &[u8]) {
         print(b": too many words\n");
         return;
     }
-    print_answer(table::check(&words[0..n]));
+    answer(&line[0..colon], &words[0..n]);
 }
 
 fn run(input: &[u8]) {
@@ -141,7 +244,7 @@ fn run(input: &[u8]) {
 }
 
 fn main() {
-    let mut input = io::large_buffer();
+    let mut input = [0u8; MOST_BYTES];
     let n = io::read_full(STDIN_FILENO, &mut input);
     if n == input.len() {
         print(b"too much input\n");

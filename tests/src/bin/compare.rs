@@ -1,22 +1,27 @@
-//! compare PROGRAM [--seed S] [--count N] [--patience SECONDS] [--checks]
+//! compare PROGRAM [--seed S] [--count N] [--patience SECONDS] [--checks | --unifications]
 //!
 //! Runs PROGRAM and the second program on generated tables, prints the first tables on which they differ, and ends in
-//! 'N passed, M failed'. PROGRAM prints listings as document 01's program `list` does, or with --checks the answers to
-//! lines of tables as this project's program `examples` does.
+//! 'N passed, M failed'. PROGRAM prints listings as document 01's program `list` does, or with --checks or
+//! --unifications the answers to lines as this project's program `examples` does: each table is checked, or some of its
+//! nodes are unified.
 
 use second::arguments::Arguments;
-use second::comparison::{compare_checks, compare_listings, Program};
+use second::comparison::{compare_checks, compare_listings, compare_unifications, Program};
 use std::process::ExitCode;
 
 fn main() -> ExitCode {
-    let arguments = Arguments::of_process("--checks").filter(|arguments| arguments.programs.len() == 1);
-    let Some(Arguments { mut programs, seed, count, patience, flag: checks }) = arguments else {
-        eprintln!("usage: compare PROGRAM [--seed S] [--count N] [--patience SECONDS] [--checks]");
+    let flags = ["--checks", "--unifications"];
+    let arguments = Arguments::of_process(&flags).filter(|arguments| arguments.programs.len() == 1);
+    let Some(Arguments { mut programs, seed, count, patience, flag }) = arguments else {
+        eprintln!("usage: compare PROGRAM [--seed S] [--count N] [--patience SECONDS] [--checks | --unifications]");
         return ExitCode::from(2);
     };
     let program = Program { path: programs.remove(0), patience };
-    let compare = if checks { compare_checks } else { compare_listings };
-    let counted = compare(&program, seed, count);
+    let counted = match flag {
+        Some("--checks") => compare_checks(&program, seed, count),
+        Some("--unifications") => compare_unifications(&program, seed, count),
+        _ => compare_listings(&program, seed, count),
+    };
     println!("{} passed, {} failed", counted.passed, counted.failed);
     if counted.failed == 0 {
         ExitCode::SUCCESS

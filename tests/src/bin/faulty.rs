@@ -1,9 +1,10 @@
 //! The second program with a fault built in, to test that `compare` finds it. FAULT in the environment names the fault.
 
-use second::comparison::checked;
+use second::closure::{failures, joined};
+use second::lines::{Answer, Question, Unification};
 use second::listing::{listing, Listing};
 use second::operations::{refused, text, words_of, LENT};
-use second::table::{read, Problem};
+use second::table::{read, Node, Problem};
 use second::terms::Terms;
 use std::io::{self, Read, Write};
 
@@ -11,7 +12,7 @@ fn main() -> io::Result<()> {
     let fault = std::env::var("FAULT").expect("FAULT names a fault");
     let mut input = Vec::new();
     io::stdin().read_to_end(&mut input)?;
-    let printed = match fault.strip_prefix("checks ") {
+    let printed = match fault.strip_prefix("answers ") {
         Some(fault) => answers(fault, &String::from_utf8_lossy(&input)),
         None => entries(&fault, &input),
     };
@@ -32,18 +33,44 @@ fn entries(fault: &str, input: &[u8]) -> String {
     }
 }
 
-/// The answers to lines of tables.
+/// The answers to lines.
 fn answers(fault: &str, lines: &str) -> String {
-    let answer = |line: &str| {
-        let (name, words) = line.split_once(':').expect("a name before a colon");
-        let table: Vec<u32> = words.split_whitespace().map(|word| word.parse().expect("a word")).collect();
-        checked(name, &table)
+    let answered = |line: &str| {
+        let question = Question::read(line).expect("a question");
+        let mut answer = question.answer();
+        spoil_answer(fault, &question, &mut answer);
+        question.answered(&answer)
     };
-    let answers: String = lines.lines().map(answer).collect();
+    let answers: String = lines.lines().map(answered).collect();
     match fault {
-        "refusal" => answers.replace("refused 6", "refused 7"),
         "more" => answers + "more\n",
         _ => answers,
+    }
+}
+
+fn spoil_answer(fault: &str, question: &Question, answer: &mut Answer) {
+    match (fault, answer.answer.as_str()) {
+        // A refusal off by one.
+        ("refusal", "refused 6") => answer.answer = "refused 7".to_string(),
+        // The lent words tested before the numbers of nodes.
+        ("lent", "refused 8") if answer.lent.is_empty() => answer.answer = "refused 9".to_string(),
+        // A word changed by a refused call.
+        ("refused", "refused 8" | "refused 9") => answer.lent.fill(0),
+        _ => {}
+    }
+    let (Some(Unification { a, b, .. }), Ok(problem)) = (question.unification, read(&question.table)) else { return };
+    let variables = problem.variables().len();
+    let pair = (a as usize, b as usize);
+    match (fault, answer.answer.as_str()) {
+        // Occurs, where there is a clash too.
+        ("occurs", "clash") if failures(&problem, &[pair]).occurs => answer.answer = "occurs".to_string(),
+        // A word changed by a failure.
+        ("clash", "clash") | ("changed", "occurs") => answer.lent.fill(0),
+        // A word more than there are variables.
+        ("past", "unified") if answer.lent.len() > variables => answer.lent[variables] = 0,
+        ("word", "unified") => greatest(&problem, &mut answer.lent[..variables]),
+        ("joined", "unified") => least_joined(&problem, pair, &mut answer.lent[..variables]),
+        _ => {}
     }
 }
 
@@ -68,15 +95,35 @@ fn spoil(fault: &str, problem: &Problem, listing: &mut Listing) {
             entries.pop();
             listing.full = true;
         }
-        // The greatest node of the same term, in place of the least.
         "word" => {
-            let nodes = Terms::default().of_nodes(problem);
             let digits = problem.left.terms.len() + problem.right.terms.len();
-            for word in entries.iter_mut().flat_map(|entry| &mut entry[digits..]) {
-                let same = (0..nodes.len()).filter(|&node| nodes[node] == nodes[*word as usize]);
-                *word = same.max().expect("the node itself") as u32;
+            for entry in entries {
+                greatest(problem, &mut entry[digits..]);
             }
         }
         _ => {}
+    }
+}
+
+/// Makes each binding word the greatest node of the same term, in place of the least.
+fn greatest(problem: &Problem, words: &mut [u32]) {
+    let nodes = Terms::default().of_nodes(problem);
+    for word in words {
+        let same = (0..nodes.len()).filter(|&node| nodes[node] == nodes[*word as usize]);
+        *word = same.max().expect("the node itself") as u32;
+    }
+}
+
+/// Makes each binding word that is an application the least one that is joined to the variable, in place of the least
+/// one that has the same value.
+fn least_joined(problem: &Problem, pair: (usize, usize), words: &mut [u32]) {
+    let joined = joined(problem, &[pair]);
+    let nodes = &problem.nodes;
+    for (x, word) in problem.variables().into_iter().zip(words) {
+        let own = nodes.iter().position(|node| *node == Node::Variable(x)).expect("x is present");
+        let is_application = |node: usize| matches!(nodes[node], Node::Application { .. });
+        if let Some(least) = (0..nodes.len()).find(|&node| is_application(node) && joined(own, node)) {
+            *word = least as u32;
+        }
     }
 }

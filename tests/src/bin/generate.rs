@@ -9,7 +9,7 @@ use second::tally::Tally;
 use std::process::ExitCode;
 
 fn main() -> ExitCode {
-    let arguments = Arguments::of_process("--tables").filter(|arguments| arguments.programs.is_empty());
+    let arguments = Arguments::of_process(&["--tables"]).filter(|arguments| arguments.programs.is_empty());
     let Some(Arguments { seed, count, flag: tables, .. }) = arguments else {
         eprintln!("usage: generate [--seed S] [--count N] [--tables]");
         return ExitCode::from(2);
@@ -17,7 +17,7 @@ fn main() -> ExitCode {
     let mut tally = Tally::default();
     for index in 0..count {
         let made = generator::make(seed, index);
-        if tables {
+        if tables.is_some() {
             println!("{}", made.shown());
         }
         tally.add(&made, &printed(&made.input));
