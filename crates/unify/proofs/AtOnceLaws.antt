@@ -12,7 +12,6 @@ use Rattle.table.specs.Layout.{word, kindOf, nameOf, nodeCount}
 use Rattle.unify.specs.declared.Classes.{Classes}
 use Rattle.unify.specs.declared.Extended.the-variants.{Unified, Clash}
 use Rattle.unify.specs.Node.{application, nodeAt}
-use Rattle.unify.specs.Closure.{OneSymbol}
 use Rattle.unify.specs.Computed.Classes.{classOf}
 use Rattle.unify.specs.Code.Sections.{nodesFrom, Sections, symbolTest, differTest}
 use Rattle.unify.specs.Code.Heads.{Partition}
@@ -20,11 +19,11 @@ use Rattle.unify.specs.Code.Given.{Inside}
 use Rattle.unify.specs.Code.Solved.{Closed}
 use Rattle.unify.specs.Code.Closing.{Closing}
 use Rattle.unify.specs.Code.Stands.{headsOf, orderOf, Formed, Stands, Extends}
-use Rattle.unify.proofs.OutcomeLaws.{outcome-clash, solved-decides}
-use Rattle.unify.proofs.SectionLaws.{run, run-long, nodes-long, sections-well-formed, application-from, symbol-test}
+use Rattle.unify.proofs.OutcomeLaws.{outcome-clash}
+use Rattle.unify.proofs.SectionLaws.{run, nodes-long, is-node, sections-well-formed, application-from, symbols-differ}
 use Rattle.unify.proofs.ClosingLaws.{already, heads-clash, opened, closed-at-last}
-use Rattle.unify.proofs.OrderedLaws.{placeIn, ordered-solved, ordered-enough}
-use Rattle.unify.proofs.ExtensionLaws.{inside-more}
+use Rattle.unify.proofs.OrderedLaws.{ordered-unified}
+use Rattle.unify.proofs.ExtensionLaws.{inside-more, extends-failed}
 
 -- what the test for applications of different symbols tells
 differ-means : (words : List ℕ) (g h : ℕ) → differTest words g h ≡ true → (kindOf words g ≡ 0 → ⊥) × (kindOf words h ≡ 0 → ⊥) × (symbolTest words g h ≡ false)
@@ -41,15 +40,12 @@ module _ (words args : List ℕ) (s : Sections words args) (c : Classes) (f : Fo
   at-head : (i : ℕ) → i < nodeCount words → classOf (headsOf words c) i ≡ word (c .of) i
   at-head i h = getD-take (nodeCount words) (c .of) i 0 h
 
-  inside : (i : ℕ) → i < nodeCount words → i < length (nodesFrom words args)
-  inside i h = rw (nodes-long words args) h
-
   heads : Partition (length (nodesFrom words args)) (headsOf words c)
   heads = rw (nodes-long words args) (f .partition)
 
   module _ (ps : List (ℕ × ℕ)) (d : Stands words args c ps) where
     longer : Inside (nodesFrom words args) ((a, b) ∷ ps)
-    longer = inside-more (nodesFrom words args) ps a b (inside a p) (inside b q) (d .inside)
+    longer = inside-more (nodesFrom words args) ps a b (is-node words args a p) (is-node words args b q) (d .inside)
 
     waiting : Closing (nodesFrom words args) ((a, b) ∷ ps) (headsOf words c) ((a, b) ∷ [])
     waiting = opened (nodesFrom words args) (sections-well-formed words args s) ps (d .inside) (headsOf words c) heads a b (d .closed)
@@ -66,9 +62,7 @@ module _ (words args : List ℕ) (s : Sections words args) (c : Classes) (f : Fo
   extends-together e =
       record {
         answers = λ ps d.
-            let k = joined-already ps d e in
-            let h = longer ps d in
-            sym (solved-decides (nodesFrom words args) (sections-well-formed words args s) ((a, b) ∷ ps) h (classOf (headsOf words c)) (placeIn (orderOf c)) (ordered-solved words args s (headsOf words c) ((a, b) ∷ ps) h k (orderOf c) (f .ordered)) (length (orderOf c)) (ordered-enough words args s (headsOf words c) ((a, b) ∷ ps) h k (orderOf c) (f .ordered)) .0);
+            sym (ordered-unified words args s (headsOf words c) ((a, b) ∷ ps) (longer ps d) (joined-already ps d e) (orderOf c) (f .ordered));
         formed = λ z. f;
         stands = λ z ps d. record { inside = longer ps d; closed = joined-already ps d e };
       }
@@ -88,18 +82,9 @@ module _ (words args : List ℕ) (s : Sections words args) (c : Classes) (f : Fo
   -- applications of different symbols: a clash
   pub extends-differ : (g h : ℕ) → g ≡ word (c .of) a → h ≡ word (c .of) b → differTest words g h ≡ true → Extends words args c a b Clash c
   extends-differ g h x y t =
-      record {
-        answers = λ ps d.
-            sym (outcome-clash (nodesFrom words args) (sections-well-formed words args s) ((a, b) ∷ ps) (longer ps d) .1
-            (heads-clash (nodesFrom words args) ((a, b) ∷ ps) (headsOf words c) a b [] (inside a p) (inside b q) _ _ _ _ (head-applied a g p x (k .0)) (head-applied b h q y (k .1)) different (waiting ps d)));
-        formed = λ z. let w : _≡_ {A = ℕ} 0 1 = cc in absurd (omega arith);
-        stands = λ z. let w : _≡_ {A = ℕ} 0 1 = cc in absurd (omega arith);
-      }
-    where
-      k : (kindOf words g ≡ 0 → ⊥) × (kindOf words h ≡ 0 → ⊥) × (symbolTest words g h ≡ false)
-      k = differ-means words g h t
-
-      different : OneSymbol (nameOf words g) (run words args g) (nameOf words h) (run words args h) → ⊥
-      different (n, m) =
-          let l = sym (run-long words args s g (head-inside a g p x)) ∙ m ∙ run-long words args s h (head-inside b h q y) in
-          false≢true (sym (k .2) ∙ symbol-test words g h .1 (n, l))
+      let k = differ-means words g h t in
+      extends-failed words args c a b c Clash (λ z. let w : _≡_ {A = ℕ} 0 1 = cc in omega arith)
+      (λ ps i d.
+      let e : Stands words args c ps = record { inside = i; closed = d } in
+      outcome-clash (nodesFrom words args) (sections-well-formed words args s) ((a, b) ∷ ps) (longer ps e) .1
+      (heads-clash (nodesFrom words args) ((a, b) ∷ ps) (headsOf words c) a b [] (is-node words args a p) (is-node words args b q) _ _ _ _ (head-applied a g p x (k .0)) (head-applied b h q y (k .1)) (symbols-differ words args s g h (head-inside a g p x) (head-inside b h q y) (k .2)) (waiting ps e)))

@@ -20,7 +20,7 @@ use Rattle.unify.specs.Code.Sections.{nodesFrom, Sections, symbolTest}
 use Rattle.unify.specs.Code.Closing.{Closing, argumentPair, argumentPairs, waiting, Paired, Log, Works}
 use Rattle.unify.proofs.JoinedLaws.{Among}
 use Rattle.unify.proofs.CountLaws.{join-length, join-keeps, join-lowers, unites-front, in-list}
-use Rattle.unify.proofs.SectionLaws.{run, run-long, nodes-long, variable-from, application-from, from-application, symbol-test, is-node}
+use Rattle.unify.proofs.SectionLaws.{symbols-differ, run, run-long, nodes-long, variable-from, application-from, from-application, symbol-test, is-node}
 use Rattle.unify.proofs.ClosingLaws.{Wanted, HeadsMeet, retold, reordered, already, heads-clash, united, classes-joined, variable-meets}
 use Rattle.unify.proofs.ClosingLogLaws.{among-both, among-swap, tabulate-among, zip-pairs, pairs-zip, waiting-from, waiting-has, waiting-none, waiting-longer, longer-waiting, extends-on, extends-none, log-places}
 
@@ -219,13 +219,7 @@ module _ (words args : List ℕ) (s : Sections words args) (cs fs ss : List ℕ)
       pub join-clash : symbolTest words (classOf cs b) (classOf cs a) ≡ false → Works words args cs fs ss top ((a, b) ∷ []) false top cs fs ss
       join-clash e =
           step-clash words args cs fs ss top ((a, b) ∷ []) cs l
-          (λ ps todo c. heads-clash ns ps cs a b todo (is-node words args a ha) (is-node words args b hb) _ _ _ _ head-applied other-applied differ c)
-        where
-          differ : OneSymbol (nameOf words (classOf cs a)) (run words args (classOf cs a)) (nameOf words (classOf cs b)) (run words args (classOf cs b)) → ⊥
-          differ (n, m) =
-              let c = sym (run-long words args s (classOf cs b) other-inside) ∙ sym m ∙ run-long words args s (classOf cs a) head-inside in
-              let z = symbol-test words (classOf cs b) (classOf cs a) .1 (sym n, c) in
-              false≢true (sym e ∙ z)
+          (λ ps todo c. heads-clash ns ps cs a b todo (is-node words args a ha) (is-node words args b hb) _ _ _ _ head-applied other-applied (λ o. symbols-differ words args s (classOf cs b) (classOf cs a) other-inside head-inside e (sym (o .0), sym (o .1))) c)
 
       -- of one symbol
       module _ (d : classOf cs a ≡ classOf cs b → ⊥) (tested : symbolTest words (classOf cs b) (classOf cs a) ≡ true) where

@@ -23,9 +23,9 @@ use Rattle.unify.specs.Code.Ordering.{FoundOrder}
 use Rattle.unify.specs.Code.Closing.{Closes}
 use Rattle.unify.specs.Code.Settled.{Settles, ComesTo}
 use Rattle.unify.specs.Code.Stands.{headsOf, orderOf, Extends, extended}
-use Rattle.unify.proofs.OutcomeLaws.{outcome-clash, cycle-decides, solved-decides}
-use Rattle.unify.proofs.SectionLaws.{nodes-long, sections-well-formed}
-use Rattle.unify.proofs.OrderedLaws.{leads-reaches, placeIn, ordered-solved, ordered-enough}
+use Rattle.unify.proofs.OutcomeLaws.{outcome-clash, cycle-decides}
+use Rattle.unify.proofs.SectionLaws.{nodes-long, is-node, sections-well-formed}
+use Rattle.unify.proofs.OrderedLaws.{leads-reaches, ordered-unified}
 
 -- the longer list is of nodes
 pub inside-more : (ns : List Node) (ps : List (ℕ × ℕ)) (a b : ℕ) → a < length ns → b < length ns → Inside ns ps → Inside ns ((a, b) ∷ ps)
@@ -41,7 +41,7 @@ closes-partition words args c = rw (nodes-long words args) at (c .partition)
 
 module _ (words args : List ℕ) (s : Sections words args) (cs : List ℕ) (a b : ℕ) (p : a < nodeCount words) (q : b < nodeCount words) where
   longer : (ps : List (ℕ × ℕ)) → Inside (nodesFrom words args) ps → Inside (nodesFrom words args) ((a, b) ∷ ps)
-  longer ps = inside-more (nodesFrom words args) ps a b (rw (nodes-long words args) p) (rw (nodes-long words args) q)
+  longer ps = inside-more (nodesFrom words args) ps a b (is-node words args a p) (is-node words args b q)
 
   module _ (cs′ order : List ℕ) where
     -- a clash
@@ -83,31 +83,28 @@ module _ (words args : List ℕ) (s : Sections words args) (cs : List ℕ) (a b 
             cycles = λ e. let z : _≡_ {A = ℕ} 0 1 = cc in absurd (omega arith);
             counted = λ m e. let d : n ≡ m = cc in rw d at (f .ordered n g .0);
             ordered = λ m e. let d : n ≡ m = cc in rw d at (f .ordered n g .1);
-            unifies = λ m e ps h k.
-                let d = c .closes y ps h k in
-                let o = f .ordered n g .1 in
-                let t = longer ps h in
-                solved-decides (nodesFrom words args) (sections-well-formed words args s) ((a, b) ∷ ps) t (classOf cs′) (placeIn (take n order)) (ordered-solved words args s cs′ ((a, b) ∷ ps) t d (take n order) o) (length (take n order)) (ordered-enough words args s cs′ ((a, b) ∷ ps) t d (take n order) o) .0;
+            unifies = λ m e ps h k. ordered-unified words args s cs′ ((a, b) ∷ ps) (longer ps h) (c .closes y ps h k) (take n order) (f .ordered n g .1);
             closed = λ m e. c .closes y;
           }
 
+-- a failure: whatever classes are given back
+pub extends-failed : (words args : List ℕ) (c : Classes) (a b : ℕ) (c′ : Classes) (x : Extended) → (x ≡ Unified → ⊥) → ComesTo words args (headsOf words c) a b (extended x) → Extends words args c a b x c′
+extends-failed words args c a b c′ x n o =
+    record {
+      answers = λ ps d. sym (o ps (d .inside) (d .closed));
+      formed = λ z. absurd (n z);
+      stands = λ z. absurd (n z);
+    }
+
 -- Classes c, joined at a and b: heads and order are the first of longer lists.
 module _ (words args : List ℕ) (s : Sections words args) (c : Classes) (a b : ℕ) (p : a < nodeCount words) (q : b < nodeCount words) (r : settled.Settled) (heads order : List ℕ) (t : Settles words args (headsOf words c) a b r heads order) where
-  extends-failed : (c′ : Classes) (x : Extended) → (x ≡ Unified → ⊥) → ComesTo words args (headsOf words c) a b (extended x) → Extends words args c a b x c′
-  extends-failed c′ x n o =
-      record {
-        answers = λ ps d. sym (o ps (d .inside) (d .closed));
-        formed = λ z. absurd (n z);
-        stands = λ z. absurd (n z);
-      }
-
   -- a clash
   pub extends-clash : (c′ : Classes) → r ≡ settled.the-variants.Clash → Extends words args c a b Clash c′
-  extends-clash c′ e = extends-failed c′ Clash (λ z. let y : _≡_ {A = ℕ} 0 1 = cc in omega arith) (t .clashes e)
+  extends-clash c′ e = extends-failed words args c a b c′ Clash (λ z. let y : _≡_ {A = ℕ} 0 1 = cc in omega arith) (t .clashes e)
 
   -- a cycle
   pub extends-occurs : (c′ : Classes) → r ≡ settled.the-variants.Occurs → Extends words args c a b Occurs c′
-  extends-occurs c′ e = extends-failed c′ Occurs (λ z. let y : _≡_ {A = ℕ} 0 1 = cc in omega arith) (t .cycles e)
+  extends-occurs c′ e = extends-failed words args c a b c′ Occurs (λ z. let y : _≡_ {A = ℕ} 0 1 = cc in omega arith) (t .cycles e)
 
   -- classes of the longer list
   pub extends-unified : {c′ : Classes} → r ≡ settled.the-variants.Count (c′ .count) → headsOf words c′ ≡ heads → orderOf c′ ≡ take (c′ .count) order → Extends words args c a b Unified c′
@@ -120,7 +117,7 @@ module _ (words args : List ℕ) (s : Sections words args) (c : Classes) (a b : 
           ordered = rw (k, o) (t .ordered (c′ .count) e);
         };
         stands = λ z ps d. record {
-          inside = inside-more (nodesFrom words args) ps a b (rw (nodes-long words args) p) (rw (nodes-long words args) q) (d .inside);
+          inside = inside-more (nodesFrom words args) ps a b (is-node words args a p) (is-node words args b q) (d .inside);
           closed = rw k (t .closed (c′ .count) e ps (d .inside) (d .closed));
         };
       }

@@ -10,12 +10,15 @@ use lib.Dec.{eqb}
 use lib.ListN.{length}
 use Rattle.table.specs.Layout.{word, nodeCount, argumentOf}
 use Rattle.unify.specs.Closure.{same, Reaches, step, steps}
+use Rattle.unify.specs.Outcome.{unified}
 use Rattle.unify.specs.Computed.Classes.{classOf}
+use Rattle.unify.specs.Computed.Unifying.{outcome}
 use Rattle.unify.specs.Code.Given.{Inside}
 use Rattle.unify.specs.Code.Sections.{nodesFrom, Sections}
 use Rattle.unify.specs.Code.Order.{Leads, next, further, Ordered}
 use Rattle.unify.specs.Code.Solved.{Closed, Solved}
 use Rattle.unify.proofs.SolvedLaws.{closed-inside}
+use Rattle.unify.proofs.OutcomeLaws.{solved-decides}
 use Rattle.unify.proofs.SectionLaws.{nodes-long, application-from, argument-place, place-argument, counted-application, sections-well-formed}
 
 -- The first place of a number in a list; past its end where it has none.
@@ -75,3 +78,8 @@ module _ (words args : List ℕ) (s : Sections words args) (cs : List ℕ) (ps :
               let k = place-of order (classOf cs a) (q .0) (omega (arith, l, p .0)) y .0 in
               omega (arith, l, k);
         }
+
+    -- so they decide: unified
+    pub ordered-unified : outcome (nodesFrom words args) ps ≡ unified
+    ordered-unified =
+        solved-decides (nodesFrom words args) (sections-well-formed words args s) ps h (classOf cs) (placeIn order) ordered-solved (length order) ordered-enough .0

@@ -4,7 +4,7 @@ use Prim.Native.Nat.{ℕ, _<_}
 use mathlib.Core.List.{List, List·Memᴰ, zip}
 use mathlib.Core.Logic.{_↔_}
 use mathlib.Core.Path.{_≡_, sym, ap, _∙_}
-use mathlib.Core.Bool.{true}
+use mathlib.Core.Bool.{true, false, false≢true}
 use native.Mathlib.Decide.{ℕ-discrete}
 use native.Mathlib.Omega.{arith}
 use borrow.Author.Tests.{eq-eqb, ne-eqb}
@@ -13,6 +13,7 @@ use lib.Seq.{length-take-le, getD-take, getD-drop, ext-getD}
 use Rattle.table.specs.Layout.{kindOf, nameOf, firstOf, countOf, nodeCount, argumentOf}
 use Rattle.table.proofs.BoolLaws.{both-equal}
 use Rattle.unify.specs.Node.{variable, application, readNode, nodeAt}
+use Rattle.unify.specs.Closure.{OneSymbol}
 use Rattle.unify.specs.Code.Given.{WellFormed}
 use Rattle.unify.specs.Code.Sections.{nodesFrom, Sections, symbolTest}
 use Rattle.unify.proofs.ListLaws.{tabulate-length, tabulate-at, zip-at, taken, placed}
@@ -88,6 +89,11 @@ module _ (words args : List ℕ) (s : Sections words args) where
   -- and are the node's
   run-at : (i j : ℕ) → j < countOf words i → getD (run words args i) j 0 ≡ argumentOf words args i j
   run-at i j q = getD-take (countOf words i) (drop (firstOf words i) args) j 0 q ∙ getD-drop (firstOf words i) args j 0
+
+  -- applications for which the test fails have different symbols
+  pub symbols-differ : (g h : ℕ) → g < nodeCount words → h < nodeCount words → symbolTest words g h ≡ false → OneSymbol (nameOf words g) (run words args g) (nameOf words h) (run words args h) → ⊥
+  symbols-differ g h p q e (n, m) =
+      false≢true (sym e ∙ symbol-test words g h .1 (n, sym (run-long g p) ∙ m ∙ run-long h q))
 
   -- an argument of node i stands at some place
   pub argument-place : (i : ℕ) → i < nodeCount words → (f : ℕ) (us : List ℕ) → nodeAt (nodesFrom words args) i ≡ application f us → (a : ℕ) → List·Memᴰ a us → (j : ℕ) × (j < countOf words i) × (a ≡ argumentOf words args i j)
