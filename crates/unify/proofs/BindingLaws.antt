@@ -9,13 +9,15 @@ use lib.ListN.{length, drop}
 use lib.Seq.{take-length}
 use Rattle.table.specs.Layout.{word, kindOf, nameOf, nodeCount}
 use Rattle.unify.specs.declared.Classes.{Classes}
-use Rattle.unify.specs.Code.Stands.{headsOf, Leaves}
+use Rattle.unify.specs.declared.Variables.{Variables}
+use Rattle.unify.specs.Code.Stands.{headsOf, Lists, Leaves}
 use Rattle.unify.specs.Node.{Node, variable, application, nodeAt, Present}
 use Rattle.unify.specs.Words.{Rising, before, Least, Matched}
 use Rattle.unify.specs.Computed.Classes.{classOf}
 use Rattle.unify.specs.Computed.Variables.{variablesOf}
 use Rattle.unify.specs.Computed.Solution.{nodeOf}
-use Rattle.unify.specs.Computed.Unifying.{wordsOf}
+use Rattle.unify.specs.Computed.Binding.{wordOf, bindingWords}
+use Rattle.unify.specs.Computed.Unifying.{unifier, wordsOf}
 use Rattle.unify.specs.Code.Sections.{nodesFrom, Sections}
 use Rattle.unify.specs.Code.Heads.{Partition}
 use Rattle.unify.specs.Code.Order.{Ordered}
@@ -193,3 +195,13 @@ pub leaves : (words args : List ℕ) (c : Classes) (heads out out′ : List ℕ)
 leaves words args c heads out out′ e b ps s =
     let d : Closed (nodesFrom words args) ps (classOf heads) = rw e (s .closed) in
     rw (← least-long words args) (b ps (s .inside) d)
+
+-- where no variable is present there are no words, and nothing is written
+pub leaves-nothing : (words args : List ℕ) (v : Variables) (c : Classes) (out : List ℕ) → Lists words args v → v .count ≡ 0 → Leaves words args c out out
+unfolding wordsOf bindingWords
+leaves-nothing words args v c out l z ps s =
+    pick (variablesOf (nodesFrom words args)) (sym (l .counted) ∙ z)
+  where
+    pick : (xs : List ℕ) → length xs ≡ 0 → out ≡ map (wordOf (nodesFrom words args) (unifier (nodesFrom words args) ps)) xs ++ drop (length xs) out
+    pick [] e = refl
+    pick (x ∷ xs) e = absurd (omega (arith, e))

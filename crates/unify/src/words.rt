@@ -205,7 +205,7 @@ fn write_bindings(
     );
 }
 
-// Writes the binding words of the classes of a list of pairs.
+// Writes the binding words of the classes of a list of pairs: none where no variable is present.
 pub fn bind(
     nodes: &[u32],
     arguments: &[u32],
@@ -219,6 +219,9 @@ pub fn bind(
     requires { ⌜ variables .count ≤ length (now out) ⌝ }
     ensures { λ r. ⌜ Leaves (now (nodes .entry)) (now (arguments .entry)) classes (now (out .entry)) (now (out .exit)) ⌝ }
 {
+    if variables.count == 0 {
+        return;
+    }
     let n = nodes::node_count(nodes, arguments);
     let of = classes.of;
     let order = classes.order;
