@@ -1,12 +1,14 @@
-// The heads of the classes in an order in which those of arguments come first, found by depth-first search.
+// The heads of the classes in an order in which those of arguments come first: an earlier order, mended by depth-first search where
+// classes have changed.
 ghost use mathlib.Core.Path.{_≡_};
-ghost use Prim.Native.Nat.{_<_};
+ghost use Prim.Native.Nat.{_+_, _<_};
 ghost use lib.ListN.{length};
 ghost use Rattle.table.specs.Layout.{countOf, nodeCount, argumentOf};
 ghost use Rattle.unify.specs.Computed.Classes.{classOf};
 ghost use Rattle.unify.specs.Code.Sections.{Sections};
 ghost use Rattle.unify.specs.Code.Heads.{Partition};
-ghost use Rattle.unify.specs.Code.Ordering.{Visiting, Visited, Starting, FoundOrder};
+ghost use Rattle.unify.specs.Code.Order.{Ordered};
+ghost use Rattle.unify.specs.Code.Ordering.{Visiting, Visited, Changing, Starting, Sweep, Swept, Mending, Keeping, FoundOrder};
 use crate::nodes;
 use table::Node;
 use table::limits::MAX_NODES;
@@ -72,23 +74,49 @@ fn visit(
     Placed::Count(count + 1)
 }
 
-// Puts the heads of all nodes into the order.
-fn visit_all(
+// Puts the head of node i into the order, if it has changed.
+fn visit_changed(
     nodes: &[u32],
     arguments: &[u32],
+    before: &[u8],
+    of: &[u8],
+    marks: &mut [u8],
+    order: &mut [u8],
+    placed: usize,
+    i: usize,
+) -> Placed
+    requires { ⌜ Changing (now nodes) (now arguments) (now before) (now of) ⌝ }
+    requires { ⌜ Sweep (now nodes) (now arguments) (now before) (now of) (now marks) (now order) placed i ⌝ }
+    requires { ⌜ i < nodeCount (now nodes) ⌝ }
+    ensures { λ r. ⌜ Swept (now (nodes .entry)) (now (arguments .entry)) (now (before .entry)) (now (of .entry)) (i + 1) r (now (marks .exit)) (now (order .exit)) ⌝ }
+{
+    let g = nodes::node_in(before, i);
+    let h = nodes::node_in(of, i);
+    if g.0 == h.0 {
+        return Placed::Count(placed);
+    }
+    visit(nodes, arguments, of, marks, order, placed, h)
+}
+
+// Puts the heads that have changed into the order.
+fn visit_all_changed(
+    nodes: &[u32],
+    arguments: &[u32],
+    before: &[u8],
     of: &[u8],
     marks: &mut [u8],
     order: &mut [u8],
 ) -> Placed
-    requires { ⌜ Starting (now nodes) (now arguments) (now of) (now marks) (now order) ⌝ }
-    ensures { λ r. ⌜ FoundOrder (now (nodes .entry)) (now (arguments .entry)) (now (of .entry)) r (now (order .exit)) ⌝ }
+    requires { ⌜ Changing (now nodes) (now arguments) (now before) (now of) ⌝ }
+    requires { ⌜ Starting (nodeCount (now nodes)) (now marks) (now order) ⌝ }
+    ensures { λ r. ⌜ Swept (now (nodes .entry)) (now (arguments .entry)) (now (before .entry)) (now (of .entry)) (nodeCount (now (nodes .entry))) r (now (marks .exit)) (now (order .exit)) ⌝ }
 {
     let n = nodes::node_count(nodes, arguments);
     let mut count: usize = 0;
     let mut i: usize = 0;
     while i < n {
-        let h = nodes::node_in(of, i);
-        let Placed::Count(c) = visit(nodes, arguments, of, marks, order, count, h) else {
+        let Placed::Count(c) = visit_changed(nodes, arguments, before, of, marks, order, count, i)
+        else {
             return Placed::Cycle;
         };
         count = c;
@@ -97,14 +125,114 @@ fn visit_all(
     Placed::Count(count)
 }
 
-// Puts the heads into an order in which those of arguments come first.
-pub fn put_in_order(nodes: &[u32], arguments: &[u32], of: &[u8], order: &mut [u8]) -> Placed
+// Puts what stands at place p of the earlier order behind the others, if it is a head still and not among them. Gives how many there are.
+fn keep(
+    nodes: &[u32],
+    arguments: &[u32],
+    before: &[u8],
+    earlier: &[u8],
+    of: &[u8],
+    marks: &mut [u8],
+    order: &mut [u8],
+    placed: usize,
+    p: usize,
+) -> usize
+    requires { ⌜ Mending (now nodes) (now arguments) (now before) (now earlier) (now of) ⌝ }
+    requires { ⌜ Keeping (now nodes) (now arguments) (now before) (now earlier) (now of) (now marks) (now order) placed p ⌝ }
+    requires { ⌜ p < length (now earlier) ⌝ }
+    ensures { λ r. ⌜ Keeping (now (nodes .entry)) (now (arguments .entry)) (now (before .entry)) (now (earlier .entry)) (now (of .entry)) (now (marks .exit)) (now (order .exit)) r (p + 1) ⌝ }
+{
+    let h = earlier[p];
+    let i = h as usize;
+    if marks[i] == DONE {
+        return placed;
+    }
+    if of[i] != h {
+        return placed;
+    }
+    order[placed] = h;
+    marks[i] = DONE;
+    placed + 1
+}
+
+// Puts the heads that have not changed behind the others, in their earlier order.
+fn keep_all(
+    nodes: &[u32],
+    arguments: &[u32],
+    before: &[u8],
+    earlier: &[u8],
+    of: &[u8],
+    marks: &mut [u8],
+    order: &mut [u8],
+    placed: usize,
+) -> Placed
+    requires { ⌜ Mending (now nodes) (now arguments) (now before) (now earlier) (now of) ⌝ }
+    requires { ⌜ Keeping (now nodes) (now arguments) (now before) (now earlier) (now of) (now marks) (now order) placed 0 ⌝ }
+    ensures { λ r. ⌜ FoundOrder (now (nodes .entry)) (now (arguments .entry)) (now (of .entry)) r (now (order .exit)) ⌝ }
+{
+    let mut count = placed;
+    let mut p: usize = 0;
+    while p < earlier.len() {
+        count = keep(
+            nodes,
+            arguments,
+            before,
+            earlier,
+            of,
+            marks,
+            order,
+            count,
+            p,
+        );
+        p += 1;
+    }
+    Placed::Count(count)
+}
+
+// Puts first the heads that have changed, then the others.
+fn mend(
+    nodes: &[u32],
+    arguments: &[u32],
+    before: &[u8],
+    earlier: &[u8],
+    of: &[u8],
+    marks: &mut [u8],
+    order: &mut [u8],
+) -> Placed
+    requires { ⌜ Mending (now nodes) (now arguments) (now before) (now earlier) (now of) ⌝ }
+    requires { ⌜ Starting (nodeCount (now nodes)) (now marks) (now order) ⌝ }
+    ensures { λ r. ⌜ FoundOrder (now (nodes .entry)) (now (arguments .entry)) (now (of .entry)) r (now (order .exit)) ⌝ }
+{
+    let Placed::Count(placed) = visit_all_changed(nodes, arguments, before, of, marks, order) else {
+        return Placed::Cycle;
+    };
+    keep_all(nodes, arguments, before, earlier, of, marks, order, placed)
+}
+
+// Puts the heads into an order in which those of arguments come first, given the heads before and an order of them.
+pub fn put_in_order(
+    nodes: &[u32],
+    arguments: &[u32],
+    before: &[u8],
+    earlier: &[u8],
+    of: &[u8],
+    order: &mut [u8],
+) -> Placed
     requires { ⌜ Sections (now nodes) (now arguments) ⌝ }
+    requires { ⌜ (length (now before) ≡ nodeCount (now nodes)) × Ordered (now nodes) (now arguments) (now before) (now earlier) ⌝ }
     requires { ⌜ Partition (nodeCount (now nodes)) (now of) ⌝ }
     requires { ⌜ length (now order) ≡ nodeCount (now nodes) ⌝ }
     ensures { λ r. ⌜ FoundOrder (now (nodes .entry)) (now (arguments .entry)) (now (of .entry)) r (now (order .exit)) ⌝ }
 {
     let n = nodes::node_count(nodes, arguments);
     let mut marks = [0u8; MAX_NODES];
-    visit_all(nodes, arguments, of, &mut marks[0..n], order)
+    mend(
+        nodes,
+        arguments,
+        before,
+        earlier,
+        of,
+        &mut marks[0..n],
+        order,
+    )
 }

@@ -5,6 +5,7 @@ ghost use lib.ListN.{length};
 ghost use Rattle.table.specs.Layout.{nodeCount};
 ghost use Rattle.unify.specs.Code.Sections.{Sections};
 ghost use Rattle.unify.specs.Code.Heads.{Partition};
+ghost use Rattle.unify.specs.Code.Order.{Ordered};
 ghost use Rattle.unify.specs.Code.Settled.{Settles};
 ghost use Rattle.unify.specs.Code.Stands.{Formed, Extends};
 use crate::Classes;
@@ -23,16 +24,19 @@ enum Settled {
     Count(usize),
 }
 
-// Joins two nodes and whatever the closure then joins, and puts the heads into order.
+// Joins two nodes and whatever the closure then joins, and puts the heads into order, given heads before and an order of them.
 fn settle(
     nodes: &[u32],
     arguments: &[u32],
+    before: &[u8],
+    earlier: &[u8],
     of: &mut [u8],
     order: &mut [u8],
     a: Node,
     b: Node,
 ) -> Settled
     requires { ⌜ Sections (now nodes) (now arguments) ⌝ }
+    requires { ⌜ (length (now before) ≡ nodeCount (now nodes)) × Ordered (now nodes) (now arguments) (now before) (now earlier) ⌝ }
     requires { ⌜ Partition (nodeCount (now nodes)) (now of) ⌝ }
     requires { ⌜ (a .0 < nodeCount (now nodes)) × (b .0 < nodeCount (now nodes)) ⌝ }
     requires { ⌜ length (now order) ≡ nodeCount (now nodes) ⌝ }
@@ -41,7 +45,7 @@ fn settle(
     if !closure::close(nodes, arguments, of, a, b) {
         return Settled::Clash;
     }
-    match order::put_in_order(nodes, arguments, of, order) {
+    match order::put_in_order(nodes, arguments, before, earlier, of, order) {
         Placed::Cycle => Settled::Occurs,
         Placed::Count(count) => Settled::Count(count),
     }
@@ -55,9 +59,21 @@ fn extend_copy(nodes: &[u32], arguments: &[u32], classes: Classes, a: Node, b: N
     ensures { λ r. ⌜ Extends (now (nodes .entry)) (now (arguments .entry)) classes (a .0) (b .0) (r .answer) (r .classes) ⌝ }
 {
     let n = nodes::node_count(nodes, arguments);
-    let mut of = classes.of;
-    let mut order = classes.order;
-    match settle(nodes, arguments, &mut of[0..n], &mut order[0..n], a, b) {
+    let count = classes.count;
+    let before = classes.of;
+    let earlier = classes.order;
+    let mut of = before;
+    let mut order = earlier;
+    match settle(
+        nodes,
+        arguments,
+        &before[0..n],
+        &earlier[0..count],
+        &mut of[0..n],
+        &mut order[0..n],
+        a,
+        b,
+    ) {
         Settled::Clash => Extension {
             answer: Extended::Clash,
             classes,

@@ -1,4 +1,4 @@
--- Putting the classes in order by depth-first search: what is marked and listed, and what a visit leaves.
+-- Putting the classes in order by depth-first search from those that have changed: what is marked and listed, and what a visit leaves.
 use Prim.Native.Nat.{ℕ, _<_, _≤_}
 use mathlib.Core.Bool.{Bool}
 use mathlib.Core.List.{List}
@@ -66,19 +66,43 @@ pub record Visited (words args cs marks : List ℕ) (h : ℕ) (r : Placed) (afte
   pub cycle : r ≡ Cycle → Looped words args cs
   pub counted : (c : ℕ) → r ≡ Count c → Passed words args cs marks h after order c
 
--- What the whole search asks: every node is new.
-pub record Starting (words args cs marks order : List ℕ) : Type 0 where
+-- What the search asks of the heads before and of those now.
+pub record Changing (words args before cs : List ℕ) : Type 0 where
   pub sections : Sections words args
+  pub before-size : length before ≡ nodeCount words
   pub partition : Partition (nodeCount words) cs
-  pub marks-size : length marks ≡ nodeCount words
-  pub order-size : length order ≡ nodeCount words
-  pub new : (k : ℕ) → k < nodeCount words → word marks k ≡ 0
 
--- Before the head of node i is visited: the heads of the nodes before it are done, and no node is open.
-pub record Sweep (words args cs marks order : List ℕ) (count i : ℕ) : Type 0 where
+-- What the search starts with: every one of n nodes is new.
+pub record Starting (n : ℕ) (marks order : List ℕ) : Type 0 where
+  pub marks-size : length marks ≡ n
+  pub order-size : length order ≡ n
+  pub new : (k : ℕ) → k < n → word marks k ≡ 0
+
+-- The heads of the first i nodes that have changed are done.
+abbrev pub ChangedDone : List ℕ → List ℕ → List ℕ → ℕ → Type 0
+ChangedDone before cs marks i = (k : ℕ) → k < i → (classOf before k ≡ classOf cs k → ⊥) → word marks (classOf cs k) ≡ 2
+
+-- Before node i is looked at: the heads of the nodes before it are done where they have changed, and no node is open.
+pub record Sweep (words args before cs marks order : List ℕ) (count i : ℕ) : Type 0 where
   pub ordering : Ordering words args cs marks order count
   pub none-open : (k : ℕ) → k < nodeCount words → word marks k ≡ 1 → ⊥
-  pub heads : (k : ℕ) → k < i → word marks (classOf cs k) ≡ 2
+  pub changed : ChangedDone before cs marks i
+
+-- What the search answers and leaves when the nodes before node i are looked at.
+pub record Swept (words args before cs : List ℕ) (i : ℕ) (r : Placed) (marks order : List ℕ) : Type 0 where
+  pub cycle : r ≡ Cycle → Looped words args cs
+  pub counted : (c : ℕ) → r ≡ Count c → Sweep words args before cs marks order c i
+
+-- What mending an order asks: it is one of the heads before.
+pub record Mending (words args before earlier cs : List ℕ) : Type 0 where
+  pub changing : Changing words args before cs
+  pub ordered : Ordered words args before earlier
+
+-- Before place p of the earlier order is looked at: every changed head is done, and so is each node before place p that is a head still.
+pub record Keeping (words args before earlier cs marks order : List ℕ) (count p : ℕ) : Type 0 where
+  pub ordering : Ordering words args cs marks order count
+  pub changed : ChangedDone before cs marks (nodeCount words)
+  pub heads : (q : ℕ) → q < p → classOf cs (word earlier q) ≡ word earlier q → word marks (word earlier q) ≡ 2
 
 -- What the search answers: a class that leads to itself, or an order in the first places.
 pub record FoundOrder (words args cs : List ℕ) (r : Placed) (order : List ℕ) : Type 0 where
