@@ -38,6 +38,7 @@ pub mod FindLaws
 pub mod NamingLaws
 pub mod NamedLaws
 pub mod NotingLaws
+pub mod SharedLaws
 pub mod BindingLaws
 pub mod AnswerLaws
 pub mod CallingLaws

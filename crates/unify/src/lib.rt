@@ -20,7 +20,7 @@ mod nodes;
 // The variables present.
 mod present;
 
-// The classes where no pair is given: `begin`.
+// The classes that are begun with: of no pair (`begin`), or with nodes of one term together (`begin_shared`).
 pub mod beginning;
 
 // The classes, closed under one pair more.
