@@ -62,7 +62,7 @@ fitting-greatest lent (e ∷ es) = pick (leb (length e) lent) refl (fitting-grea
     pick false q g = greatest-none lent e es (leb-false (length e) lent q)
 
 -- and they are the first ones
-fitting-first : (lent : ℕ) (es : List (List ℕ)) → fitting lent es ≡ take (length (fitting lent es)) es
+pub fitting-first : (lent : ℕ) (es : List (List ℕ)) → fitting lent es ≡ take (length (fitting lent es)) es
 unfolding fitting
 fitting-first lent [] = refl
 fitting-first lent (e ∷ es) = pick (leb (length e) lent) (fitting-first (lent - length e) es)
@@ -78,7 +78,7 @@ greatest-one lent es j k g h =
     omega (arith, a, b)
 
 -- where all words fit, all entries are taken
-fitting-all : (lent : ℕ) (es : List (List ℕ)) → length (flatten es) ≤ lent → fitting lent es ≡ es
+pub fitting-all : (lent : ℕ) (es : List (List ℕ)) → length (flatten es) ≤ lent → fitting lent es ≡ es
 fitting-all lent es h =
     let g = fitting-greatest lent es in
     let l = g .greatest (length es) (omega arith) (rw (take-length es) h) in
@@ -100,7 +100,7 @@ fitting-less lent es h = go (decLt (length (fitting lent es)) (length es))
         absurd (omega (arith, h, rw (e, take-length es) at f))
 
 -- what is taken fits
-fitting-fits : (lent : ℕ) (es : List (List ℕ)) → length (flatten (fitting lent es)) ≤ lent
+pub fitting-fits : (lent : ℕ) (es : List (List ℕ)) → length (flatten (fitting lent es)) ≤ lent
 fitting-fits lent es = rw (fitting-first lent es) (fitting-greatest lent es .fits)
 
 module _ (t : List ℕ) (lent : ℕ) where
@@ -110,18 +110,18 @@ module _ (t : List ℕ) (lent : ℕ) where
   none-left n = rw (ne-eqb (refusal t) 0 (λ e. n (accepted t .0 e)))
 
   -- and as many as fit where it is accepted
-  fitting-left : Accepted t → entriesLeft t lent ≡ fitting lent (completeListing t)
+  pub fitting-left : Accepted t → entriesLeft t lent ≡ fitting lent (completeListing t)
   unfolding entriesLeft
   fitting-left a = rw (eq-eqb (refusal t) 0 (accepted t .1 a))
 
-  answered-refused : (n : ℕ) → 0 < n → refusal t ≡ n → listed t lent ≡ (n, 0)
+  pub answered-refused : (n : ℕ) → 0 < n → refusal t ≡ n → listed t lent ≡ (n, 0)
   unfolding listed listConditions
   answered-refused n h e =
       let f : firstHeld (listConditions t lent) ≡ n = first-means n (listConditions t lent) .1 (first-before _ h (refused t n .0 e)) in
       let l = none-left (λ a. omega (arith, h, e, accepted t .1 a)) in
       rw (f, l)
 
-  answered-finished : Accepted t → length (flatten (completeListing t)) ≤ lent → listed t lent ≡ (0, length (completeListing t))
+  pub answered-finished : Accepted t → length (flatten (completeListing t)) ≤ lent → listed t lent ≡ (0, length (completeListing t))
   unfolding listed listConditions
   answered-finished a h =
       let q = le-ltb lent (length (flatten (completeListing t))) h in
@@ -129,7 +129,7 @@ module _ (t : List ℕ) (lent : ℕ) where
       let l = fitting-left a ∙ fitting-all lent (completeListing t) h in
       rw (f, l)
 
-  answered-full : Accepted t → lent < length (flatten (completeListing t)) → listed t lent ≡ (10, length (fitting lent (completeListing t)))
+  pub answered-full : Accepted t → lent < length (flatten (completeListing t)) → listed t lent ≡ (10, length (fitting lent (completeListing t)))
   unfolding listed listConditions
   answered-full a h =
       let q = lt-ltb lent (length (flatten (completeListing t))) h in

@@ -47,7 +47,7 @@ cut-out w (e ∷ es) h rest =
         let x : w * suc i ≡ w + w * i = mul-suc w i ∙ omega arith in
         ap (λ (n : ℕ). drop n (e ++ flatten es ++ rest)) x ∙ sym (drop-drop (w * i) w (e ++ flatten es ++ rest)) ∙ ap (drop (w * i)) (ap (drop w) shift ∙ drop-at e (flatten es ++ rest) w l)
 
-taken-in : {A : Type 0} (k : ℕ) (xs : List A) (x : A) → List·Memᴰ x (take k xs) → List·Memᴰ x xs
+pub taken-in : {A : Type 0} (k : ℕ) (xs : List A) (x : A) → List·Memᴰ x (take k xs) → List·Memᴰ x xs
 taken-in zero xs x m = absurd (List·Memᴰ·not-nil m)
 taken-in (suc k) [] x m = absurd (List·Memᴰ·not-nil m)
 taken-in (suc k) (y ∷ xs) x (List·Memᴰ·head e) = List·Memᴰ·head e

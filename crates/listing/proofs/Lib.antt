@@ -12,7 +12,15 @@ pub mod TakenLaws
 pub mod CoverLaws
 pub mod AnswerLaws
 pub mod LentLaws
+pub mod WidthLaws
+pub mod WritingLaws
+pub mod HopelessLaws
+pub mod BelowLaws
+pub mod StringLaws
+pub mod WalkLaws
+pub mod RightLaws
 pub mod Page14
+pub mod CallingLaws
 pub mod InstanceLaws
 pub mod AssignmentLaws
 pub mod Starred

@@ -5,5 +5,6 @@ pub mod Assignment
 pub mod Instance
 pub mod Answer
 pub mod Page14
--- What nobody has to believe: definitions that compute what a relation says.
+-- What nobody has to believe: definitions that compute what a relation says, and what contracts of inner functions and laws speak of.
 pub mod Computed
+pub mod Code

@@ -1,9 +1,72 @@
 // Listing the unifiers of a table's two sides.
+ghost use mathlib.Core.Path.{_≡_};
+ghost use Prim.Native.Nat.{ℕ};
+ghost use mathlib.Core.Bool.{cond};
+ghost use lib.Dec.{eqb};
+ghost use lib.ListN.{length};
+ghost use Rattle.table.specs.Refusal.{refusal};
+ghost use Rattle.listing.specs.Answer.{told, listed, lentAfter, entryWords};
+ghost use Rattle.listing.specs.Page14.{Page14};
+use table::Checked;
 use table::Refusal;
+use table::limits::MAX_TERMS;
+
+// Entries, written into the lent words.
+mod writing;
+
+// The walk over the choices, depth first over left digits.
+mod walk;
+
+// Listing an accepted table.
+mod call;
+
+// The words of an entry: `entry_words`.
+mod width;
 
 // What listing a table answers, with the number of entries left in the lent words.
 pub enum Listing {
     Finished(usize),
     Full(usize),
     Refused(Refusal),
+}
+
+// How many labels the two sides have.
+struct Labels {
+    left: usize,
+    right: usize,
+}
+
+// A branch of the walk: a digit for each left term so far, a mark for each right term, 0 where it is paired, and how many are not.
+struct Branch {
+    digits: [u32; MAX_TERMS],
+    marks: [u32; MAX_TERMS],
+    unpaired: usize,
+}
+
+// How many lent words are used, and whether an entry did not fit.
+struct Written {
+    used: usize,
+    full: bool,
+}
+
+// Lists the unifiers of a table's two sides, each as an entry in the lent words.
+pub fn list(table: &[u32], out: &mut [u32]) -> Listing
+    ensures { λ r. ⌜ told r ≡ listed (now (table .entry)) (length (now (out .entry))) ⌝ }
+    ensures { λ r. ⌜ now (out .exit) ≡ lentAfter (now (table .entry)) (now (out .entry)) ⌝ }
+    ensures page14 { λ r. ⌜ ((k : ℕ) → r ≡ Listing.Finished k → Page14 (now (table .entry)) k (now (out .exit))) ⌝ }
+{
+    match table::check(table) {
+        Checked::Refused(refusal) => Listing::Refused(refusal),
+        Checked::Accepted => call::list_accepted(table, out),
+    }
+}
+
+// How many words an entry of a table has: "With V variables present an entry is n + m + V words." Where the table is refused, 0.
+pub fn entry_words(table: &[u32]) -> usize
+    ensures { λ r. ⌜ r ≡ cond (eqb (refusal (now (table .entry))) 0) (entryWords (now (table .entry))) 0 ⌝ }
+{
+    match table::check(table) {
+        Checked::Refused(_) => 0,
+        Checked::Accepted => width::accepted_words(table),
+    }
 }

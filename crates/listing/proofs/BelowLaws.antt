@@ -1,0 +1,480 @@
+-- What the walk writes is the complete listing: it meets the choices in their order, and leaves out those that a failed pair begins.
+-- By induction on the left terms still to go; more pairs have no more unifiers. Assumes nothing.
+use Prim.Native.Nat.{ℕ, zero, suc, _+_, _-_, _*_, _≤_, _<_}
+use mathlib.Core.Bool.{Bool, true, false, cond, _&&_}
+use mathlib.Core.List.{List, [], _∷_, _++_, map, flatMap, flatten, append-assoc, List·Memᴰ, List·Memᴰ·head, List·Memᴰ·tail, List·Memᴰ·not-nil, List·Memᴰ·eq-of-singleton, List·Memᴰ·append-cases, Memᴰ·of-map}
+use mathlib.Core.Logic.{_⊎_, inl, inr, _↔_}
+use mathlib.Core.Path.{_≡_, refl, sym, ap, _∙_}
+use native.Mathlib.Decide.{ℕ-discrete}
+use native.Mathlib.Nat.{mul-suc, mul-zero}
+use native.Mathlib.Omega.{arith}
+use borrow.Author.Tests.{eq-eqb, ne-eqb, leb-true, leb-false}
+use lib.Dec.{eqb, leb}
+use lib.ListN.{length, set, replicate, length-append, length-set, length-replicate, getD-replicate}
+use lib.Seq.{getD-set-same, getD-set-other}
+use Rattle.table.specs.Layout.{word, leftTermsOf, leftLabelsOf, rightTermsOf, rightLabelsOf}
+use Rattle.table.specs.Code.Accepted.{Accepted}
+use Rattle.terms.specs.Term.{var}
+use Rattle.terms.specs.Substitution.{Substitution}
+use Rattle.unify.specs.Node.{Node, nodesIn}
+use Rattle.unify.specs.Unifier.{Unifies, Unifiable}
+use Rattle.unify.specs.Code.Given.{WellFormed, Inside}
+use Rattle.unify.specs.Outcome.{Outcome, unified, clash, occurs}
+use Rattle.unify.specs.Computed.Variables.{variablesOf}
+use Rattle.unify.specs.Computed.Unifying.{outcome, wordsOf}
+use Rattle.unify.proofs.AnswerLaws.{words-counted}
+use Rattle.unify.proofs.OutcomeLaws.{outcome-unified}
+use Rattle.unify.proofs.PairLaws.{more-none, same-unifiers, same-outcome, same-words}
+use Rattle.unify.proofs.TableLaws.{well-formed, left-node, right-node}
+use Rattle.listing.specs.Choice.{pairs}
+use Rattle.listing.specs.Entry.{pairsOf, entryOf}
+use Rattle.listing.specs.Computed.Choices.{among, branch, rights, lefts, choices}
+use Rattle.listing.specs.Computed.Listing.{kept, choicesOf, completeListing}
+use Rattle.listing.specs.Code.Writing.{marked}
+use Rattle.listing.specs.Code.Walk.{over, ifUnified, onDigit, below}
+use Rattle.listing.proofs.ChoiceLaws.{choices-are}
+use Rattle.listing.proofs.EntryLaws.{Choice, pairs-inside}
+use Rattle.listing.proofs.HopelessLaws.{over-none}
+
+module _ {A B : Type 0} where
+  -- lists for the elements of two lists stand one after the other
+  flat-append : (f : A → List B) (xs ys : List A) → flatMap f (xs ++ ys) ≡ flatMap f xs ++ flatMap f ys
+  unfolding flatMap
+  flat-append f [] ys = refl
+  flat-append f (x ∷ xs) ys =
+      ap (λ (zs : List B). f x ++ zs) (flat-append f xs ys) ∙ sym (append-assoc (f x) (flatMap f xs) (flatMap f ys))
+
+  -- they depend on the elements alone
+  flat-same : (f g : A → List B) (xs : List A) → ((x : A) → List·Memᴰ x xs → f x ≡ g x) → flatMap f xs ≡ flatMap g xs
+  unfolding flatMap
+  flat-same f g [] h = refl
+  flat-same f g (x ∷ xs) h =
+      rw (h x (List·Memᴰ·head refl), flat-same f g xs (λ y m. h y (List·Memᴰ·tail m)))
+
+  -- and are nothing if each is
+  flat-none : (f : A → List B) (xs : List A) → ((x : A) → f x ≡ []) → flatMap f xs ≡ []
+  unfolding flatMap
+  flat-none f [] h = refl
+  flat-none f (x ∷ xs) h = rw (h x, flat-none f xs h)
+
+  -- one element for each
+  flat-one : (f : A → B) (xs : List A) → flatMap (λ x. f x ∷ []) xs ≡ map f xs
+  unfolding flatMap
+  flat-one f [] = refl
+  flat-one f (x ∷ xs) = ap (f x ∷_) (flat-one f xs)
+
+-- the elements can be mapped first
+flat-map : {A B C : Type 0} (f : B → List C) (g : A → B) (xs : List A) → flatMap f (map g xs) ≡ flatMap (λ x. f (g x)) xs
+unfolding flatMap
+flat-map f g [] = refl
+flat-map {C = C} f g (x ∷ xs) = ap (λ (zs : List C). f (g x) ++ zs) (flat-map f g xs)
+
+-- what strings that branch have, they have digit by digit
+flat-branch : (f : List ℕ → List (List ℕ)) (d c : ℕ) (g : ℕ → List (List ℕ)) → flatMap f (branch d c g) ≡ over d c (λ e. flatMap (λ es. f (e ∷ es)) (g e))
+unfolding flatMap branch over
+flat-branch f d zero g = refl
+flat-branch f d (suc c) g =
+    flat-append f (map (d ∷_) (g d)) (branch (suc d) c g)
+    ∙ ap (λ (zs : List (List ℕ)). zs ++ flatMap f (branch (suc d) c g)) (flat-map f (d ∷_) (g d))
+    ∙ ap (λ (zs : List (List ℕ)). flatMap (λ es. f (d ∷ es)) (g d) ++ zs) (flat-branch f (suc d) c g)
+
+-- what digits have depends on them alone
+over-same : (d c : ℕ) (f g : ℕ → List (List ℕ)) → ((e : ℕ) → d ≤ e → f e ≡ g e) → over d c f ≡ over d c g
+unfolding over
+over-same d zero f g h = refl
+over-same d (suc c) f g h =
+    rw (h d (omega arith), over-same (suc d) c f g (λ e q. h e (omega arith)))
+
+-- nothing is kept of what is not unified
+kept-none : {A : Type 0} (o : Outcome) (x : A) → (o ≡ unified → ⊥) → kept o x ≡ []
+unfolding kept
+kept-none unified x h = absurd (h refl)
+kept-none clash x h = refl
+kept-none occurs x h = refl
+
+-- what is kept depends on the outcome, and on the entry only where it is unified
+kept-same : {A : Type 0} (o : Outcome) (x y : A) → (o ≡ unified → x ≡ y) → kept o x ≡ kept o y
+unfolding kept
+kept-same {A} unified x y h = ap (λ (z : A). z ∷ []) (h refl)
+kept-same clash x y h = refl
+kept-same occurs x y h = refl
+
+-- The marks of m right terms where the left digits so far are used: 0 where a digit pairs it.
+record Marks (m : ℕ) (marks used : List ℕ) : Type 0 where
+  size : length marks ≡ m
+  paired : (j : ℕ) → j < m → eqb (word marks j) 0 ≡ among (suc j) used
+
+-- at first no right term is marked as paired
+marks-first : (m : ℕ) → Marks m (replicate m 1) []
+unfolding among
+marks-first m =
+    record { size = length-replicate m 1; paired = λ j q. ap (λ (z : ℕ). eqb z 0) (getD-replicate m j 1 0 q) }
+
+-- a digit that pairs a right term marks it
+marks-paired : (m : ℕ) (marks used : List ℕ) (d : ℕ) → 0 < d → d ≤ m → Marks m marks used → Marks m (set marks (d - 1) 0) (d ∷ used)
+unfolding among
+marks-paired m marks used d p q k =
+    record { size = length-set marks (d - 1) 0 ∙ k .size; paired = λ j h. go j h (ℕ-discrete j (d - 1)) }
+  where
+    go : (j : ℕ) → j < m → Dec (j ≡ d - 1) → eqb (word (set marks (d - 1) 0) j) 0 ≡ among (suc j) (d ∷ used)
+    go j h (yes e) =
+        let s = k .size in
+        let z : word (set marks (d - 1) 0) j ≡ 0 = rw e (getD-set-same marks (d - 1) 0 0 (omega (arith, s))) in
+        rw (z, eq-eqb (suc j) d (omega (arith, e)))
+    go j h (no n) =
+        let x : suc j ≡ d → ⊥ = λ e. n (omega (arith, e)) in
+        rw (getD-set-other marks (d - 1) j 0 0 n, ne-eqb (suc j) d x) (k .paired j h)
+
+-- one that names a label marks none
+marks-placed : (m : ℕ) (marks used : List ℕ) (d : ℕ) → m < d → Marks m marks used → Marks m marks (d ∷ used)
+unfolding among
+marks-placed m marks used d q k =
+    record {
+      size = k .size;
+      paired = λ j h. let x : suc j ≡ d → ⊥ = λ e. omega (arith, e) in rw (ne-eqb (suc j) d x) (k .paired j h);
+    }
+
+-- the strings by marks from place i on are those by the digits used
+marked-from : (k : ℕ) (marks used : List ℕ) (i : ℕ) → ((j p : ℕ) → j < length marks → p ≡ i + j → eqb (word marks j) 0 ≡ among (suc p) used) → marked k marks ≡ rights k used i (length marks)
+unfolding marked rights
+marked-from k [] used i h = refl
+marked-from k (z ∷ zs) used i h =
+    rw (h 0 i (omega arith) (omega arith), marked-from k zs used (suc i) (λ j p q e. h (suc j) p (omega arith) (omega (arith, e))))
+
+-- so it is from the first place on
+marked-rights : (k m : ℕ) (marks used : List ℕ) → Marks m marks used → marked k marks ≡ rights k used 0 m
+marked-rights k m marks used s =
+    marked-from k marks used 0 (λ j p q e. let n = s .size in let x : j ≡ p = omega (arith, e) in rw (← x) (s .paired j (omega (arith, n, q))))
+    ∙ ap (rights k used 0) (s .size)
+
+-- The pairs of digits es of further left terms ls, one after the other before the pairs ps.
+unfoldable trail : List ℕ → List ℕ → List ℕ → List (ℕ × ℕ) → List (ℕ × ℕ)
+trail [] rs es ps = ps
+trail (a ∷ ls) rs [] ps = ps
+trail (a ∷ ls) rs (d ∷ es) ps = trail ls rs es (cond (leb d (length rs)) ((a, word rs (d - 1)) ∷ ps) ps)
+
+-- The terms are nodes.
+abbrev Nodes : List Node → List ℕ → Type 0
+Nodes ns ts = (i : ℕ) → i < length ts → word ts i < length ns
+
+-- What is kept of a string of digits, where the pairs are ps before it: an entry g of its digits and pairs.
+abbrev keptAfter : List Node → List ℕ → List ℕ → List (ℕ × ℕ) → (List ℕ → List (ℕ × ℕ) → List ℕ) → List ℕ → List (List ℕ)
+keptAfter ns rs ls ps g es = kept (outcome ns (trail ls rs es ps)) (g es (trail ls rs es ps))
+
+-- a further pair of nodes
+inside-more : (ns : List Node) (a b : ℕ) (ps : List (ℕ × ℕ)) → a < length ns → b < length ns → Inside ns ps → Inside ns ((a, b) ∷ ps)
+inside-more ns a b ps p q h x y (List·Memᴰ·head e) =
+    (rw (ap (λ (z : ℕ × ℕ). z .0) e) p, rw (ap (λ (z : ℕ × ℕ). z .1) e) q)
+inside-more ns a b ps p q h x y (List·Memᴰ·tail m) = h x y m
+
+module _ (ns : List Node) (w : WellFormed ns) (rs : List ℕ) (right : Nodes ns rs) (k l : ℕ) where
+  -- The pairs after digit d of a left term a.
+  abbrev pairUp : ℕ → ℕ → List (ℕ × ℕ) → List (ℕ × ℕ)
+  pairUp a d ps = (a, word rs (d - 1)) ∷ ps
+
+  -- so it is of a left term and the right term that its digit counts to
+  inside-pair : (a d : ℕ) (ps : List (ℕ × ℕ)) → a < length ns → 0 < d → d ≤ length rs → Inside ns ps → Inside ns (pairUp a d ps)
+  inside-pair a d ps p q r h = inside-more ns a (word rs (d - 1)) ps p (right (d - 1) (omega arith)) h
+
+  -- pairs that fail still fail with a further one
+  fails-more : (p : ℕ × ℕ) (ps : List (ℕ × ℕ)) → Inside ns ps → Inside ns (p ∷ ps) → (outcome ns ps ≡ unified → ⊥) → outcome ns (p ∷ ps) ≡ unified → ⊥
+  fails-more p ps h i n e =
+      more-none ns ps (p ∷ ps) (λ q m. List·Memᴰ·tail m) (λ u. n (outcome-unified ns w ps h .1 u)) (outcome-unified ns w (p ∷ ps) i .0 e)
+
+  -- so of the strings after them none is kept
+  none-after : (ls used : List ℕ) (ps : List (ℕ × ℕ)) (g : List ℕ → List (ℕ × ℕ) → List ℕ) → Nodes ns ls → Inside ns ps → (outcome ns ps ≡ unified → ⊥) → flatMap (keptAfter ns rs ls ps g) (lefts (length rs) k l used (length ls)) ≡ []
+  unfolding flatMap trail lefts
+  none-after [] used ps g left h n = flat-none (keptAfter ns rs [] ps g) (lefts (length rs) k l used 0) (λ es. kept-none (outcome ns ps) (g es ps) n)
+  none-after (a ∷ ls) used ps g left h n =
+      flat-branch (keptAfter ns rs (a ∷ ls) ps g) 1 (length rs + l) (λ d. cond (leb d (length rs) && among d used) [] (lefts (length rs) k l (d ∷ used) (length ls)))
+      ∙ over-none 1 (length rs + l) _ (λ d p q. pick d p (leb d (length rs)) refl (among d used) (λ i m. none-after ls (d ∷ used) (pairUp a d ps) (λ es. g (d ∷ es)) (λ j r. left (suc j) (omega arith)) i m) (none-after ls (d ∷ used) ps (λ es. g (d ∷ es)) (λ j r. left (suc j) (omega arith)) h n))
+    where
+      pick : (d : ℕ) → 1 ≤ d → (b : Bool) → leb d (length rs) ≡ b → (c : Bool) → (Inside ns (pairUp a d ps) → (outcome ns (pairUp a d ps) ≡ unified → ⊥) → flatMap (keptAfter ns rs ls (pairUp a d ps) (λ es. g (d ∷ es))) (lefts (length rs) k l (d ∷ used) (length ls)) ≡ []) → flatMap (keptAfter ns rs ls ps (λ es. g (d ∷ es))) (lefts (length rs) k l (d ∷ used) (length ls)) ≡ [] → flatMap (keptAfter ns rs ls (cond b (pairUp a d ps) ps) (λ es. g (d ∷ es))) (cond (b && c) [] (lefts (length rs) k l (d ∷ used) (length ls))) ≡ []
+      pick d p true e true x y = refl
+      pick d p true e false x y =
+          let i = inside-pair a d ps (left 0 (omega arith)) p (leb-true d (length rs) e) h in
+          x i (fails-more (a, word rs (d - 1)) ps h i n)
+      pick d p false e c x y = y
+
+  -- The entry with left digits ds, and then es and the words of the pairs.
+  abbrev entryAfter : List ℕ → List ℕ → List (ℕ × ℕ) → List ℕ
+  entryAfter ds es ps = ds ++ es ++ wordsOf ns ps
+
+  -- What is below a branch with left terms ls to go is what is kept of its strings of digits.
+  abbrev KeptBelow : List ℕ → Type 0
+  KeptBelow ls = (ds : List ℕ) (ps : List (ℕ × ℕ)) (marks used : List ℕ) → Inside ns ps → outcome ns ps ≡ unified → Marks (length rs) marks used → below ns rs k l ls ds ps marks ≡ flatMap (keptAfter ns rs ls ps (entryAfter ds)) (lefts (length rs) k l used (length ls))
+
+  module _ (ls : List ℕ) (left : Nodes ns ls) (rest : KeptBelow ls) where
+    -- the same with a further left digit
+    rest-after : (ds : List ℕ) (d : ℕ) (ps : List (ℕ × ℕ)) (marks used : List ℕ) → Inside ns ps → outcome ns ps ≡ unified → Marks (length rs) marks used → below ns rs k l ls (ds ++ d ∷ []) ps marks ≡ flatMap (keptAfter ns rs ls ps (λ es. entryAfter ds (d ∷ es))) (lefts (length rs) k l used (length ls))
+    rest-after ds d ps marks used h o s =
+        rest (ds ++ d ∷ []) ps marks used h o s
+        ∙ flat-same (keptAfter ns rs ls ps (entryAfter (ds ++ d ∷ []))) (keptAfter ns rs ls ps (λ es. entryAfter ds (d ∷ es))) (lefts (length rs) k l used (length ls))
+        (λ es m. ap (λ (zs : List ℕ). kept (outcome ns (trail ls rs es ps)) (zs ++ wordsOf ns (trail ls rs es ps))) (append-assoc ds (d ∷ []) es))
+
+    -- where a pair has come to ps, there is nothing below unless they are unified
+    after-pair : (ds : List ℕ) (d : ℕ) (ps : List (ℕ × ℕ)) (marks used : List ℕ) → Inside ns ps → Marks (length rs) marks used → ifUnified (outcome ns ps) (below ns rs k l ls (ds ++ d ∷ []) ps marks) ≡ flatMap (keptAfter ns rs ls ps (λ es. entryAfter ds (d ∷ es))) (lefts (length rs) k l used (length ls))
+    unfolding ifUnified
+    after-pair ds d ps marks used h s = pick (outcome ns ps) refl
+      where
+        none : (outcome ns ps ≡ unified → ⊥) → [] ≡ flatMap (keptAfter ns rs ls ps (λ es. entryAfter ds (d ∷ es))) (lefts (length rs) k l used (length ls))
+        none n = sym (none-after ls used ps (λ es. entryAfter ds (d ∷ es)) left h n)
+
+        pick : (o : Outcome) → outcome ns ps ≡ o → ifUnified o (below ns rs k l ls (ds ++ d ∷ []) ps marks) ≡ flatMap (keptAfter ns rs ls ps (λ es. entryAfter ds (d ∷ es))) (lefts (length rs) k l used (length ls))
+        pick unified e = rest-after ds d ps marks used h e s
+        pick clash e = none (λ f. let z : _≡_ {A = ℕ} 0 1 = cc in omega arith)
+        pick occurs e = none (λ f. let z : _≡_ {A = ℕ} 0 1 = cc in omega arith)
+
+    -- what a digit of the next left term has
+    after-digit : (a : ℕ) → a < length ns → (ds : List ℕ) (ps : List (ℕ × ℕ)) (marks used : List ℕ) → Inside ns ps → outcome ns ps ≡ unified → Marks (length rs) marks used → (d : ℕ) → 1 ≤ d → onDigit ns rs (below ns rs k l ls) ds ps marks a d ≡ flatMap (λ es. keptAfter ns rs (a ∷ ls) ps (entryAfter ds) (d ∷ es)) (cond (leb d (length rs) && among d used) [] (lefts (length rs) k l (d ∷ used) (length ls)))
+    unfolding onDigit trail flatMap
+    after-digit a p ds ps marks used h o s d q = pick (leb d (length rs)) refl (among d used) refl
+      where
+        mark : d ≤ length rs → eqb (word marks (d - 1)) 0 ≡ among d used
+        mark r =
+            let e : suc (d - 1) ≡ d = omega arith in
+            s .paired (d - 1) (omega arith) ∙ ap (λ (z : ℕ). among z used) e
+
+        pick : (b : Bool) → leb d (length rs) ≡ b → (c : Bool) → among d used ≡ c → cond b (cond (eqb (word marks (d - 1)) 0) [] (ifUnified (outcome ns (pairUp a d ps)) (below ns rs k l ls (ds ++ d ∷ []) (pairUp a d ps) (set marks (d - 1) 0)))) (below ns rs k l ls (ds ++ d ∷ []) ps marks) ≡ flatMap (keptAfter ns rs ls (cond b (pairUp a d ps) ps) (λ es. entryAfter ds (d ∷ es))) (cond (b && c) [] (lefts (length rs) k l (d ∷ used) (length ls)))
+        pick true e true f = rw (mark (leb-true d (length rs) e), f)
+        pick true e false f =
+            let r = leb-true d (length rs) e in
+            rw (mark r, f) (after-pair ds d (pairUp a d ps) (set marks (d - 1) 0) (d ∷ used) (inside-pair a d ps p q r h) (marks-paired (length rs) marks used d q r s))
+        pick false e c f =
+            rest-after ds d ps marks (d ∷ used) h o (marks-placed (length rs) marks used d (leb-false d (length rs) e) s)
+
+  -- what is below a branch is what is kept of its strings of digits
+  kept-below : (ls : List ℕ) → Nodes ns ls → KeptBelow ls
+  unfolding below lefts trail kept
+  kept-below [] left ds ps marks used h o s =
+      ap (map (λ es. entryAfter ds es ps)) (marked-rights k (length rs) marks used s)
+      ∙ sym (flat-one (λ es. entryAfter ds es ps) (rights k used 0 (length rs)))
+      ∙ flat-same (λ es. entryAfter ds es ps ∷ []) (keptAfter ns rs [] ps (entryAfter ds)) (rights k used 0 (length rs)) (λ es m. sym (ap (λ (r : Outcome). kept r (entryAfter ds es ps)) o))
+  kept-below (a ∷ ls) left ds ps marks used h o s =
+      let rest = kept-below ls (λ j q. left (suc j) (omega arith)) in
+      over-same 1 (length rs + l) (λ d. onDigit ns rs (below ns rs k l ls) ds ps marks a d) (λ d. flatMap (λ es. keptAfter ns rs (a ∷ ls) ps (entryAfter ds) (d ∷ es)) (cond (leb d (length rs) && among d used) [] (lefts (length rs) k l (d ∷ used) (length ls))))
+      (λ d q. after-digit ls (λ j r. left (suc j) (omega arith)) rest a (left 0 (omega arith)) ds ps marks used h o s d q)
+      ∙ sym (flat-branch (keptAfter ns rs (a ∷ ls) ps (entryAfter ds)) 1 (length rs + l) (λ d. cond (leb d (length rs) && among d used) [] (lefts (length rs) k l (d ∷ used) (length ls))))
+
+-- further digits keep the pairs before them
+trail-kept : (ls rs es : List ℕ) (ps : List (ℕ × ℕ)) (p : ℕ × ℕ) → List·Memᴰ p ps → List·Memᴰ p (trail ls rs es ps)
+unfolding trail
+trail-kept [] rs es ps p m = m
+trail-kept (a ∷ ls) rs [] ps p m = m
+trail-kept (a ∷ ls) rs (d ∷ es) ps p m = trail-kept ls rs es _ p (pick (leb d (length rs)))
+  where
+    pick : (b : Bool) → List·Memᴰ p (cond b ((a, word rs (d - 1)) ∷ ps) ps)
+    pick true = List·Memᴰ·tail m
+    pick false = m
+
+-- and add their own
+trail-pairs : (ls rs es : List ℕ) (ps : List (ℕ × ℕ)) (p : ℕ × ℕ) → List·Memᴰ p (pairs ls rs es) → List·Memᴰ p (trail ls rs es ps)
+unfolding trail pairs
+trail-pairs [] rs es ps p m = absurd (List·Memᴰ·not-nil m)
+trail-pairs (a ∷ ls) rs [] ps p m = absurd (List·Memᴰ·not-nil m)
+trail-pairs (a ∷ ls) rs (d ∷ es) ps p m =
+    pick (leb d (length rs)) m (trail-pairs ls rs es ((a, word rs (d - 1)) ∷ ps) p) (trail-pairs ls rs es ps p)
+  where
+    pick : (b : Bool) → List·Memᴰ p (cond b ((a, word rs (d - 1)) ∷ pairs ls rs es) (pairs ls rs es)) → (List·Memᴰ p (pairs ls rs es) → List·Memᴰ p (trail ls rs es ((a, word rs (d - 1)) ∷ ps))) → (List·Memᴰ p (pairs ls rs es) → List·Memᴰ p (trail ls rs es ps)) → List·Memᴰ p (trail ls rs es (cond b ((a, word rs (d - 1)) ∷ ps) ps))
+    pick true (List·Memᴰ·head e) x y = trail-kept ls rs es ((a, word rs (d - 1)) ∷ ps) p (List·Memᴰ·head e)
+    pick true (List·Memᴰ·tail n) x y = x n
+    pick false n x y = y n
+
+-- and no others
+trail-from : (ls rs es : List ℕ) (ps : List (ℕ × ℕ)) (p : ℕ × ℕ) → List·Memᴰ p (trail ls rs es ps) → List·Memᴰ p ps ⊎ List·Memᴰ p (pairs ls rs es)
+unfolding trail pairs
+trail-from [] rs es ps p m = inl m
+trail-from (a ∷ ls) rs [] ps p m = inl m
+trail-from (a ∷ ls) rs (d ∷ es) ps p m = pick (leb d (length rs)) (trail-from ls rs es _ p m)
+  where
+    pick : (b : Bool) → List·Memᴰ p (cond b ((a, word rs (d - 1)) ∷ ps) ps) ⊎ List·Memᴰ p (pairs ls rs es) → List·Memᴰ p ps ⊎ List·Memᴰ p (cond b ((a, word rs (d - 1)) ∷ pairs ls rs es) (pairs ls rs es))
+    pick true (inl (List·Memᴰ·head e)) = inr (List·Memᴰ·head e)
+    pick true (inl (List·Memᴰ·tail n)) = inl n
+    pick true (inr n) = inr (List·Memᴰ·tail n)
+    pick false (inl n) = inl n
+    pick false (inr n) = inr n
+
+module _ (t : List ℕ) (g : Accepted t) where
+  -- The pairs of the digits as the walk has them, the latest first.
+  abbrev met : List ℕ → List (ℕ × ℕ)
+  met es = trail (leftTermsOf t) (rightTermsOf t) es []
+
+  -- they are pairs of the digits
+  met-from : (es : List ℕ) (p : ℕ × ℕ) → List·Memᴰ p (met es) → List·Memᴰ p (pairsOf t es)
+  met-from es p m = go (trail-from (leftTermsOf t) (rightTermsOf t) es [] p m)
+    where
+      go : List·Memᴰ p [] ⊎ List·Memᴰ p (pairsOf t es) → List·Memᴰ p (pairsOf t es)
+      go (inl n) = absurd (List·Memᴰ·not-nil n)
+      go (inr n) = n
+
+  -- of a choice both keep the same entry
+  choice-kept : (es : List ℕ) → Choice t es → kept (outcome (nodesIn t) (met es)) (es ++ wordsOf (nodesIn t) (met es)) ≡ kept (outcome (nodesIn t) (pairsOf t es)) (entryOf t es)
+  unfolding entryOf
+  choice-kept es c =
+      let f = well-formed t g in
+      let i = pairs-inside t g es c in
+      let h : Inside (nodesIn t) (met es) = λ a b m. i a b (met-from es (a, b) m) in
+      let y = trail-pairs (leftTermsOf t) (rightTermsOf t) es [] in
+      kept-same (outcome (nodesIn t) (met es)) (es ++ wordsOf (nodesIn t) (met es)) (es ++ wordsOf (nodesIn t) (pairsOf t es))
+      (λ o. ap (λ (ws : List ℕ). es ++ ws) (same-words (nodesIn t) f (met es) (pairsOf t es) h i (met-from es) y (outcome-unified (nodesIn t) f (met es) h .0 o)))
+      ∙ ap (λ (o : Outcome). kept o (es ++ wordsOf (nodesIn t) (pairsOf t es))) (same-outcome (nodesIn t) f (met es) (pairsOf t es) h i (met-from es) y)
+
+  -- of no pair both are nodes
+  none-inside : Inside (nodesIn t) []
+  none-inside a b m = absurd (List·Memᴰ·not-nil m)
+
+  -- no pair fails
+  none-unified : outcome (nodesIn t) [] ≡ unified
+  none-unified = outcome-unified (nodesIn t) (well-formed t g) [] none-inside .1 (var, λ a b m. absurd (List·Memᴰ·not-nil m))
+
+  -- what is below the branch without digits is the complete listing
+  pub below-listing : below (nodesIn t) (rightTermsOf t) (length (leftLabelsOf t)) (length (rightLabelsOf t)) (leftTermsOf t) [] [] (replicate (length (rightTermsOf t)) 1) ≡ completeListing t
+  unfolding completeListing choicesOf choices
+  below-listing =
+      kept-below (nodesIn t) (well-formed t g) (rightTermsOf t) (right-node t g) (length (leftLabelsOf t)) (length (rightLabelsOf t)) (leftTermsOf t) (left-node t g) [] [] (replicate (length (rightTermsOf t)) 1) [] none-inside none-unified (marks-first (length (rightTermsOf t)))
+      ∙ flat-same _ (λ es. kept (outcome (nodesIn t) (pairsOf t es)) (entryOf t es)) (choicesOf t)
+      (λ es m. choice-kept es (choices-are (length (leftTermsOf t)) (length (rightTermsOf t)) (length (leftLabelsOf t)) (length (rightLabelsOf t)) es .0 m))
+
+-- what holds of each entry that a digit has holds of each that several have
+over-each : (P : List ℕ → Type 0) (d c : ℕ) (f : ℕ → List (List ℕ)) → ((e : ℕ) (x : List ℕ) → List·Memᴰ x (f e) → P x) → (x : List ℕ) → List·Memᴰ x (over d c f) → P x
+unfolding over
+over-each P d zero f h x m = absurd (List·Memᴰ·not-nil m)
+over-each P d (suc c) f h x m = go (over-each P (suc d) c f h x) (List·Memᴰ·append-cases (f d) m)
+  where
+    go : (List·Memᴰ x (over (suc d) c f) → P x) → List·Memᴰ x (f d) ⊎ List·Memᴰ x (over (suc d) c f) → P x
+    go r (inl n) = h d x n
+    go r (inr n) = r n
+
+-- the same of strings that branch
+branch-each : (P : List ℕ → Type 0) (d c : ℕ) (f : ℕ → List (List ℕ)) → ((e : ℕ) (x : List ℕ) → List·Memᴰ x (f e) → P (e ∷ x)) → (x : List ℕ) → List·Memᴰ x (branch d c f) → P x
+unfolding branch
+branch-each P d zero f h x m = absurd (List·Memᴰ·not-nil m)
+branch-each P d (suc c) f h x m = go (branch-each P (suc d) c f h x) (List·Memᴰ·append-cases (map (d ∷_) (f d)) m)
+  where
+    go : (List·Memᴰ x (branch (suc d) c f) → P x) → List·Memᴰ x (map (d ∷_) (f d)) ⊎ List·Memᴰ x (branch (suc d) c f) → P x
+    go r (inl n) = let s = Memᴰ·of-map (d ∷_) (f d) n in rw (← s .2) (h d (s .0) (s .1))
+    go r (inr n) = r n
+
+-- there is a right digit for each mark
+marked-long : (k : ℕ) (marks es : List ℕ) → List·Memᴰ es (marked k marks) → length es ≡ length marks
+unfolding marked
+marked-long k [] es m = ap length (List·Memᴰ·eq-of-singleton m)
+marked-long k (z ∷ zs) es m = pick (eqb z 0) (λ e fs n. ap suc (marked-long k zs fs n)) m
+  where
+    pick : (b : Bool) → ((e : ℕ) (fs : List ℕ) → List·Memᴰ fs (marked k zs) → length (e ∷ fs) ≡ suc (length zs)) → List·Memᴰ es (cond b (branch 0 1 (λ d. marked k zs)) (branch 1 k (λ d. marked k zs))) → length es ≡ suc (length zs)
+    pick true h n = branch-each (λ fs. length fs ≡ suc (length zs)) 0 1 (λ d. marked k zs) h es n
+    pick false h n = branch-each (λ fs. length fs ≡ suc (length zs)) 1 k (λ d. marked k zs) h es n
+
+-- the same of what a digit has: it is what its pair or its label has, or nothing
+digit-each : (P : List ℕ → Type 0) (ns : List Node) (rs : List ℕ) (f : List ℕ → List (ℕ × ℕ) → List ℕ → List (List ℕ)) (ds : List ℕ) (ps : List (ℕ × ℕ)) (marks : List ℕ) (a d : ℕ) → ((x : List ℕ) → List·Memᴰ x (f (ds ++ d ∷ []) ((a, word rs (d - 1)) ∷ ps) (set marks (d - 1) 0)) → P x) → ((x : List ℕ) → List·Memᴰ x (f (ds ++ d ∷ []) ps marks) → P x) → (x : List ℕ) → List·Memᴰ x (onDigit ns rs f ds ps marks a d) → P x
+unfolding onDigit ifUnified
+digit-each P ns rs f ds ps marks a d h k x m =
+    pick (leb d (length rs)) (eqb (word marks (d - 1)) 0) (outcome ns ((a, word rs (d - 1)) ∷ ps)) m
+  where
+    pick : (b c : Bool) (o : Outcome) → List·Memᴰ x (cond b (cond c [] (ifUnified o (f (ds ++ d ∷ []) ((a, word rs (d - 1)) ∷ ps) (set marks (d - 1) 0)))) (f (ds ++ d ∷ []) ps marks)) → P x
+    pick true true o n = absurd (List·Memᴰ·not-nil n)
+    pick true false unified n = h x n
+    pick true false clash n = absurd (List·Memᴰ·not-nil n)
+    pick true false occurs n = absurd (List·Memᴰ·not-nil n)
+    pick false c o n = k x n
+
+-- every entry below a branch has a word for each left term, each right term and each variable
+pub below-long : (ns : List Node) (rs : List ℕ) (k l : ℕ) (ls ds : List ℕ) (ps : List (ℕ × ℕ)) (marks e : List ℕ) → List·Memᴰ e (below ns rs k l ls ds ps marks) → length e ≡ length ds + length ls + length marks + length (variablesOf ns)
+unfolding below
+below-long ns rs k l [] ds ps marks e m =
+    let r = Memᴰ·of-map (λ es. ds ++ es ++ wordsOf ns ps) (marked k marks) m in
+    let x = marked-long k marks (r .0) (r .1) in
+    let y = words-counted ns ps in
+    let u = length-append ds (r .0) in
+    let v = length-append (ds ++ r .0) (wordsOf ns ps) in
+    sym (ap length (r .2)) ∙ omega (arith, x, y, u, v)
+below-long ns rs k l (a ∷ ls) ds ps marks e m =
+    over-each (λ e. length e ≡ length ds + suc (length ls) + length marks + length (variablesOf ns)) 1 (length rs + l) (λ d. onDigit ns rs (below ns rs k l ls) ds ps marks a d)
+    (λ d.
+    let u = length-append ds (d ∷ []) in
+    let z = length-set marks (d - 1) 0 in
+    digit-each (λ e. length e ≡ length ds + suc (length ls) + length marks + length (variablesOf ns)) ns rs (below ns rs k l ls) ds ps marks a d
+    (λ f n. let x = below-long ns rs k l ls (ds ++ d ∷ []) ((a, word rs (d - 1)) ∷ ps) (set marks (d - 1) 0) f n in omega (arith, x, u, z))
+    (λ f n. let x = below-long ns rs k l ls (ds ++ d ∷ []) ps marks f n in omega (arith, x, u)))
+    e m
+
+-- lists of one length have that length, times their number, together
+pub flatten-long : (w : ℕ) (es : List (List ℕ)) → ((e : List ℕ) → List·Memᴰ e es → length e ≡ w) → length (flatten es) ≡ w * length es
+unfolding flatten
+flatten-long w [] h = sym (mul-zero w)
+flatten-long w (e ∷ es) h =
+    let x = h e (List·Memᴰ·head refl) in
+    let y = flatten-long w es (λ f m. h f (List·Memᴰ·tail m)) in
+    let u = length-append e (flatten es) in
+    let v = mul-suc w (length es) in
+    omega (arith, x, y, u, v)
+
+-- pairs that are not unified have no entries
+not-unified : (o : Outcome) (es : List (List ℕ)) → (o ≡ unified → ⊥) → ifUnified o es ≡ []
+unfolding ifUnified
+not-unified unified es h = absurd (h refl)
+not-unified clash es h = refl
+not-unified occurs es h = refl
+
+-- only whether pairs are unified decides whether they have entries
+if-same : (o p : Outcome) (es fs : List (List ℕ)) → o ≡ unified ↔ (p ≡ unified) → (o ≡ unified → es ≡ fs) → ifUnified o es ≡ ifUnified p fs
+unfolding ifUnified
+if-same unified p es fs e h = rw (e .0 refl) (h refl)
+if-same clash p es fs e h =
+    sym (not-unified p fs (λ z. let y = e .1 z in let x : _≡_ {A = ℕ} 0 1 = cc in omega arith))
+if-same occurs p es fs e h =
+    sym (not-unified p fs (λ z. let y = e .1 z in let x : _≡_ {A = ℕ} 0 1 = cc in omega arith))
+
+module _ (ns : List Node) (w : WellFormed ns) (rs : List ℕ) (right : Nodes ns rs) (k l : ℕ) where
+  -- Two lists of pairs have the same unifiers.
+  abbrev Same : List (ℕ × ℕ) → List (ℕ × ℕ) → Type 0
+  Same ps qs = (σ : Substitution) → Unifies ns ps σ ↔ Unifies ns qs σ
+
+  one-more : (p : ℕ × ℕ) (ps qs : List (ℕ × ℕ)) (σ : Substitution) → (Unifies ns ps σ → Unifies ns qs σ) → Unifies ns (p ∷ ps) σ → Unifies ns (p ∷ qs) σ
+  one-more p ps qs σ f u x y (List·Memᴰ·head e) = u x y (List·Memᴰ·head e)
+  one-more p ps qs σ f u x y (List·Memᴰ·tail m) = f (λ a b n. u a b (List·Memᴰ·tail n)) x y m
+
+  -- so they have with one pair more
+  same-more : (p : ℕ × ℕ) (ps qs : List (ℕ × ℕ)) → Same ps qs → Same (p ∷ ps) (p ∷ qs)
+  same-more p ps qs e σ = (one-more p ps qs σ (e σ .0), one-more p qs ps σ (e σ .1))
+
+  -- both are unified or neither is
+  same-unified : (ps qs : List (ℕ × ℕ)) → Inside ns ps → Inside ns qs → Same ps qs → outcome ns ps ≡ unified ↔ (outcome ns qs ≡ unified)
+  same-unified ps qs h i e =
+      let a = outcome-unified ns w ps h in
+      let b = outcome-unified ns w qs i in
+      ((λ z. let u = a .0 z in b .1 (u .0, e (u .0) .0 (u .1))), (λ z. let u = b .0 z in a .1 (u .0, e (u .0) .1 (u .1))))
+
+  -- Pairs with the same unifiers have the same entries below them, with left terms ls to go.
+  abbrev SameBelow : List ℕ → Type 0
+  SameBelow ls = (ds : List ℕ) (ps qs : List (ℕ × ℕ)) (marks : List ℕ) → Inside ns ps → Inside ns qs → Same ps qs → Unifiable ns ps → below ns rs k l ls ds ps marks ≡ below ns rs k l ls ds qs marks
+
+  -- those of a digit of the next left term
+  same-digit : (ls : List ℕ) → SameBelow ls → (a : ℕ) → a < length ns → (ds : List ℕ) (ps qs : List (ℕ × ℕ)) (marks : List ℕ) → Inside ns ps → Inside ns qs → Same ps qs → Unifiable ns ps → (d : ℕ) → 1 ≤ d → onDigit ns rs (below ns rs k l ls) ds ps marks a d ≡ onDigit ns rs (below ns rs k l ls) ds qs marks a d
+  unfolding onDigit
+  same-digit ls rest a p ds ps qs marks h i e u d q = pick (leb d (length rs)) refl
+    where
+      pick : (b : Bool) → leb d (length rs) ≡ b → cond b (cond (eqb (word marks (d - 1)) 0) [] (ifUnified (outcome ns ((a, word rs (d - 1)) ∷ ps)) (below ns rs k l ls (ds ++ d ∷ []) ((a, word rs (d - 1)) ∷ ps) (set marks (d - 1) 0)))) (below ns rs k l ls (ds ++ d ∷ []) ps marks) ≡ cond b (cond (eqb (word marks (d - 1)) 0) [] (ifUnified (outcome ns ((a, word rs (d - 1)) ∷ qs)) (below ns rs k l ls (ds ++ d ∷ []) ((a, word rs (d - 1)) ∷ qs) (set marks (d - 1) 0)))) (below ns rs k l ls (ds ++ d ∷ []) qs marks)
+      pick true b =
+          let r : d ≤ length rs = leb-true d (length rs) b in
+          let g = inside-pair ns w rs right k l a d ps p q r h in
+          let j = inside-pair ns w rs right k l a d qs p q r i in
+          let m = same-more (a, word rs (d - 1)) ps qs e in
+          ap (λ (es : List (List ℕ)). cond (eqb (word marks (d - 1)) 0) [] es)
+          (if-same (outcome ns ((a, word rs (d - 1)) ∷ ps)) (outcome ns ((a, word rs (d - 1)) ∷ qs)) (below ns rs k l ls (ds ++ d ∷ []) ((a, word rs (d - 1)) ∷ ps) (set marks (d - 1) 0)) (below ns rs k l ls (ds ++ d ∷ []) ((a, word rs (d - 1)) ∷ qs) (set marks (d - 1) 0)) (same-unified ((a, word rs (d - 1)) ∷ ps) ((a, word rs (d - 1)) ∷ qs) g j m)
+          (λ z. rest (ds ++ d ∷ []) ((a, word rs (d - 1)) ∷ ps) ((a, word rs (d - 1)) ∷ qs) (set marks (d - 1) 0) g j m (outcome-unified ns w ((a, word rs (d - 1)) ∷ ps) g .0 z)))
+      pick false b = rest (ds ++ d ∷ []) ps qs marks h i e u
+
+  -- those of all strings of digits
+  same-below : (ls : List ℕ) → Nodes ns ls → SameBelow ls
+  unfolding below
+  same-below [] left ds ps qs marks h i e u =
+      ap (λ (ws : List ℕ). map (λ es. ds ++ es ++ ws) (marked k marks)) (same-unifiers ns w ps qs h i e u)
+  same-below (a ∷ ls) left ds ps qs marks h i e u =
+      over-same 1 (length rs + l) (λ d. onDigit ns rs (below ns rs k l ls) ds ps marks a d) (λ d. onDigit ns rs (below ns rs k l ls) ds qs marks a d)
+      (λ d q. same-digit ls (same-below ls (λ j r. left (suc j) (omega arith))) a (left 0 (omega arith)) ds ps qs marks h i e u d q)
+
+  -- below pairs that every substitution unifies are the entries below no pair
+  pub below-same : (ls : List ℕ) → Nodes ns ls → (ps : List (ℕ × ℕ)) (marks : List ℕ) → Inside ns ps → ((σ : Substitution) → Unifies ns ps σ) → below ns rs k l ls [] ps marks ≡ below ns rs k l ls [] [] marks
+  below-same ls left ps marks h u =
+      same-below ls left [] ps [] marks h (λ a b m. absurd (List·Memᴰ·not-nil m)) (λ σ. ((λ v a b m. absurd (List·Memᴰ·not-nil m)), (λ v. u σ))) (var, u var)

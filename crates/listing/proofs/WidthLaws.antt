@@ -1,0 +1,34 @@
+-- The words of an entry, by the sections that they are counted in: the variables are those of the nodes.
+-- Assumes nothing.
+use Prim.Native.Nat.{ℕ, _+_}
+use mathlib.Core.Bool.{cond}
+use mathlib.Core.List.{List}
+use mathlib.Core.Path.{_≡_, refl}
+use native.Mathlib.Omega.{arith}
+use borrow.Author.Tests.{eq-eqb, ne-eqb}
+use lib.Dec.{eqb}
+use lib.ListN.{length}
+use Rattle.table.specs.declared.Refusal.{Refusal}
+use Rattle.table.specs.Answer.{numberOf}
+use Rattle.table.specs.Layout.{nodesOf, argumentsOf, leftTermsOf, rightTermsOf}
+use Rattle.table.specs.Refusal.{refusal}
+use Rattle.table.proofs.AnswerLaws.{number-within}
+use Rattle.unify.specs.declared.Variables.{Variables}
+use Rattle.unify.specs.Answer.{variableCount}
+use Rattle.unify.specs.Code.Stands.{Lists}
+use Rattle.unify.proofs.TableLaws.{nodes-of-sections}
+use Rattle.listing.specs.Answer.{entryWords}
+
+-- the terms of both sides and the variables present, counted
+pub entry-counted : (t nodes arguments left right : List ℕ) (v : Variables) → nodes ≡ nodesOf t → arguments ≡ argumentsOf t → left ≡ leftTermsOf t → right ≡ rightTermsOf t → Lists nodes arguments v → length left + length right + v .count ≡ entryWords t
+unfolding entryWords variableCount
+entry-counted t nodes arguments left right v e f g h l = rw (nodes-of-sections t, ← e, ← f, ← g, ← h, l .counted) refl
+
+module _ (t : List ℕ) (n : ℕ) where
+  -- a refused table has no entry
+  pub refused-none : (r : Refusal) → numberOf r ≡ refusal t → 0 ≡ cond (eqb (refusal t) 0) n 0
+  refused-none r e = rw (ne-eqb (refusal t) 0 (λ z. omega (arith, number-within r))) refl
+
+  -- one that is accepted has n words an entry
+  pub accepted-all : refusal t ≡ 0 → n ≡ cond (eqb (refusal t) 0) n 0
+  accepted-all e = rw (eq-eqb (refusal t) 0 e) refl

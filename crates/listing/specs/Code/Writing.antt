@@ -1,0 +1,46 @@
+-- Entries as they are written into the lent words, one behind the other.
+use Prim.Native.Nat.{ℕ, _+_, _-_, _≤_}
+use mathlib.Core.Bool.{cond}
+use mathlib.Core.List.{List, [], _∷_, _++_, map, flatten}
+use mathlib.Core.Path.{_≡_}
+use lib.Dec.{eqb, ltb}
+use lib.ListN.{length, take, drop}
+use Rattle.listing.specs.declared.Written.{Written}
+use Rattle.listing.specs.Answer.{fitting}
+use Rattle.listing.specs.Computed.Choices.{branch}
+
+-- Words xs in the place of as many lent words from `at` on.
+unfoldable pub put : ℕ → List ℕ → List ℕ → List ℕ
+put at xs lent = take at lent ++ xs ++ drop (at + length xs) lent
+
+-- Of entries es as many are written as fit into the lent words from `at` on. An entry too many makes them full.
+pub record Writes (es : List (List ℕ)) (lent : List ℕ) (at : ℕ) (lent′ : List ℕ) (w : Written) : Type 0 where
+  pub words : lent′ ≡ put at (flatten (fitting (length lent - at) es)) lent
+  pub used : w .used ≡ at + length (flatten (fitting (length lent - at) es))
+  pub full : w .full ≡ ltb (length lent - at) (length (flatten es))
+
+-- Where the entries `rest` are written from `at` on, all of es are written from at₀ on.
+pub record Remains (es : List (List ℕ)) (lent₀ : List ℕ) (at₀ : ℕ) (rest : List (List ℕ)) (lent : List ℕ) (at : ℕ) : Type 0 where
+  pub size : length lent ≡ length lent₀
+  pub within : at ≤ length lent
+  pub closes : (lent′ : List ℕ) (w : Written) → Writes rest lent at lent′ w → Writes es lent₀ at₀ lent′ w
+
+-- The strings of right digits by marks: 0 where the right term is paired, otherwise 1 to k.
+unfoldable pub marked : ℕ → List ℕ → List (List ℕ)
+marked k [] = [] ∷ []
+marked k (z ∷ zs) = cond (eqb z 0) (branch 0 1 (λ d. marked k zs)) (branch 1 k (λ d. marked k zs))
+
+-- The marks of an entry from place p up to `end`.
+abbrev pub marksFrom : List ℕ → ℕ → ℕ → List ℕ
+marksFrom e p end = take (end - p) (drop p e)
+
+-- The entries that differ from e in their right digits from place p up to `end`.
+unfoldable pub rightEntries : ℕ → List ℕ → ℕ → ℕ → List (List ℕ)
+rightEntries k e p end = map (λ ds. take p e ++ ds ++ drop end e) (marked k (marksFrom e p end))
+
+-- An entry after its right digits from place p up to `end` were written over: they still mark the same right terms as paired.
+pub record Remarked (k : ℕ) (e : List ℕ) (p end : ℕ) (e′ : List ℕ) : Type 0 where
+  pub size : length e′ ≡ length e
+  pub first : take p e′ ≡ take p e
+  pub last : drop end e′ ≡ drop end e
+  pub marks : marked k (marksFrom e′ p end) ≡ marked k (marksFrom e p end)

@@ -1,0 +1,20 @@
+// The words of an entry.
+ghost use mathlib.Core.Path.{_≡_};
+ghost use Rattle.table.specs.Code.Accepted.{Accepted};
+ghost use Rattle.listing.specs.Answer.{entryWords};
+use table::layout;
+use unify::beginning::begin;
+
+// How many words an entry of an accepted table has.
+pub fn accepted_words(table: &[u32]) -> usize
+    requires { ⌜ Accepted (now table) ⌝ }
+    ensures { λ r. ⌜ r ≡ entryWords (now (table .entry)) ⌝ }
+{
+    let nodes = layout::section(table, layout::NODES);
+    let arguments = layout::section(table, layout::ARGUMENTS);
+    let left = layout::section(table, layout::LEFT_TERMS);
+    let right = layout::section(table, layout::RIGHT_TERMS);
+    let beginning = begin(nodes, arguments);
+    let variables = beginning.variables;
+    left.len() + right.len() + variables.count
+}
