@@ -1,6 +1,7 @@
 //! A program held against this one on generated tables.
 
 use crate::generator::{self, Made};
+use crate::lengths::listings;
 use crate::lines::Question;
 use crate::listing::{by_algorithm_1, by_choices};
 use crate::operations::{printed, words_of, LENT};
@@ -43,7 +44,7 @@ impl Count {
 }
 
 /// Runs a program that prints listings on generated tables, prints differences, and prints what the tables were.
-pub fn compare_listings(program: &Program, seed: u64, count: u64) -> Count {
+pub fn compare_printed(program: &Program, seed: u64, count: u64) -> Count {
     let mut counted = Count::default();
     let mut tally = Tally::default();
     let mut by_both_modes = 0;
@@ -94,6 +95,11 @@ pub fn compare_checks(program: &Program, seed: u64, count: u64) -> Count {
 /// the tables were.
 pub fn compare_unifications(program: &Program, seed: u64, count: u64) -> Count {
     compare_answers(program, seed, count, unifications)
+}
+
+/// Runs a program that lists tables with some words lent, each a line, on generated tables, and prints what they were.
+pub fn compare_listings(program: &Program, seed: u64, count: u64) -> Count {
+    compare_answers(program, seed, count, listings)
 }
 
 /// A question about a generated table as a line, and the line that answers it.

@@ -319,6 +319,11 @@ pub fn exact(random: &mut Random) -> Problem {
     counted(random, |entries, words| entries * words == LENT)
 }
 
+/// Listings that leave some of the lent words, but fewer than an entry needs.
+pub fn no_more_fits(random: &mut Random) -> Problem {
+    counted(random, |entries, words| entries == LENT / words && entries * words < LENT)
+}
+
 /// Constants, of which p stand on both sides and the others on one: (l k + 1)^p l^(n-p) k^(m-p) entries. Their number and
 /// their words, with some variables that occur in no term, are as asked.
 fn counted(random: &mut Random, asked: fn(usize, usize) -> bool) -> Problem {

@@ -36,7 +36,7 @@ impl Made {
 /// A family: its name, its share of the tables, and how one is made.
 pub type Family = (&'static str, usize, fn(&mut Random) -> Vec<u8>);
 
-pub const FAMILIES: [Family; 18] = [
+pub const FAMILIES: [Family; 19] = [
     ("small", 24, |random| bytes(families::small(random))),
     ("medium", 6, |random| bytes(families::medium(random))),
     ("large", 3, |random| bytes(families::large(random))),
@@ -51,6 +51,7 @@ pub const FAMILIES: [Family; 18] = [
     ("limits", 3, |random| bytes(families::limits(random))),
     ("boundaries", 3, |random| bytes(families::boundaries(random))),
     ("exact", 1, |random| bytes(families::exact(random))),
+    ("no more fits", 1, |random| bytes(families::no_more_fits(random))),
     ("one past", 1, |random| bytes(families::one_past(random))),
     ("damaged", 18, |random| damage::once(&families::any_size(random), random)),
     ("damaged more", 8, |random| damage::several(&families::any_size(random), random)),

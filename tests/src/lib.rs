@@ -13,6 +13,7 @@
 //! - [`generator`]: tables to compare on, of [`families`] of problems, right or with some [`damage`]
 //! - [`random`], [`drawing`]: how they are drawn
 //! - [`pairs`]: which of their nodes are unified
+//! - [`lengths`]: how many words are lent to listings of them
 //! - [`tally`]: what generated tables were
 //! - [`lines`]: the lines of this project's program `examples`
 //! - [`comparison`], [`arguments`]: a program held against this one
@@ -26,6 +27,7 @@ pub mod damage;
 pub mod drawing;
 pub mod families;
 pub mod generator;
+pub mod lengths;
 pub mod lines;
 pub mod listing;
 pub mod operations;

@@ -1,6 +1,6 @@
 //! The lines of this project's program `examples`: each asks for one operation on a table, and one line answers it.
 
-use crate::operations::{check, unify, Unify};
+use crate::operations::{check, list, unify, List, Unify};
 
 /// The two numbers of a unification, and how many words are lent.
 #[derive(Clone, Copy, Debug, PartialEq, Eq)]
@@ -10,10 +10,19 @@ pub struct Unification {
     pub lent: usize,
 }
 
-/// A line: a name, a colon and the table's words. It asks for a unification, or to check the table.
+/// What is asked of a table.
+#[derive(Clone, Copy, Debug, PartialEq, Eq)]
+pub enum Operation {
+    Check,
+    Unify(Unification),
+    /// With how many words are lent.
+    List(usize),
+}
+
+/// A line: a name, a colon and the table's words. Its name says what is asked.
 pub struct Question {
     pub name: String,
-    pub unification: Option<Unification>,
+    pub operation: Operation,
     pub table: Vec<u32>,
 }
 
@@ -27,28 +36,37 @@ pub struct Answer {
 impl Question {
     /// To check a table.
     pub fn check(name: String, table: Vec<u32>) -> Question {
-        Question { name, unification: None, table }
+        Question { name, operation: Operation::Check, table }
     }
 
     /// To unify two nodes of a table.
     pub fn unify(asked: Unification, name: String, table: Vec<u32>) -> Question {
         let Unification { a, b, lent } = asked;
         let name = format!("unify {a} {b} with {lent} lent, {name}");
-        Question { name, unification: Some(asked), table }
+        Question { name, operation: Operation::Unify(asked), table }
     }
 
-    /// The question of a line. The first three numbers of a name that begins with 'unify ' say what is asked.
+    /// To list a table.
+    pub fn list(lent: usize, name: String, table: Vec<u32>) -> Question {
+        let name = format!("list with {lent} lent, {name}");
+        Question { name, operation: Operation::List(lent), table }
+    }
+
+    /// The question of a line. The first three numbers of a name that begins with 'unify ', and the first of one that
+    /// begins with 'list with ', say what is asked.
     pub fn read(line: &str) -> Option<Question> {
         let (name, words) = line.split_once(':')?;
         let table = words.split_whitespace().map(|word| word.parse().ok()).collect::<Option<Vec<u32>>>()?;
-        let unification = if name.starts_with("unify ") {
-            let mut numbers = name.split(|c: char| !c.is_ascii_digit()).filter(|digits| !digits.is_empty());
-            let mut number = || numbers.next()?.parse::<u32>().ok();
-            Some(Unification { a: number()?, b: number()?, lent: number()? as usize })
+        let mut numbers = name.split(|c: char| !c.is_ascii_digit()).filter(|digits| !digits.is_empty());
+        let mut number = || numbers.next()?.parse::<u32>().ok();
+        let operation = if name.starts_with("unify ") {
+            Operation::Unify(Unification { a: number()?, b: number()?, lent: number()? as usize })
+        } else if name.starts_with("list with ") {
+            Operation::List(number()? as usize)
         } else {
-            None
+            Operation::Check
         };
-        Some(Question { name: name.to_string(), unification, table })
+        Some(Question { name: name.to_string(), operation, table })
     }
 
     /// The line itself.
@@ -58,18 +76,30 @@ impl Question {
 
     /// This program's answer.
     pub fn answer(&self) -> Answer {
-        let Some(Unification { a, b, lent }) = self.unification else {
-            return Answer { answer: check(&self.table).map_or("accepted".to_string(), refused), lent: vec![] };
-        };
-        // The lent words are numbers that are no nodes, all different.
-        let mut lent: Vec<u32> = (9000..).take(lent).collect();
-        let answer = match unify(&self.table, a, b, &mut lent) {
-            Unify::Refused(refusal) => refused(refusal),
-            Unify::Unified => "unified".to_string(),
-            Unify::Clash => "clash".to_string(),
-            Unify::Occurs => "occurs".to_string(),
-        };
-        Answer { answer, lent }
+        match self.operation {
+            Operation::Check => {
+                Answer { answer: check(&self.table).map_or("accepted".to_string(), refused), lent: vec![] }
+            }
+            Operation::Unify(Unification { a, b, lent }) => {
+                let mut lent = lent_words(lent);
+                let answer = match unify(&self.table, a, b, &mut lent) {
+                    Unify::Refused(refusal) => refused(refusal),
+                    Unify::Unified => "unified".to_string(),
+                    Unify::Clash => "clash".to_string(),
+                    Unify::Occurs => "occurs".to_string(),
+                };
+                Answer { answer, lent }
+            }
+            Operation::List(lent) => {
+                let mut lent = lent_words(lent);
+                let answer = match list(&self.table, &mut lent) {
+                    List::Refused(refusal) => refused(refusal),
+                    List::Finished(entries) => format!("entries {entries}"),
+                    List::Full(entries) => format!("full {entries}"),
+                };
+                Answer { answer, lent }
+            }
+        }
     }
 
     /// The line of an answer.
@@ -77,6 +107,11 @@ impl Question {
         let comma = if answer.lent.is_empty() { "" } else { "," };
         format!("{}: {}{comma}{}\n", self.name, answer.answer, spaced(&answer.lent))
     }
+}
+
+/// Lent words before a call: numbers that are no nodes, all different.
+pub fn lent_words(lent: usize) -> Vec<u32> {
+    (9000..).take(lent).collect()
 }
 
 fn refused(refusal: u32) -> String {

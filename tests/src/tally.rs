@@ -1,7 +1,7 @@
 //! What generated tables were: their families, their answers, and what is in the accepted ones.
 
 use crate::generator::Made;
-use crate::operations::{words_of, LENT};
+use crate::operations::{words_of, LENT, MOST_BYTES};
 use crate::table::{read, Node, Problem};
 use std::collections::{BTreeMap, HashSet};
 use std::fmt;
@@ -21,20 +21,14 @@ impl Tally {
         *self.families.entry(made.family).or_default() += 1;
     }
 
-    /// Counts an answer.
+    /// Counts an answer, by its kind where it says how many entries there are.
     pub fn answer(&mut self, answer: &str) {
-        *self.answers.entry(answer.to_string()).or_default() += 1;
+        *self.answers.entry(kind(answer).to_string()).or_default() += 1;
     }
 
     /// Counts a table by what is printed for it, and by what is in it.
     pub fn add(&mut self, made: &Made, printed: &str) {
-        let first = printed.lines().next().unwrap_or_default();
-        let answer = match first.split_once(' ') {
-            Some(("entries", "0")) => "no entry",
-            Some(("entries", _)) => "entries",
-            Some(("full", _)) => "full",
-            _ => first,
-        };
+        let answer = kind(printed.lines().next().unwrap_or_default());
         self.table(made);
         self.answer(answer);
         if let Some(problem) = words_of(&made.input).ok().and_then(|table| read(&table).ok()) {
@@ -66,6 +60,15 @@ impl fmt::Display for Tally {
     }
 }
 
+fn kind(answer: &str) -> &str {
+    match answer.split_once(' ') {
+        Some(("entries", "0")) => "no entry",
+        Some(("entries", _)) => "entries",
+        Some(("full", _)) => "full",
+        _ => answer,
+    }
+}
+
 /// Features of a problem that its family does not settle.
 fn features(problem: &Problem, answer: &str, entries: usize) -> Vec<&'static str> {
     let sides = [&problem.left, &problem.right];
@@ -90,6 +93,7 @@ fn features(problem: &Problem, answer: &str, entries: usize) -> Vec<&'static str
         ("8 terms on a side", sides.iter().any(|side| side.terms.len() == 8)),
         ("4 labels on a side", sides.iter().any(|side| side.labels.len() == 4)),
         ("64 variables", variables.len() == 64),
+        ("every limit at once", problem.table().len() == MOST_BYTES / 4 && variables.len() == 64),
         ("entries of 0 words", problem.entry_words() == 0),
         ("all lent words filled and finished", answer == "entries" && entries * problem.entry_words() == LENT),
         ("all lent words filled and full", answer == "full" && entries * problem.entry_words() == LENT),

@@ -62,44 +62,19 @@ fn a_copy_without_fault_agrees() {
     agrees(env!("CARGO_BIN_EXE_faulty"), "none", &[]);
 }
 
-#[test]
-fn a_dropped_entry_is_found() {
-    finds("dropped", &[]);
-}
+/// The faults of a listing, with any words lent.
+const FAULTS: [&str; 12] = [
+    "dropped", "repeated", "swapped", "digits", "refusal", "finished", "full", "room", "last", "count", "bound", "word",
+];
 
 #[test]
-fn a_swapped_order_is_found() {
-    finds("swapped", &[]);
-}
-
-#[test]
-fn a_refusal_off_by_one_is_found() {
-    finds("refusal", &[]);
-}
-
-#[test]
-fn a_listing_cut_short_is_found() {
-    finds("finished", &[]);
-}
-
-#[test]
-fn full_with_no_word_left_is_found() {
-    finds("full", &[]);
-}
-
-#[test]
-fn full_before_the_words_are_used_up_is_found() {
-    finds("room", &[]);
-}
-
-#[test]
-fn a_word_that_is_not_the_least_is_found() {
-    finds("word", &[]);
+fn each_fault_of_a_program_that_lists_is_found() {
+    FAULTS.iter().for_each(|fault| finds(fault, &[]));
 }
 
 #[test]
 fn a_program_that_is_not_there_fails() {
-    for options in [&[][..], &["--checks"], &["--unifications"]] {
+    for options in [&[][..], &["--checks"], &["--unifications"], &["--listings"]] {
         let output = compare("no-such-program", "", options);
         assert_eq!(counts(&output).0, 0);
         assert!(!output.status.success());
@@ -119,6 +94,14 @@ fn unifications_are_compared() {
     agrees(env!("CARGO_BIN_EXE_faulty"), "answers none", &["--unifications"]);
     for fault in ["refusal", "lent", "refused", "occurs", "clash", "changed", "past", "word", "joined", "more"] {
         finds(&format!("answers {fault}"), &["--unifications"]);
+    }
+}
+
+#[test]
+fn listings_are_compared() {
+    agrees(env!("CARGO_BIN_EXE_faulty"), "answers none", &["--listings"]);
+    for fault in FAULTS.iter().chain(&["refused", "past", "part", "more"]) {
+        finds(&format!("answers {fault}"), &["--listings"]);
     }
 }
 

@@ -3,10 +3,14 @@
 use second::damage::{damaged, REFUSALS};
 use second::families;
 use second::generator::{accepted, make, FAMILIES};
+use second::lengths::{listings, MOST_LENT};
+use second::lines::Operation;
 use second::listing::{by_algorithm_1, by_choices, listing, Entry};
-use second::operations::{printed, refused, LENT};
+use second::operations::{printed, refused, LENT, MOST_BYTES};
 use second::random::Random;
+use second::table::read;
 use second::tally::Tally;
+use std::collections::BTreeMap;
 
 const SEED: u64 = 1;
 const COUNT: u64 = 5000;
@@ -42,12 +46,55 @@ fn every_kind_of_table_is_made() {
         "8 terms on a side",
         "4 labels on a side",
         "64 variables",
+        "every limit at once",
         "entries of 0 words",
         "all lent words filled and finished",
         "all lent words filled and full",
     ] {
         assert!(tally.features.get(feature).copied().unwrap_or(0) >= 10, "{feature}");
     }
+}
+
+/// "more than 6,288 bytes, or a number of bytes that four does not divide": each without the other, and both.
+#[test]
+fn each_wrong_number_of_bytes_is_made() {
+    let mut made = [0; 4];
+    for length in (0..COUNT).map(|index| make(SEED, index).input.len()) {
+        made[usize::from(length > MOST_BYTES) + 2 * usize::from(length % 4 != 0)] += 1;
+    }
+    assert!(made.iter().all(|&count| count >= 20), "{made:?}");
+}
+
+/// Lent words of every length that matters: none, one, and around one entry and the whole listing.
+#[test]
+fn listings_are_asked_with_many_lengths() {
+    let mut asked: BTreeMap<&str, usize> = BTreeMap::new();
+    for index in 0..COUNT {
+        for question in listings(&make(SEED, index)) {
+            let (Operation::List(lent), Ok(problem)) = (question.operation, read(&question.table)) else { continue };
+            let entry = problem.entry_words();
+            let listing = listing(&problem, MOST_LENT);
+            let words = listing.entries.len() * entry;
+            let several = !listing.full && listing.entries.len() > 1;
+            for (length, here) in [
+                ("none", lent == 0 && words > 0),
+                ("one", lent == 1 && entry > 1),
+                ("one short of an entry", lent + 1 == entry && words > 0),
+                ("an entry", lent == entry && words > 0),
+                ("one past an entry", lent == entry + 1 && words > 0),
+                ("one short of all", several && lent + 1 == words),
+                ("all but one entry", several && lent + entry == words),
+                ("all", several && lent == words),
+                ("one past all", several && lent == words + 1),
+                ("many, finished", !listing.full && lent == MOST_LENT),
+                ("many, full", listing.full && lent == MOST_LENT),
+                ("any for an entry of no words", entry == 0 && lent > 0),
+            ] {
+                *asked.entry(length).or_default() += usize::from(here);
+            }
+        }
+    }
+    assert!(asked.values().all(|&count| count >= 20), "{asked:?}");
 }
 
 #[test]
@@ -73,6 +120,11 @@ fn listings_of_all_lent_words_are_of_many_kinds() {
         let pair =
             |entry: &Entry| (0..problem.left.terms.len()).any(|t| entry[t] as usize <= problem.right.terms.len());
         paired += usize::from(listing.entries.iter().any(pair));
+        let shorter = families::no_more_fits(&mut random);
+        let listing = by_choices(&shorter, LENT);
+        assert!(!listing.full);
+        let left = LENT - listing.entries.concat().len();
+        assert!(left > 0 && left < shorter.entry_words());
         let longer = families::one_past(&mut random);
         let listing = by_choices(&longer, LENT);
         assert!(listing.full);

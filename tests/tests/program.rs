@@ -1,6 +1,6 @@
 //! What this project's program `examples` is to print for its input is what the second program answers.
 
-use second::lines::Question;
+use second::lines::{Operation, Question};
 use std::fs;
 
 fn file(name: &str) -> String {
@@ -21,15 +21,31 @@ fn each_line_is_answered_as_expected() {
     assert_eq!(answered.concat(), file("stdout"));
 }
 
+/// The answers to the questions of some operation.
+fn answers(asked: fn(Operation) -> bool) -> Vec<String> {
+    questions().iter().filter(|question| asked(question.operation)).map(|question| question.answer().answer).collect()
+}
+
 #[test]
 fn each_answer_of_unifying_is_among_them() {
-    let unifications = questions().into_iter().filter(|question| question.unification.is_some());
-    let answers: Vec<String> = unifications.map(|question| question.answer().answer).collect();
+    let answers = answers(|operation| matches!(operation, Operation::Unify(_)));
     assert!(answers.len() >= 40);
     for answer in ["unified", "clash", "occurs"] {
         assert!(answers.iter().filter(|other| *other == answer).count() >= 5, "{answer}");
     }
     for refusal in 1..=9 {
         assert!(answers.contains(&format!("refused {refusal}")), "{refusal}");
+    }
+}
+
+#[test]
+fn each_answer_of_listing_is_among_them() {
+    let answers = answers(|operation| matches!(operation, Operation::List(_)));
+    assert!(answers.len() >= 40);
+    for answer in ["entries", "full"] {
+        assert!(answers.iter().filter(|other| other.starts_with(answer)).count() >= 10, "{answer}");
+    }
+    for answer in ["entries 0", "full 0"].map(String::from).into_iter().chain((1..=7).map(|n| format!("refused {n}"))) {
+        assert!(answers.contains(&answer), "{answer}");
     }
 }

@@ -1,23 +1,24 @@
-// Checks the tables of its input, or unifies two of their nodes. A line is a name, a colon and the table's words; the answer is printed after the name.
-// A name that begins `unify A B with L lent` asks for a unification, with L words lent; they are printed after the answer.
+// Checks the tables of its input, unifies two of their nodes, or lists them. A line is a name, a colon and the table's words; the answer is printed after the name.
+// A name that begins `unify A B with L lent` asks for a unification and one that begins `list with L lent` for a listing, with L words lent; they are printed after the answer.
 ghost use mathlib.Core.Path.{_≡_};
 ghost use Prim.Native.Nat.{_+_, _≤_, _<_};
 ghost use lib.ListN.{length};
 use libc::STDIN_FILENO;
 use libc::STDOUT_FILENO;
+use listing::Listing;
 use table::Checked;
 use table::Node;
 use table::Refusal;
 use unify::Unification;
 
 // More bytes than the input has.
-const MOST_BYTES: usize = 131072;
+const MOST_BYTES: usize = 262144;
 
 // More words than any table of the input has.
 const MOST_WORDS: usize = 2048;
 
 // The most words that are lent.
-const MOST_LENT: usize = 128;
+const MOST_LENT: usize = 2048;
 
 // A number that was read, and where the text goes on.
 struct Digits {
@@ -116,7 +117,7 @@ fn read_words(text: &[u8], words: &mut [u32]) -> usize
 
 // Fills words with numbers that are no nodes, all different.
 fn fill(words: &mut [u32])
-    requires { ⌜ length (now words) ≤ 1000 ⌝ }
+    requires { ⌜ length (now words) ≤ 10000 ⌝ }
     ensures { λ r. ⌜ length (now (words .exit)) ≡ length (now (words .entry)) ⌝ }
 {
     let mut i: usize = 0;
@@ -166,6 +167,19 @@ fn print_unification(unification: Unification) {
     }
 }
 
+fn print_entries(word: &[u8], entries: usize) {
+    print(word);
+    io::print_decimal(STDOUT_FILENO, entries as u64);
+}
+
+fn print_listing(listing: Listing) {
+    match listing {
+        Listing::Finished(entries) => print_entries(b": entries ", entries),
+        Listing::Full(entries) => print_entries(b": full ", entries),
+        Listing::Refused(refusal) => print_refusal(refusal),
+    }
+}
+
 // Prints a comma, if any words follow it.
 fn print_comma(words: &[u32]) {
     if words.len() > 0 {
@@ -212,8 +226,32 @@ fn run_unification(name: &[u8], table: &[u32]) {
     unify_nodes(table, given[0], given[1], &mut lent[0..n]);
 }
 
+// Lists a table, and prints the answer and the lent words after it.
+fn list_table(table: &[u32], lent: &mut [u32]) {
+    print_listing(listing::list(table, lent));
+    print_lent(lent);
+}
+
+// Lists a table. The name has how many words are lent.
+fn run_listing(name: &[u8], table: &[u32]) {
+    let mut given = [0u32; 1];
+    read_words(name, &mut given);
+    if given[0] > MOST_LENT as u32 {
+        print(b": too many lent\n");
+        return;
+    }
+    let n = given[0] as usize;
+    let mut lent = [0u32; MOST_LENT];
+    fill(&mut lent);
+    list_table(table, &mut lent[0..n]);
+}
+
 // Answers what a name asks of a table.
 fn answer(name: &[u8], table: &[u32]) {
+    if begins_with(name, b"list with ") {
+        run_listing(name, table);
+        return;
+    }
     if begins_with(name, b"unify ") {
         run_unification(name, table);
         return;
