@@ -20,6 +20,7 @@ use Rattle.table.specs.Code.Accepted.{Accepted}
 use Rattle.table.proofs.AcceptedLaws.{accepted}
 use Rattle.table.proofs.BoolLaws.{or-false-left}
 use Rattle.table.proofs.AnswerLaws.{number-within}
+use Rattle.unify.proofs.ListLaws.{length-none}
 use Rattle.unify.specs.Outcome.{Outcome, unified, clash, occurs}
 use Rattle.listing.specs.Answer.{entriesLeft, listed, lentAfter, entryWords, entriesIn}
 use Rattle.listing.specs.Computed.Choices.{rights, lefts, choices}
@@ -109,16 +110,12 @@ module _ (t lent words : List ℕ) (k width : ℕ) (long : length lent ≡ 16384
   full-printed e w =
       rw (← long, ← e) (rw (lie (full-exactly t (length lent) k .0 (sym e) .0) (ap (λ (p : ℕ × ℕ). p .1) e), ← long) at w)
 
-none-left : {A : Type 0} (xs : List A) → length xs ≡ 0 → xs ≡ []
-none-left [] e = refl
-none-left (x ∷ xs) e = absurd (omega arith)
-
 -- a refused table
 pub refused-printed : (t : List ℕ) (lent : ℕ) (r : Refusal) (n : ℕ) {o p : List ℕ} {j : ℕ} → lent ≡ 16384 → (numberOf r, 0) ≡ listed t lent → n ≡ numberOf r → Wrote o 0 (titled refusedText n) p j → Wrote o 0 (printedTable t) p j
 unfolding printedTable title listed lines flatMap
 refused-printed t lent r n long e f w =
     let h = number-within r in
-    let z = none-left (entriesLeft t lent) (sym (ap (λ (p : ℕ × ℕ). p .1) e)) in
+    let z = length-none (entriesLeft t lent) (sym (ap (λ (p : ℕ × ℕ). p .1) e)) in
     rw (← long, z, ← ap (λ (p : ℕ × ℕ). p .0) e, ne-eqb (numberOf r) 0 (λ q. omega arith), ne-eqb (numberOf r) 10 (λ q. omega arith), ← f)
     (rw (append-nil (titled refusedText n)) w)
 

@@ -22,6 +22,7 @@ use Rattle.unify.specs.declared.Variables.{Variables}
 use Rattle.unify.specs.Computed.Unifying.{wordsOf}
 use Rattle.unify.specs.Code.Sections.{nodesFrom}
 use Rattle.unify.specs.Code.Stands.{Lists}
+use Rattle.unify.proofs.ListLaws.{length-none}
 use Rattle.unify.proofs.TableLaws.{sections-of, nodes-of-sections}
 use Rattle.unify.proofs.AnswerLaws.{words-counted}
 use Rattle.listing.specs.declared.Labels.{Labels}
@@ -94,11 +95,7 @@ all-long {words} {args} left right labels s e m =
 -- where that is none, there is one entry
 pub all-empty : {words args : List ℕ} (left right : List ℕ) (labels : Labels) {v : Variables} → Lists words args v → length left + length right + v .count ≡ 0 → allEntries words args left right labels ≡ [] ∷ []
 unfolding below marked
-all-empty {words} {args} [] [] labels s h = ap (_∷ []) (nothing (wordsOf (nodesFrom words args) []) (words-counted (nodesFrom words args) [] ∙ sym (s .counted) ∙ omega (arith, h)))
-  where
-    nothing : (ws : List ℕ) → length ws ≡ 0 → ws ≡ []
-    nothing [] q = refl
-    nothing (w ∷ ws) q = absurd (omega arith)
+all-empty {words} {args} [] [] labels s h = ap (_∷ []) (length-none (wordsOf (nodesFrom words args) []) (words-counted (nodesFrom words args) [] ∙ sym (s .counted) ∙ omega (arith, h)))
 all-empty [] (b ∷ right) labels s h = absurd (omega arith)
 all-empty (a ∷ left) right labels s h = absurd (omega arith)
 

@@ -1,7 +1,7 @@
 -- Page 14: under an assignment the two sides are equal exactly if it is an instance of an entry of the complete listing.
 -- An instance's pairs are equal, so its choice balances (`filled-equal`). Equal sides are accounted for by some choice (`equal-filled`), whose pairs the assignment unifies; so it is admissible, and the assignment comes after its unifier. Assumes nothing.
 use Prim.Native.Nat.{ℕ, _+_, _<_}
-use mathlib.Core.List.{List, [], _∷_, map, flatMap, List·Memᴰ, List·Memᴰ·not-nil}
+use mathlib.Core.List.{List, [], map, flatMap, List·Memᴰ, List·Memᴰ·not-nil}
 use mathlib.Core.Logic.{_↔_}
 use mathlib.Core.Path.{_≡_, refl, sym, ap, _∙_}
 use native.Mathlib.Omega.{arith}
@@ -18,6 +18,7 @@ use Rattle.unify.specs.Node.{nodesIn, Present}
 use Rattle.unify.specs.Unifier.{value, Unifies}
 use Rattle.unify.specs.Outcome.{unified}
 use Rattle.unify.specs.Computed.Unifying.{outcome, unifier}
+use Rattle.unify.proofs.ListLaws.{length-none}
 use Rattle.unify.proofs.TableLaws.{well-formed, left-node, right-node}
 use Rattle.unify.proofs.NodeLaws.{value-after}
 use Rattle.unify.proofs.OutcomeLaws.{unifier-most-general, words-readable, reading-most-general}
@@ -117,11 +118,7 @@ page14-finished t lent k e =
 pub finished-empty : (t : List ℕ) (lent : ℕ) → listed t lent ≡ (0, 0) → (A : Assignment) → EqualSides t A → ⊥
 finished-empty t lent e =
     let f = finished-exactly t lent 0 .0 e in
-    page14-empty t (accepted t .1 (f .0)) (nothing (completeListing t) (f .2))
-  where
-    nothing : (es : List (List ℕ)) → 0 ≡ length es → es ≡ []
-    nothing [] q = refl
-    nothing (d ∷ ds) q = absurd (omega arith)
+    page14-empty t (accepted t .1 (f .0)) (length-none (completeListing t) (sym (f .2)))
 
 -- what demand 3 says of entries leaves no choice of them
 pub page14-one : (t : List ℕ) → refusal t ≡ 0 → (k : ℕ) (words : List ℕ) → Page14 t k words → entriesIn t k words ≡ completeListing t

@@ -9,6 +9,7 @@ use native.Mathlib.Omega.{arith}
 use borrow.Author.Tests.{eq-eqb, ne-eqb}
 use lib.ListN.{length, getD, take, drop, set, length-set, take-append-drop}
 use lib.Seq.{drop-cons, take-suc, getD-take, getD-set-same, take-take, take-set-le, take-suc-set, drop-set-lt}
+use Rattle.unify.proofs.ListLaws.{map-same}
 use Rattle.listing.specs.declared.Written.{Written}
 use Rattle.listing.specs.Computed.Choices.{branch}
 use Rattle.listing.specs.Code.Writing.{Writes, Remains, marked, marksFrom, rightEntries, Remarked}
@@ -51,11 +52,6 @@ rights-end k e p end q =
     let a : take p e ++ [] ++ drop p e ≡ e = ap (λ (r : List ℕ). r ++ drop p e) (append-nil (take p e)) ∙ take-append-drop p e in
     rw (← q, z) (ap (λ (r : List ℕ). r ∷ []) a)
 
--- functions that agree make the same list
-map-same : {A : Type 0} {B : Type 0} (f g : A → B) → ((x : A) → f x ≡ g x) → (xs : List A) → map f xs ≡ map g xs
-map-same f g h [] = refl
-map-same f g h (x ∷ xs) = rw (h x, map-same f g h xs) refl
-
 -- the words up to a place, and its own
 next-digit : (e : List ℕ) (p : ℕ) → p < length e → take (p + 1) e ≡ take p e ++ (getD e p 0 ∷ [])
 next-digit e p h = ap (λ (n : ℕ). take n e) (add-one p) ∙ take-suc e p 0 h
@@ -68,7 +64,7 @@ rights-paired k e p end h l z =
     let t : take (p + 1) e ≡ take p e ++ (0 ∷ []) = next-digit e p (omega (arith, h, l)) ∙ ap (λ (n : ℕ). take p e ++ (n ∷ [])) z in
     ap (map (with e p end)) (marked-paired k e p end h l z)
     ∙ map-map (with e p end) (0 ∷_) m
-    ∙ sym (map-same (with e (p + 1) end) (λ ds. with e p end (0 ∷ ds)) (λ ds. with-digit e e p end 0 ds t refl) m)
+    ∙ sym (map-same (with e (p + 1) end) (λ ds. with e p end (0 ∷ ds)) m (λ ds q. with-digit e e p end 0 ds t refl))
 
 -- The entries in which the word at place p goes from d to k.
 unfoldable pub rightsFrom : ℕ → List ℕ → ℕ → ℕ → ℕ → List (List ℕ)
@@ -131,7 +127,7 @@ module _ {k : ℕ} {e₀ : List ℕ} {p end : ℕ} {e : List ℕ} (g : Held k e�
       let rest = k + 1 - (d + 1) in
       ap (λ (j : ℕ). map (with e₀ p end) (branch d j (λ x. m))) n
       ∙ map-append (with e₀ p end) (map (d ∷_) m) (branch (suc d) rest (λ x. m))
-      ∙ ap (λ (zs : List (List ℕ)). zs ++ map (with e₀ p end) (branch (suc d) rest (λ x. m))) (map-map (with e₀ p end) (d ∷_) m ∙ sym (map-same (with (set e p d) (p + 1) end) (λ ds. with e₀ p end (d ∷ ds)) (λ ds. with-digit e₀ (set e p d) p end d ds (first-set d) (last-set d)) m) ∙ ap (map (with (set e p d) (p + 1) end)) (sym (marks-set d)))
+      ∙ ap (λ (zs : List (List ℕ)). zs ++ map (with e₀ p end) (branch (suc d) rest (λ x. m))) (map-map (with e₀ p end) (d ∷_) m ∙ sym (map-same (with (set e p d) (p + 1) end) (λ ds. with e₀ p end (d ∷ ds)) m (λ ds q. with-digit e₀ (set e p d) p end d ds (first-set d) (last-set d))) ∙ ap (map (with (set e p d) (p + 1) end)) (sym (marks-set d)))
       ∙ ap (λ (j : ℕ). rightEntries k (set e p d) (p + 1) end ++ map (with e₀ p end) (branch j rest (λ x. m))) s
 
   -- the digit d was written at place p, and then the others were written over

@@ -1,11 +1,11 @@
 -- The entries of a whole string of left digits: the digits, the marks and the binding words make the first entry, and its right digits the others.
 -- By the lengths of the parts. Assumes nothing.
 use Prim.Native.Nat.{ℕ, _+_, _-_, _≤_}
-use mathlib.Core.List.{List, [], _++_, map, append-nil, append-assoc}
+use mathlib.Core.List.{List, _++_, map, append-nil, append-assoc}
 use mathlib.Core.Path.{_≡_, refl, sym, ap, _∙_}
 use native.Mathlib.Omega.{arith}
 use borrow.Rule.Slice.PartMut.{midOf, putMid, post-is, mid-len}
-use lib.ListN.{length, take, drop, replicate, length-append}
+use lib.ListN.{length, take, drop, replicate, length-append, drop-of-length-le}
 use lib.Seq.{take-at, drop-at, drop-length}
 use Rattle.unify.specs.declared.Classes.{Classes}
 use Rattle.unify.specs.declared.Variables.{Variables}
@@ -26,10 +26,6 @@ room-long : (e : List ℕ) (a v : ℕ) → length e ≡ a + v → length (midOf 
 room-long e a v h =
     let l = mid-len a (a + v) e (omega (arith, h)) in
     omega (arith, l)
-
--- a list past its end
-drop-past : (n : ℕ) (l : List ℕ) → length l ≡ n → drop n l ≡ []
-drop-past n l h = ap (λ (k : ℕ). drop k l) (sym h) ∙ drop-length l
 
 -- the digits and the marks, written one behind the other, stand first
 module _ (ds marks e₀ e₁ e₂ : List ℕ) (v : ℕ) (l : length e₀ ≡ length ds + length marks + v) (p : e₁ ≡ put 0 ds e₀) (q : e₂ ≡ put (length ds) marks e₁) where
@@ -61,8 +57,8 @@ module _ (ds marks e₀ e₁ e₂ : List ℕ) (v : ℕ) (l : length e₀ ≡ len
       whole : (ps : List (ℕ × ℕ)) → Stands words args c ps → putMid (length ds + length marks) (length ds + length marks + v - (length ds + length marks)) e₂ part ≡ ds ++ marks ++ wordsOf (nodesFrom words args) ps
       whole ps s =
           let r = room-long e₂ (length ds + length marks) v filled-long in
-          let x = post-is (length ds + length marks) (length ds + length marks + v) e₂ (omega arith) ∙ drop-past (length ds + length marks + v) e₂ filled-long in
-          let y = drop-past (length (variablesOf (nodesFrom words args))) (midOf (length ds + length marks) (length ds + length marks + v - (length ds + length marks)) e₂) (r ∙ sym n ∙ g .counted) in
+          let x = post-is (length ds + length marks) (length ds + length marks + v) e₂ (omega arith) ∙ drop-of-length-le e₂ {i = length ds + length marks + v} (omega (arith, filled-long)) in
+          let y = drop-of-length-le (midOf (length ds + length marks) (length ds + length marks + v - (length ds + length marks)) e₂) {i = length (variablesOf (nodesFrom words args))} (omega (arith, r, n, g .counted)) in
           rw (filled-first, x, f ps s, y, append-nil (wordsOf (nodesFrom words args) ps), append-nil (wordsOf (nodesFrom words args) ps)) refl
 
 -- what differs from the filled entry in its right digits are the entries of the string

@@ -2,7 +2,7 @@
 -- present, in rising order, are then picked out. Assumes nothing.
 use Prim.Native.Nat.{ℕ, zero, suc, _+_, _-_, _<_, _≤_}
 use mathlib.Core.Bool.{Bool, true, false, cond}
-use mathlib.Core.List.{List, [], _∷_, _++_, map, append-nil, map-append, List·Memᴰ, List·Memᴰ·head, List·Memᴰ·tail, List·Memᴰ·not-nil, List·Memᴰ·eq-of-singleton}
+use mathlib.Core.List.{List, [], _∷_, _++_, map, append-nil, map-append, List·Memᴰ, List·Memᴰ·head, List·Memᴰ·not-nil, List·Memᴰ·eq-of-singleton}
 use mathlib.Core.Logic.{inl, inr}
 use mathlib.Core.Path.{_≡_, refl, sym, ap, _∙_}
 use native.Mathlib.Decide.{ℕ-discrete}
@@ -21,7 +21,7 @@ use Rattle.unify.specs.Computed.Solution.{nodeOf}
 use Rattle.unify.specs.Code.Sections.{nodesFrom, Sections}
 use Rattle.unify.specs.Code.Kept.{Kept, Touched}
 use Rattle.unify.specs.Code.Present.{variableNames, noted, LeastByName, presentBelow, KeepsVariable, ListsPresent, leastNodes}
-use Rattle.unify.proofs.ListLaws.{gathered, gathered-from}
+use Rattle.unify.proofs.ListLaws.{gathered, gathered-from, map-same}
 use Rattle.unify.proofs.RisingLaws.{rising-append}
 use Rattle.unify.proofs.VariableLaws.{variables-one}
 use Rattle.unify.proofs.PresentLaws.{present-or-not}
@@ -206,13 +206,6 @@ selected-map p f (suc x) =
     last : (b : Bool) → cond b (f x ∷ []) [] ≡ map f (cond b (x ∷ []) [])
     last true = refl
     last false = refl
-
-map-same : (f g : ℕ → ℕ) (xs : List ℕ) → ((x : ℕ) → List·Memᴰ x xs → f x ≡ g x) → map f xs ≡ map g xs
-map-same f g [] h = refl
-map-same f g (x ∷ xs) h =
-    let e = h x (List·Memᴰ·head refl) in
-    let r = map-same f g xs (λ y m. h y (List·Memᴰ·tail m)) in
-    rw (e, r)
 
 module _ (words args : List ℕ) (s : Sections words args) (least : List ℕ) (l : LeastByName words args least) where
   -- variable x has a node

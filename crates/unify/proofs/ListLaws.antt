@@ -12,6 +12,17 @@ use Rattle.table.specs.Limits.{maxNodes}
 use Rattle.unify.specs.Node.{tabulate}
 use Rattle.unify.specs.Computed.Classes.{gather}
 
+-- a list of no length is empty
+pub length-none : {A : Type 0} (xs : List A) → length xs ≡ 0 → xs ≡ []
+length-none [] e = refl
+length-none (x ∷ xs) e = absurd (omega arith)
+
+-- functions that agree on the elements make one list of them
+pub map-same : {A B : Type 0} (f g : A → B) (xs : List A) → ((x : A) → List·Memᴰ x xs → f x ≡ g x) → map f xs ≡ map g xs
+map-same f g [] h = refl
+map-same f g (x ∷ xs) h =
+    rw (h x (List·Memᴰ·head refl), map-same f g xs (λ y m. h y (List·Memᴰ·tail m)))
+
 -- as many as the numbers below n
 pub tabulate-length : {A : Type 0} (n : ℕ) (f : ℕ → A) → length (tabulate n f) ≡ n
 unfolding tabulate
