@@ -1,4 +1,4 @@
-.PHONY: test demo compare believed
+.PHONY: test demo lib install compare believed
 
 # Proves every crate from nothing, tries the edits that must be refused, and runs the tests. Ends in 'N passed, 0 failed'.
 test:
@@ -8,12 +8,23 @@ test:
 demo:
 	@tools/demo
 
-# Holds the proved programs against the second program for longer: on TABLES tables of the seed SEED, for each comparison.
+# Proves and builds the library: target/lib has libpallihun.a, libpallihun.so and pallihun.pc.
+lib:
+	@tools/lib
+
+# Puts the header, the library and the program `list` below PREFIX (below DESTDIR/PREFIX, for packages).
+PREFIX ?= /usr/local
+install: lib
+	@tools/install "$(PREFIX)" "$(DESTDIR)"
+
+# Holds the proved programs and the library against the second program for longer: on TABLES tables of the seed SEED, for each comparison.
 SEED ?= 2
 TABLES ?= 20000
 compare:
 	rt check list examples
+	@tools/lib
 	cargo build --manifest-path tests/Cargo.toml --release --offline --locked
+	cargo build --manifest-path tests/in_process/Cargo.toml --release --offline --locked
 	@tools/compare --seed $(SEED) --count $(TABLES)
 
 # The files that a reader has to believe, with their lines of definitions.

@@ -1,0 +1,113 @@
+/*
+ * Calls with NULL where a length is 0, and how much stack the deepest calls take. Ends in 'N passed, M failed'.
+ */
+#include "expect.h"
+#include <pallihun.h>
+#include <string.h>
+#include <ucontext.h>
+
+enum { MOST_LENT = 16384, STACK_BYTES = 1 << 20 };
+
+/* {a} and {a}, with a node for the variable x: one entry, 1 0 1. */
+static const uint32_t small[] = {12, 8, 20, 0, 20, 1, 21, 0, 21, 1, 22, 0, 0, 0, 0, 0, 1, 1, 0, 0, 1, 1};
+enum { SMALL = sizeof small / sizeof small[0] };
+
+/* Both sides empty: one entry of 0 words. */
+static const uint32_t empty[] = {12, 0, 12, 0, 12, 0, 12, 0, 12, 0, 12, 0};
+
+static void pass_null(void)
+{
+    uint32_t words[] = {9000, 9001};
+    expect(pallihun_check(NULL, 0) == PALLIHUN_TOO_FEW_WORDS, "check of no words");
+    expect(pallihun_entry_words(NULL, 0) == 0, "entry words of no words");
+    expect(pallihun_unify(NULL, 0, 0, 0, words, 2) == PALLIHUN_TOO_FEW_WORDS, "unify of no words");
+    expect(pallihun_unify(NULL, 0, 0, 0, NULL, 0) == PALLIHUN_TOO_FEW_WORDS, "unify of no words into none");
+    expect(pallihun_unify(small, SMALL, 1, 1, NULL, 0) == PALLIHUN_TOO_FEW_LENT, "unify into no words");
+    expect(pallihun_list(NULL, 0, words, 2).answer == PALLIHUN_TOO_FEW_WORDS, "list of no words");
+    expect(pallihun_list(NULL, 0, NULL, 0).answer == PALLIHUN_TOO_FEW_WORDS, "list of no words into none");
+    const pallihun_listing full = pallihun_list(small, SMALL, NULL, 0);
+    expect(full.answer == PALLIHUN_FULL && full.entries == 0, "list into no words");
+    const pallihun_listing one = pallihun_list(empty, 12, NULL, 0);
+    expect(one.answer == PALLIHUN_FINISHED && one.entries == 1, "an entry of no words into none");
+    expect(words[0] == 9000 && words[1] == 9001, "words lent to refused calls are as they were");
+}
+
+/*
+ * A table whose terms and whose listing go as deep as can be: 9 variables, and 247 applications, the
+ * first of variable 0 and each other of the one before it. Every left term is the deepest one, every
+ * right term a variable of its own, and both sides have a label.
+ */
+static size_t deep_table(uint32_t *table)
+{
+    enum { VARIABLES = 9, NODES = PALLIHUN_MAX_NODES, ARGUMENTS = NODES - VARIABLES };
+    const uint32_t lengths[] = {4 * NODES, ARGUMENTS, PALLIHUN_MAX_TERMS, 1, PALLIHUN_MAX_TERMS, 1};
+    uint32_t *at = table;
+    uint32_t offset = PALLIHUN_HEADER_WORDS;
+    for (int section = 0; section < 6; offset += lengths[section++]) {
+        *at++ = offset;
+        *at++ = lengths[section];
+    }
+    for (uint32_t node = 0; node < NODES; node++) {
+        const int variable = node < VARIABLES;
+        *at++ = variable ? PALLIHUN_VARIABLE : PALLIHUN_APPLICATION;
+        *at++ = variable ? node : 1;
+        *at++ = variable ? 0 : node - VARIABLES;
+        *at++ = variable ? 0 : 1;
+    }
+    for (uint32_t node = VARIABLES; node < NODES; node++)
+        *at++ = node == VARIABLES ? 0 : node - 1;
+    for (uint32_t i = 0; i < PALLIHUN_MAX_TERMS; i++)
+        *at++ = NODES - 1;
+    *at++ = 1;
+    for (uint32_t i = 0; i < PALLIHUN_MAX_TERMS; i++)
+        *at++ = i + 1;
+    *at++ = 2;
+    return (size_t)(at - table);
+}
+
+static uint32_t deep[PALLIHUN_MAX_TABLE_WORDS], lent_words[MOST_LENT];
+static size_t deep_words;
+static pallihun_listing deep_listing;
+static uint32_t deep_unification;
+
+static void call_deep(void)
+{
+    deep_listing = pallihun_list(deep, deep_words, lent_words, MOST_LENT);
+    deep_unification = pallihun_unify(deep, deep_words, 0, PALLIHUN_MAX_NODES - 1, lent_words, MOST_LENT);
+}
+
+/* How many bytes of a painted stack a function changes. */
+static size_t stack_of(void (*function)(void))
+{
+    static unsigned char stack[STACK_BYTES];
+    static ucontext_t here, there;
+    memset(stack, 0xA5, sizeof stack);
+    getcontext(&there);
+    there.uc_stack.ss_sp = stack;
+    there.uc_stack.ss_size = sizeof stack;
+    there.uc_link = &here;
+    makecontext(&there, function, 0);
+    swapcontext(&here, &there);
+    size_t untouched = 0;
+    while (untouched < sizeof stack && stack[untouched] == 0xA5)
+        untouched++;
+    return sizeof stack - untouched;
+}
+
+static void measure_stack(void)
+{
+    deep_words = deep_table(deep);
+    const size_t bytes = stack_of(call_deep);
+    printf("the deepest calls took %zu bytes of stack\n", bytes);
+    expect(deep_listing.answer == PALLIHUN_FULL && deep_listing.entries > 0, "deep terms are listed");
+    expect(deep_unification == PALLIHUN_OCCURS, "a variable with a deep term that holds it: occurs");
+    expect(bytes > 20000, "a call was measured");
+    expect(bytes <= PALLIHUN_STACK_BYTES, "a call takes no more stack than the header says");
+}
+
+int main(void)
+{
+    pass_null();
+    measure_stack();
+    return finish();
+}

@@ -1,0 +1,16 @@
+-- The numbers by which answers are given to callers in other languages. Checking a table has document 01's, by `told` of crate `table`.
+use Prim.Native.Nat.{ℕ}
+use Rattle.unify.specs.Outcome.{unified, clash, occurs}
+use Rattle.unify.specs.Answer.{Answer, ended, refused}
+use Rattle.pallihun.specs.declared.PallihunListing.{PallihunListing}
+
+-- Unifying two nodes: 0 for unified, 1000 for a clash, 1001 for occurs, or the number of the refusal.
+abbrev pub numberOf : Answer → ℕ
+numberOf (ended unified) = 0
+numberOf (ended clash) = 1000
+numberOf (ended occurs) = 1001
+numberOf (refused n) = n
+
+-- Listing a table: the number of the answer, and that of the entries left.
+abbrev pub numbersOf : PallihunListing → ℕ × ℕ
+numbersOf l = (l .answer, l .entries)
