@@ -5,11 +5,11 @@ ghost use Prim.Native.Nat.{_+_, _≤_, _<_};
 ghost use lib.ListN.{length};
 use libc::STDIN_FILENO;
 use libc::STDOUT_FILENO;
-use listing::Listing;
+use multiset_unification::Listing;
 use table::Checked;
 use table::Node;
 use table::Refusal;
-use unify::Unification;
+use unification::Unification;
 
 // More bytes than the input has.
 const MOST_BYTES: usize = 262144;

@@ -9,7 +9,7 @@ use native.Mathlib.Nat.{mul-suc, pow-suc, mul-le-mul-right}
 use native.Mathlib.Omega.{arith}
 use lib.ListN.{length, getD, take, drop, length-append, length-drop}
 use lib.Seq.{length-take-le}
-use Rattle.unify.specs.Node.{tabulate}
+use Rattle.unification.specs.Node.{tabulate}
 use Rattle.list.specs.Line.{decimal, afterWord, line, lines}
 use Rattle.list.specs.Printed.{titled}
 use Rattle.list.specs.Code.Writing.{Wrote, parts}

@@ -10,11 +10,11 @@ use native.Mathlib.Nat.{mul-suc, mul-le-mul-left}
 use native.Mathlib.Numerals.{add-one}
 use lib.ListN.{length, getD, take, drop, drop-of-length-le, length-append}
 use lib.Seq.{drop-cons}
+use Rattle.unification.specs.Node.{tabulate}
 use Rattle.list.specs.Line.{decimal, afterWord, line, lines}
 use Rattle.list.specs.Printed.{titled}
 use Rattle.list.specs.Code.Writing.{Wrote, Writing, parts}
 use Rattle.list.proofs.WritingLaws.{wrote-nothing, wrote-both, piece-fits}
-use Rattle.unify.specs.Node.{tabulate}
 
 -- a text from place i on is the byte there and what stands after it
 pub text-next : (bs : List ℕ) (i : ℕ) → i < length bs → drop i bs ≡ (getD bs i 0 ∷ []) ++ drop (i + 1) bs

@@ -20,14 +20,14 @@ use Rattle.table.specs.Code.Accepted.{Accepted}
 use Rattle.table.proofs.AcceptedLaws.{accepted}
 use Rattle.table.proofs.BoolLaws.{or-false-left}
 use Rattle.table.proofs.AnswerLaws.{number-within}
-use Rattle.unify.proofs.ListLaws.{length-none}
-use Rattle.unify.specs.Outcome.{Outcome, unified, clash, occurs}
-use Rattle.listing.specs.Answer.{entriesLeft, listed, lentAfter, entryWords, entriesIn}
-use Rattle.listing.specs.Computed.Choices.{rights, lefts, choices}
-use Rattle.listing.specs.Computed.Listing.{kept, choicesOf, completeListing}
-use Rattle.listing.proofs.AnswerLaws.{finished-exactly, full-exactly, entries-left, lent-long}
-use Rattle.listing.proofs.EntryLaws.{entry-long}
-use Rattle.listing.proofs.LentLaws.{entries-lie}
+use Rattle.unification.proofs.ListLaws.{length-none}
+use Rattle.unification.specs.Outcome.{Outcome, unified, clash, occurs}
+use Rattle.multiset_unification.specs.Answer.{entriesLeft, listed, lentAfter, entryWords, entriesIn}
+use Rattle.multiset_unification.specs.Computed.Choices.{rights, lefts, choices}
+use Rattle.multiset_unification.specs.Computed.Listing.{kept, choicesOf, completeListing}
+use Rattle.multiset_unification.proofs.AnswerLaws.{finished-exactly, full-exactly, entries-left, lent-long}
+use Rattle.multiset_unification.proofs.EntryLaws.{entry-long}
+use Rattle.multiset_unification.proofs.LentLaws.{entries-lie}
 use Rattle.list.specs.Line.{lines}
 use Rattle.list.specs.Printed.{entriesText, fullText, refusedText, titled, title, printedTable, printed}
 use Rattle.list.specs.Input.{wrongBytes, wordsOfBytes}

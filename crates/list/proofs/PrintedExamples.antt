@@ -10,20 +10,20 @@ use Rattle.table.specs.Conditions.{tooFewWords, endBefore, offsetIsWrong, broke
 use Rattle.table.specs.Refusal.{conditions, firstHeld, refusal}
 use Rattle.terms.specs.Term.{equal}
 use Rattle.terms.specs.Substitution.{sub}
-use Rattle.unify.specs.Node.{tabulate, readNode, nodesIn, each, spell, termWithin, termOf}
-use Rattle.unify.specs.Computed.Variables.{insert, variablesOf}
-use Rattle.unify.specs.Computed.Classes.{renamed, join, joinAll, sameSymbol, asks, gather, asked, round, rounds, classes, differ, clashAt, clashWith, clashes}
-use Rattle.unify.specs.Computed.Walks.{someMarked, leads, leadsAt, leadsFrom, walks, cyclic}
-use Rattle.unify.specs.Computed.Solution.{firstWith, leastNode, isApplication, isVariable, isNodeOf, nodeOf, resolved, solution, isApplicationIn, isVariableIn, headIn}
-use Rattle.unify.specs.Computed.Binding.{isBoundTo, hasValue, wordFor, wordOf, bindingWords}
-use Rattle.unify.specs.Computed.Unifying.{outcome, unifier, wordsOf}
-use Rattle.unify.specs.Answer.{variableCount}
-use Rattle.listing.specs.Choice.{pairs}
-use Rattle.listing.specs.Entry.{entryOf}
-use Rattle.listing.specs.Computed.Choices.{among, branch, rights, lefts, choices}
-use Rattle.listing.specs.Computed.Listing.{kept, choicesOf, completeListing}
-use Rattle.listing.specs.Answer.{listConditions, fitting, entriesLeft, listed}
-use Rattle.listing.proofs.Starred.{two-and-one, nothing, one-and-none}
+use Rattle.unification.specs.Node.{tabulate, readNode, nodesIn, each, spell, termWithin, termOf}
+use Rattle.unification.specs.Computed.Variables.{insert, variablesOf}
+use Rattle.unification.specs.Computed.Classes.{renamed, join, joinAll, sameSymbol, asks, gather, asked, round, rounds, classes, differ, clashAt, clashWith, clashes}
+use Rattle.unification.specs.Computed.Walks.{someMarked, leads, leadsAt, leadsFrom, walks, cyclic}
+use Rattle.unification.specs.Computed.Solution.{firstWith, leastNode, isApplication, isVariable, isNodeOf, nodeOf, resolved, solution, isApplicationIn, isVariableIn, headIn}
+use Rattle.unification.specs.Computed.Binding.{isBoundTo, hasValue, wordFor, wordOf, bindingWords}
+use Rattle.unification.specs.Computed.Unifying.{outcome, unifier, wordsOf}
+use Rattle.unification.specs.Answer.{variableCount}
+use Rattle.multiset_unification.specs.Choice.{pairs}
+use Rattle.multiset_unification.specs.Entry.{entryOf}
+use Rattle.multiset_unification.specs.Computed.Choices.{among, branch, rights, lefts, choices}
+use Rattle.multiset_unification.specs.Computed.Listing.{kept, choicesOf, completeListing}
+use Rattle.multiset_unification.specs.Answer.{listConditions, fitting, entriesLeft, listed}
+use Rattle.multiset_unification.proofs.Starred.{two-and-one, nothing, one-and-none}
 use Rattle.list.specs.Input.{wordsOfBytes}
 use Rattle.list.specs.Line.{decimalWithin, decimal, afterWord, line, lines}
 use Rattle.list.specs.Printed.{titled, title, printedTable, printed}

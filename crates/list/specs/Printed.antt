@@ -4,7 +4,7 @@ use mathlib.Core.Bool.{cond}
 use mathlib.Core.List.{List, [], _∷_, _++_}
 use lib.Dec.{eqb}
 use lib.ListN.{length}
-use Rattle.listing.specs.Answer.{entriesLeft, listed}
+use Rattle.multiset_unification.specs.Answer.{entriesLeft, listed}
 use Rattle.list.specs.Input.{wrongBytes, wordsOfBytes}
 use Rattle.list.specs.Line.{decimal, lines}
 

@@ -11,8 +11,8 @@ use crate::input::read_words;
 use crate::input::wrong_bytes;
 use crate::lines::write_lines;
 use crate::lines::write_title;
-use listing::Listing;
 use listing::entry_words;
+use multiset_unification::Listing;
 
 // "lends 16,384 words"
 pub const LENT: usize = 16384;

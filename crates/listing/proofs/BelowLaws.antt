@@ -16,24 +16,24 @@ use Rattle.table.specs.Layout.{word, leftTermsOf, leftLabelsOf, rightTermsOf, r
 use Rattle.table.specs.Code.Accepted.{Accepted}
 use Rattle.terms.specs.Term.{var}
 use Rattle.terms.specs.Substitution.{Substitution}
-use Rattle.unify.specs.Node.{Node, nodesIn}
-use Rattle.unify.specs.Unifier.{Unifies, Unifiable}
-use Rattle.unify.specs.Code.Given.{WellFormed, Inside}
-use Rattle.unify.specs.Outcome.{Outcome, unified, clash, occurs}
-use Rattle.unify.specs.Computed.Variables.{variablesOf}
-use Rattle.unify.specs.Computed.Unifying.{outcome, wordsOf}
-use Rattle.unify.proofs.AnswerLaws.{words-counted}
-use Rattle.unify.proofs.OutcomeLaws.{outcome-unified}
-use Rattle.unify.proofs.PairLaws.{more-none, same-unifiers, same-outcome, same-words}
-use Rattle.unify.proofs.TableLaws.{well-formed, left-node, right-node}
-use Rattle.listing.specs.Choice.{pairs}
-use Rattle.listing.specs.Entry.{pairsOf, entryOf}
-use Rattle.listing.specs.Computed.Choices.{among, branch, rights, lefts, choices}
-use Rattle.listing.specs.Computed.Listing.{kept, choicesOf, completeListing}
+use Rattle.unification.specs.Node.{Node, nodesIn}
+use Rattle.unification.specs.Unifier.{Unifies, Unifiable}
+use Rattle.unification.specs.Code.Given.{WellFormed, Inside}
+use Rattle.unification.specs.Outcome.{Outcome, unified, clash, occurs}
+use Rattle.unification.specs.Computed.Variables.{variablesOf}
+use Rattle.unification.specs.Computed.Unifying.{outcome, wordsOf}
+use Rattle.unification.proofs.AnswerLaws.{words-counted}
+use Rattle.unification.proofs.OutcomeLaws.{outcome-unified}
+use Rattle.unification.proofs.PairLaws.{more-none, same-unifiers, same-outcome, same-words}
+use Rattle.unification.proofs.TableLaws.{well-formed, left-node, right-node}
+use Rattle.multiset_unification.specs.Choice.{pairs}
+use Rattle.multiset_unification.specs.Entry.{pairsOf, entryOf}
+use Rattle.multiset_unification.specs.Computed.Choices.{among, branch, rights, lefts, choices}
+use Rattle.multiset_unification.specs.Computed.Listing.{kept, choicesOf, completeListing}
+use Rattle.multiset_unification.proofs.ChoiceLaws.{choices-are}
+use Rattle.multiset_unification.proofs.EntryLaws.{Choice, pairs-inside}
 use Rattle.listing.specs.Code.Writing.{marked}
 use Rattle.listing.specs.Code.Walk.{over, ifUnified, onDigit, below}
-use Rattle.listing.proofs.ChoiceLaws.{choices-are}
-use Rattle.listing.proofs.EntryLaws.{Choice, pairs-inside}
 use Rattle.listing.proofs.HopelessLaws.{over-none}
 
 module _ {A B : Type 0} where

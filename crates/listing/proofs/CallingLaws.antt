@@ -18,27 +18,27 @@ use Rattle.table.specs.Refusal.{refusal}
 use Rattle.table.specs.Code.Accepted.{Accepted}
 use Rattle.table.proofs.AcceptedLaws.{accepted}
 use Rattle.table.proofs.AnswerLaws.{number-within}
+use Rattle.unification.specs.Computed.Unifying.{wordsOf}
+use Rattle.unification.specs.Code.Sections.{nodesFrom}
+use Rattle.unification.proofs.ListLaws.{length-none}
+use Rattle.unification.proofs.TableLaws.{sections-of, nodes-of-sections}
+use Rattle.unification.proofs.AnswerLaws.{words-counted}
 use Rattle.unify.specs.declared.Variables.{Variables}
-use Rattle.unify.specs.Computed.Unifying.{wordsOf}
-use Rattle.unify.specs.Code.Sections.{nodesFrom}
 use Rattle.unify.specs.Code.Stands.{Lists}
-use Rattle.unify.proofs.ListLaws.{length-none}
-use Rattle.unify.proofs.TableLaws.{sections-of, nodes-of-sections}
-use Rattle.unify.proofs.AnswerLaws.{words-counted}
+use Rattle.multiset_unification.specs.declared.Listing.{Listing}
+use Rattle.multiset_unification.specs.declared.Listing.the-variants.{Finished, Full, Refused}
+use Rattle.multiset_unification.specs.Answer.{told, fitting, listed, lentAfter}
+use Rattle.multiset_unification.specs.Computed.Listing.{completeListing}
+use Rattle.multiset_unification.specs.Page14.{Page14}
+use Rattle.multiset_unification.proofs.AnswerLaws.{fitting-all, fitting-first, fitting-left, answered-refused, answered-finished, answered-full, refused-nothing}
+use Rattle.multiset_unification.proofs.LentLaws.{taken-in}
+use Rattle.multiset_unification.proofs.Page14.{page14-finished}
 use Rattle.listing.specs.declared.Labels.{Labels}
-use Rattle.listing.specs.declared.Listing.{Listing}
-use Rattle.listing.specs.declared.Listing.the-variants.{Finished, Full, Refused}
 use Rattle.listing.specs.declared.Written.{Written}
-use Rattle.listing.specs.Answer.{told, fitting, listed, lentAfter}
-use Rattle.listing.specs.Computed.Listing.{completeListing}
-use Rattle.listing.specs.Page14.{Page14}
 use Rattle.listing.specs.Code.Writing.{put, Writes, marked}
 use Rattle.listing.specs.Code.Walk.{below, Listable, allEntries}
 use Rattle.listing.specs.Code.Calling.{Answers}
-use Rattle.listing.proofs.AnswerLaws.{fitting-all, fitting-first, fitting-left, answered-refused, answered-finished, answered-full, refused-nothing}
-use Rattle.listing.proofs.LentLaws.{taken-in}
 use Rattle.listing.proofs.BelowLaws.{below-listing, below-long, flatten-long}
-use Rattle.listing.proofs.Page14.{page14-finished}
 
 -- of entries that have one length as many fit as that length goes into their words
 fitting-counted : (width lent : ℕ) (es : List (List ℕ)) → 0 < width → ((e : List ℕ) → List·Memᴰ e es → length e ≡ width) → length (flatten (fitting lent es)) / width ≡ length (fitting lent es)

@@ -9,10 +9,10 @@ use borrow.Author.Tests.{eqb-true, eqb-false, ne-eqb, ltb-true, leb-false}
 use lib.Dec.{eqb, leb, ltb}
 use lib.ListN.{length, set, replicate}
 use Rattle.table.specs.Layout.{word}
-use Rattle.unify.specs.Node.{Node}
-use Rattle.unify.specs.Outcome.{Outcome, unified, clash, occurs}
-use Rattle.unify.specs.Computed.Unifying.{outcome, wordsOf}
-use Rattle.listing.specs.Computed.Choices.{branch}
+use Rattle.unification.specs.Node.{Node}
+use Rattle.unification.specs.Outcome.{Outcome, unified, clash, occurs}
+use Rattle.unification.specs.Computed.Unifying.{outcome, wordsOf}
+use Rattle.multiset_unification.specs.Computed.Choices.{branch}
 use Rattle.listing.specs.Code.Writing.{marked}
 use Rattle.listing.specs.Code.Walk.{over, ifUnified, onDigit, below, unpairedIn, hopeless}
 

@@ -1,17 +1,4 @@
--- Laws of the definitions, from the bottom up.
-pub mod DigitLaws
-pub mod ChoiceLaws
-pub mod PlaceLaws
-pub mod EntryLaws
-pub mod CountLaws
-pub mod UnusedLaws
-pub mod PutLaws
-pub mod BalanceLaws
-pub mod FilledLaws
-pub mod TakenLaws
-pub mod CoverLaws
-pub mod AnswerLaws
-pub mod LentLaws
+-- Laws that the proofs of the code need, from the bottom up.
 pub mod WidthLaws
 pub mod WritingLaws
 pub mod HopelessLaws
@@ -19,8 +6,4 @@ pub mod BelowLaws
 pub mod StringLaws
 pub mod WalkLaws
 pub mod RightLaws
-pub mod Page14
 pub mod CallingLaws
-pub mod InstanceLaws
-pub mod AssignmentLaws
-pub mod Starred

@@ -9,9 +9,9 @@ use native.Mathlib.Omega.{arith}
 use borrow.Author.Tests.{eq-eqb, ne-eqb}
 use lib.ListN.{length, getD, take, drop, set, length-set, take-append-drop}
 use lib.Seq.{drop-cons, take-suc, getD-take, getD-set-same, take-take, take-set-le, take-suc-set, drop-set-lt}
-use Rattle.unify.proofs.ListLaws.{map-same}
+use Rattle.unification.proofs.ListLaws.{map-same}
+use Rattle.multiset_unification.specs.Computed.Choices.{branch}
 use Rattle.listing.specs.declared.Written.{Written}
-use Rattle.listing.specs.Computed.Choices.{branch}
 use Rattle.listing.specs.Code.Writing.{Writes, Remains, marked, marksFrom, rightEntries, Remarked}
 use Rattle.listing.proofs.WritingLaws.{remains-whole, remains-next, remains-full, remains-done}
 

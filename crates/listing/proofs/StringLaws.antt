@@ -7,13 +7,13 @@ use native.Mathlib.Omega.{arith}
 use borrow.Rule.Slice.PartMut.{midOf, putMid, post-is, mid-len}
 use lib.ListN.{length, take, drop, replicate, length-append, drop-of-length-le}
 use lib.Seq.{take-at, drop-at, drop-length}
+use Rattle.unification.specs.Computed.Variables.{variablesOf}
+use Rattle.unification.specs.Computed.Unifying.{wordsOf}
+use Rattle.unification.specs.Code.Sections.{nodesFrom}
+use Rattle.unification.proofs.ListLaws.{part-long}
 use Rattle.unify.specs.declared.Classes.{Classes}
 use Rattle.unify.specs.declared.Variables.{Variables}
-use Rattle.unify.specs.Computed.Variables.{variablesOf}
-use Rattle.unify.specs.Computed.Unifying.{wordsOf}
-use Rattle.unify.specs.Code.Sections.{nodesFrom}
 use Rattle.unify.specs.Code.Stands.{Stands, Lists, Leaves}
-use Rattle.unify.proofs.ListLaws.{part-long}
 use Rattle.listing.specs.declared.Labels.{Labels}
 use Rattle.listing.specs.declared.Branch.{Branch}
 use Rattle.listing.specs.declared.Written.{Written}

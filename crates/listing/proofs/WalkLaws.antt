@@ -11,16 +11,16 @@ use lib.ListN.{length, take, drop, set, replicate, length-set, length-drop, leng
 use lib.Seq.{drop-cons, take-suc-set, take-set-lt, getD-take}
 use Rattle.table.specs.Limits.{maxTerms}
 use Rattle.table.specs.Layout.{word}
+use Rattle.unification.specs.Node.{Node}
+use Rattle.unification.specs.Outcome.{Outcome}
+use Rattle.unification.specs.Computed.Unifying.{outcome}
+use Rattle.unification.specs.Code.Sections.{nodesFrom}
+use Rattle.unification.proofs.SectionLaws.{is-node, sections-well-formed}
 use Rattle.unify.specs.declared.Classes.{Classes}
 use Rattle.unify.specs.declared.Variables.{Variables}
 use Rattle.unify.specs.declared.Extended.{Extended}
 use Rattle.unify.specs.declared.Extended.the-variants.{Unified, Clash, Occurs}
-use Rattle.unify.specs.Node.{Node}
-use Rattle.unify.specs.Outcome.{Outcome}
-use Rattle.unify.specs.Computed.Unifying.{outcome}
-use Rattle.unify.specs.Code.Sections.{nodesFrom}
 use Rattle.unify.specs.Code.Stands.{Stands, Extends, extended, BeginsShared}
-use Rattle.unify.proofs.SectionLaws.{is-node, sections-well-formed}
 use Rattle.listing.specs.declared.Labels.{Labels}
 use Rattle.listing.specs.declared.Branch.{Branch}
 use Rattle.listing.specs.declared.Written.{Written}

@@ -13,11 +13,11 @@ use Rattle.table.specs.Answer.{numberOf}
 use Rattle.table.specs.Layout.{nodesOf, argumentsOf, leftTermsOf, rightTermsOf}
 use Rattle.table.specs.Refusal.{refusal}
 use Rattle.table.proofs.AnswerLaws.{number-within}
+use Rattle.unification.specs.Answer.{variableCount}
+use Rattle.unification.proofs.TableLaws.{nodes-of-sections}
 use Rattle.unify.specs.declared.Variables.{Variables}
-use Rattle.unify.specs.Answer.{variableCount}
 use Rattle.unify.specs.Code.Stands.{Lists}
-use Rattle.unify.proofs.TableLaws.{nodes-of-sections}
-use Rattle.listing.specs.Answer.{entryWords}
+use Rattle.multiset_unification.specs.Answer.{entryWords}
 
 -- the terms of both sides and the variables present, counted
 pub entry-counted : (t nodes arguments left right : List ℕ) (v : Variables) → nodes ≡ nodesOf t → arguments ≡ argumentsOf t → left ≡ leftTermsOf t → right ≡ rightTermsOf t → Lists nodes arguments v → length left + length right + v .count ≡ entryWords t

@@ -10,10 +10,10 @@ use borrow.Author.Tests.{lt-ltb, le-ltb, ltb-true, ltb-false, le-leb, lt-leb, le
 use lib.Dec.{leb, ltb}
 use lib.ListN.{length, getD, take, drop, set, length-append, length-drop, take-append-drop}
 use lib.Seq.{length-take-le, take-length, take-at, drop-at, drop-drop, paste, paste-suc}
+use Rattle.multiset_unification.specs.Answer.{fitting}
+use Rattle.multiset_unification.proofs.AnswerLaws.{fitting-all, fitting-fits}
 use Rattle.listing.specs.declared.Written.{Written}
-use Rattle.listing.specs.Answer.{fitting}
 use Rattle.listing.specs.Code.Writing.{put, Writes, Remains}
-use Rattle.listing.proofs.AnswerLaws.{fitting-all, fitting-fits}
 
 -- the words of entries behind entries
 flatten-append : (xs ys : List (List ℕ)) → flatten (xs ++ ys) ≡ flatten xs ++ flatten ys

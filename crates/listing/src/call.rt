@@ -1,12 +1,12 @@
 // Listing an accepted table.
 ghost use Rattle.table.specs.Code.Accepted.{Accepted};
-ghost use Rattle.listing.specs.Computed.Listing.{completeListing};
+ghost use Rattle.multiset_unification.specs.Computed.Listing.{completeListing};
 ghost use Rattle.listing.specs.Code.Walk.{Listable, allEntries};
 ghost use Rattle.listing.specs.Code.Calling.{Answers};
 use crate::Branch;
 use crate::Labels;
-use crate::Listing;
 use crate::walk::walk;
+use multiset_unification::Listing;
 use table::layout;
 use table::limits::MAX_TERMS;
 use unify::beginning::begin_shared;

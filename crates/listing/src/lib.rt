@@ -5,10 +5,10 @@ ghost use mathlib.Core.Bool.{cond};
 ghost use lib.Dec.{eqb};
 ghost use lib.ListN.{length};
 ghost use Rattle.table.specs.Refusal.{refusal};
-ghost use Rattle.listing.specs.Answer.{told, listed, lentAfter, entryWords};
-ghost use Rattle.listing.specs.Page14.{Page14};
+ghost use Rattle.multiset_unification.specs.Answer.{told, listed, lentAfter, entryWords};
+ghost use Rattle.multiset_unification.specs.Page14.{Page14};
+use multiset_unification::Listing;
 use table::Checked;
-use table::Refusal;
 use table::limits::MAX_TERMS;
 
 // Entries, written into the lent words.
@@ -22,13 +22,6 @@ mod call;
 
 // The words of an entry: `entry_words`.
 mod width;
-
-// What listing a table answers, with the number of entries left in the lent words.
-pub enum Listing {
-    Finished(usize),
-    Full(usize),
-    Refused(Refusal),
-}
 
 // How many labels the two sides have.
 struct Labels {

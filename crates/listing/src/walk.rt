@@ -3,7 +3,7 @@ ghost use mathlib.Core.Path.{_≡_};
 ghost use Prim.Native.Nat.{_+_, _-_, _<_, _≤_};
 ghost use lib.ListN.{length, set};
 ghost use Rattle.table.specs.Limits.{maxTerms, maxLabels};
-ghost use Rattle.unify.specs.Code.Sections.{Sections};
+ghost use Rattle.unification.specs.Code.Sections.{Sections};
 ghost use Rattle.unify.specs.Code.Stands.{Formed, Lists};
 ghost use Rattle.listing.specs.Code.Walk.{hopeless as hopelessFor, Walking, Walked, Stepped, Strung, Filled};
 use crate::Branch;

@@ -1,7 +1,7 @@
 // The words of an entry.
 ghost use mathlib.Core.Path.{_≡_};
 ghost use Rattle.table.specs.Code.Accepted.{Accepted};
-ghost use Rattle.listing.specs.Answer.{entryWords};
+ghost use Rattle.multiset_unification.specs.Answer.{entryWords};
 use table::layout;
 use unify::beginning::begin;
 

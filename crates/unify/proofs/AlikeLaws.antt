@@ -9,10 +9,10 @@ use native.Mathlib.Numerals.{add-one}
 use native.Mathlib.Omega.{arith}
 use borrow.Author.Count.{below-more}
 use Rattle.table.specs.Layout.{nameOf, countOf, argumentOf}
+use Rattle.unification.specs.Code.Sections.{symbolTest}
+use Rattle.unification.proofs.SectionLaws.{symbol-test}
 use Rattle.unify.specs.Code.Named.{valueName, AlikeUpTo, Alike}
 use Rattle.unify.specs.Code.Naming.{keys, keyUpTo, keyOf, Compared}
-use Rattle.unify.specs.Code.Sections.{symbolTest}
-use Rattle.unify.proofs.SectionLaws.{symbol-test}
 
 -- Being alike is an equivalence, and gives one key.
 module _ {words args cs names : List ℕ} where

@@ -9,18 +9,18 @@ use lib.Dec.{eqb}
 use lib.ListN.{length}
 use lib.Seq.{getD-take}
 use Rattle.table.specs.Layout.{word, kindOf, nameOf, nodeCount}
+use Rattle.unification.specs.Node.{application, nodeAt}
+use Rattle.unification.specs.Computed.Classes.{classOf}
+use Rattle.unification.specs.Code.Sections.{nodesFrom, Sections, symbolTest, differTest}
+use Rattle.unification.specs.Code.Heads.{Partition}
+use Rattle.unification.specs.Code.Given.{Inside}
+use Rattle.unification.specs.Code.Solved.{Closed}
+use Rattle.unification.proofs.OutcomeLaws.{outcome-clash}
+use Rattle.unification.proofs.SectionLaws.{run, nodes-long, is-node, sections-well-formed, application-from, symbols-differ}
 use Rattle.unify.specs.declared.Classes.{Classes}
 use Rattle.unify.specs.declared.Extended.the-variants.{Unified, Clash}
-use Rattle.unify.specs.Node.{application, nodeAt}
-use Rattle.unify.specs.Computed.Classes.{classOf}
-use Rattle.unify.specs.Code.Sections.{nodesFrom, Sections, symbolTest, differTest}
-use Rattle.unify.specs.Code.Heads.{Partition}
-use Rattle.unify.specs.Code.Given.{Inside}
-use Rattle.unify.specs.Code.Solved.{Closed}
 use Rattle.unify.specs.Code.Closing.{Closing}
 use Rattle.unify.specs.Code.Stands.{headsOf, orderOf, Formed, Stands, Extends}
-use Rattle.unify.proofs.OutcomeLaws.{outcome-clash}
-use Rattle.unify.proofs.SectionLaws.{run, nodes-long, is-node, sections-well-formed, application-from, symbols-differ}
 use Rattle.unify.proofs.ClosingLaws.{already, heads-clash, opened, closed-at-last}
 use Rattle.unify.proofs.OrderedLaws.{ordered-unified}
 use Rattle.unify.proofs.ExtensionLaws.{inside-more, extends-failed}

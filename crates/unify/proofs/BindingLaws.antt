@@ -8,33 +8,33 @@ use native.Mathlib.Omega.{arith}
 use lib.ListN.{length, drop}
 use lib.Seq.{take-length}
 use Rattle.table.specs.Layout.{word, kindOf, nameOf, nodeCount}
+use Rattle.unification.specs.Node.{Node, variable, application, nodeAt, Present}
+use Rattle.unification.specs.Words.{Rising, before, Least, Matched}
+use Rattle.unification.specs.Computed.Classes.{classOf}
+use Rattle.unification.specs.Computed.Variables.{variablesOf}
+use Rattle.unification.specs.Computed.Solution.{nodeOf}
+use Rattle.unification.specs.Computed.Binding.{wordOf, bindingWords}
+use Rattle.unification.specs.Computed.Unifying.{unifier, wordsOf}
+use Rattle.unification.specs.Code.Sections.{nodesFrom, Sections}
+use Rattle.unification.specs.Code.Heads.{Partition}
+use Rattle.unification.specs.Code.Solved.{Closed}
+use Rattle.unification.specs.Code.Valued.{NamedVariable, IsNamed, bound, free}
+use Rattle.unification.proofs.MatchedLaws.{matched-by}
+use Rattle.unification.proofs.VariableLaws.{variables-rise, variables-present, present-variables}
+use Rattle.unification.proofs.FirstLaws.{node-of}
+use Rattle.unification.proofs.SectionLaws.{run, nodes-long, application-from, from-application, sections-well-formed, counted, is-node}
+use Rattle.unification.proofs.ValuedLaws.{names-decide}
+use Rattle.unification.proofs.ListLaws.{taken, placed, map-at}
 use Rattle.unify.specs.declared.Classes.{Classes}
 use Rattle.unify.specs.declared.Variables.{Variables}
 use Rattle.unify.specs.Code.Stands.{headsOf, Lists, Leaves}
-use Rattle.unify.specs.Node.{Node, variable, application, nodeAt, Present}
-use Rattle.unify.specs.Words.{Rising, before, Least, Matched}
-use Rattle.unify.specs.Computed.Classes.{classOf}
-use Rattle.unify.specs.Computed.Variables.{variablesOf}
-use Rattle.unify.specs.Computed.Solution.{nodeOf}
-use Rattle.unify.specs.Computed.Binding.{wordOf, bindingWords}
-use Rattle.unify.specs.Computed.Unifying.{unifier, wordsOf}
-use Rattle.unify.specs.Code.Sections.{nodesFrom, Sections}
-use Rattle.unify.specs.Code.Heads.{Partition}
 use Rattle.unify.specs.Code.Order.{Ordered}
 use Rattle.unify.specs.Code.Kept.{Writes}
 use Rattle.unify.specs.Code.Present.{leastNodes}
 use Rattle.unify.specs.Code.Named.{valueName, Named}
-use Rattle.unify.specs.Code.Solved.{Closed}
-use Rattle.unify.specs.Code.Valued.{NamedVariable, IsNamed, bound, free}
 use Rattle.unify.specs.Code.Binding.{HeadNames, IsFree, nameAt, ApplicationsFrom, FreeFrom, readAt, AreNodes, WordsFound, Binds}
-use Rattle.unify.proofs.MatchedLaws.{matched-by}
-use Rattle.unify.proofs.VariableLaws.{variables-rise, variables-present, present-variables}
-use Rattle.unify.proofs.FirstLaws.{node-of}
-use Rattle.unify.proofs.SectionLaws.{run, nodes-long, application-from, from-application, sections-well-formed, counted, is-node}
 use Rattle.unify.proofs.OrderedLaws.{placeIn, ordered-enough, ordered-solved}
-use Rattle.unify.proofs.ValuedLaws.{names-decide}
 use Rattle.unify.proofs.NamedLaws.{variable-name, named-valued}
-use Rattle.unify.proofs.ListLaws.{taken, placed, map-at}
 use Rattle.unify.proofs.LeastLaws.{least-long}
 
 -- what is in a list stands at some place

@@ -20,22 +20,22 @@ use Rattle.table.proofs.RefusalLaws.{First, here, later, first-before, refused}
 use Rattle.table.proofs.AcceptedLaws.{accepted, first-after}
 use Rattle.table.proofs.AnswerLaws.{number-within}
 use Rattle.terms.specs.Substitution.{Substitution}
-use Rattle.unify.specs.declared.Unification.{Unification}
+use Rattle.unification.specs.declared.Unification.{Unification}
+use Rattle.unification.specs.Node.{nodesIn}
+use Rattle.unification.specs.Unifier.{value, MostGeneral}
+use Rattle.unification.specs.Words.{Reads}
+use Rattle.unification.specs.Outcome.{Outcome, unified}
+use Rattle.unification.specs.Computed.Variables.{variablesOf}
+use Rattle.unification.specs.Computed.Unifying.{outcome, unifier, wordsOf}
+use Rattle.unification.specs.Answer as answer
+use Rattle.unification.specs.Answer.{told, variableCount, unifyConditions, ended, unification, wordsAfter, lentAfter}
+use Rattle.unification.specs.Code.Sections.{nodesFrom}
+use Rattle.unification.proofs.SectionLaws.{nodes-long}
+use Rattle.unification.proofs.AnswerLaws.{words-counted, refused-exactly, answered-exactly, unified-readable, unified-reading, clash-fails, occurs-fails}
 use Rattle.unify.specs.declared.Classes.{Classes}
 use Rattle.unify.specs.declared.Variables.{Variables}
-use Rattle.unify.specs.Node.{nodesIn}
-use Rattle.unify.specs.Unifier.{value, MostGeneral}
-use Rattle.unify.specs.Words.{Reads}
-use Rattle.unify.specs.Outcome.{Outcome, unified}
-use Rattle.unify.specs.Computed.Variables.{variablesOf}
-use Rattle.unify.specs.Computed.Unifying.{outcome, unifier, wordsOf}
-use Rattle.unify.specs.Answer as answer
-use Rattle.unify.specs.Answer.{told, variableCount, unifyConditions, ended, unification, wordsAfter, lentAfter}
-use Rattle.unify.specs.Code.Sections.{nodesFrom}
 use Rattle.unify.specs.Code.Stands.{Lists, Stands, Leaves}
 use Rattle.unify.specs.Code.Calling.{called, Answers}
-use Rattle.unify.proofs.SectionLaws.{nodes-long}
-use Rattle.unify.proofs.AnswerLaws.{words-counted, refused-exactly, answered-exactly, unified-readable, unified-reading, clash-fails, occurs-fails}
 
 module _ (t : List ℕ) (a b : ℕ) where
   -- a table that is refused gets its refusal

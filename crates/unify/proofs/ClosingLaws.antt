@@ -6,16 +6,16 @@ use mathlib.Core.Path.{_≡_, refl, sym, ap, _∙_}
 use native.Mathlib.Decide.{ℕ-discrete}
 use native.Mathlib.Omega.{arith}
 use lib.ListN.{length}
-use Rattle.unify.specs.Node.{Node, variable, application, nodeAt}
-use Rattle.unify.specs.Closure.{OneSymbol, Joined, given, back, on, Clash, different}
-use Rattle.unify.specs.Computed.Classes.{classOf, join}
-use Rattle.unify.specs.Code.Given.{WellFormed, Inside}
-use Rattle.unify.specs.Code.Heads.{Partition}
-use Rattle.unify.specs.Code.Solved.{HeadFits, Closed}
-use Rattle.unify.specs.Code.Closing.{Coarser, Unites, Linked, HeadLinks, Closing}
-use Rattle.unify.proofs.ListLaws.{zip-left, zip-right, zip-through}
-use Rattle.unify.proofs.JoinedLaws.{Among, more-joined, classes-stay}
-use Rattle.unify.proofs.CountLaws.{join-length, join-second, join-other, join-first, join-stays, unites-front}
+use Rattle.unification.specs.Node.{Node, variable, application, nodeAt}
+use Rattle.unification.specs.Closure.{OneSymbol, Joined, given, back, on, Clash, different}
+use Rattle.unification.specs.Computed.Classes.{classOf, join}
+use Rattle.unification.specs.Code.Given.{WellFormed, Inside}
+use Rattle.unification.specs.Code.Heads.{Partition, Unites}
+use Rattle.unification.specs.Code.Solved.{HeadFits, Closed}
+use Rattle.unification.proofs.ListLaws.{zip-left, zip-right, zip-through}
+use Rattle.unification.proofs.JoinedLaws.{Among, more-joined, classes-stay}
+use Rattle.unification.proofs.CountLaws.{join-length, join-second, join-other, join-first, join-stays, unites-front}
+use Rattle.unify.specs.Code.Closing.{Coarser, Linked, HeadLinks, Closing}
 
 -- Where the pairs of todo′ are joined, those of todo are.
 abbrev Covers : List ℕ → List (ℕ × ℕ) → List (ℕ × ℕ) → Type 0

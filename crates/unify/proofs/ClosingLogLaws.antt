@@ -8,13 +8,13 @@ use native.Mathlib.Decide.{decLt, ℕ-discrete}
 use native.Mathlib.Omega.{arith}
 use lib.ListN.{length}
 use Rattle.table.specs.Layout.{word, countOf, nodeCount, argumentOf}
-use Rattle.unify.specs.Node.{tabulate}
-use Rattle.unify.specs.Computed.Classes.{gather}
-use Rattle.unify.specs.Code.Sections.{Sections}
+use Rattle.unification.specs.Node.{tabulate}
+use Rattle.unification.specs.Computed.Classes.{gather}
+use Rattle.unification.specs.Code.Sections.{Sections}
+use Rattle.unification.proofs.ListLaws.{tabulate-member, gathered, gathered-from, tabulate-from}
+use Rattle.unification.proofs.JoinedLaws.{Among}
+use Rattle.unification.proofs.SectionLaws.{run, pair-place}
 use Rattle.unify.specs.Code.Closing.{argumentPair, argumentPairs, waiting, LogExtends, Log}
-use Rattle.unify.proofs.ListLaws.{tabulate-member, gathered, gathered-from, tabulate-from}
-use Rattle.unify.proofs.JoinedLaws.{Among}
-use Rattle.unify.proofs.SectionLaws.{run, pair-place}
 
 -- two lists are in a third
 pub among-both : (xs ys zs : List (ℕ × ℕ)) → Among xs zs → Among ys zs → Among (xs ++ ys) zs

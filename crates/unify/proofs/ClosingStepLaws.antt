@@ -12,15 +12,15 @@ use lib.Dec.{eqb}
 use lib.ListN.{length, set, length-set}
 use lib.Seq.{getD-set-same, getD-set-other}
 use Rattle.table.specs.Layout.{word, kindOf, nameOf, countOf, nodeCount, argumentOf}
-use Rattle.unify.specs.Node.{Node, application, nodeAt, tabulate}
-use Rattle.unify.specs.Closure.{OneSymbol, Joined, arguments, back, on, Clash}
-use Rattle.unify.specs.Computed.Classes.{classOf, renamed, join}
-use Rattle.unify.specs.Code.Heads.{roots}
-use Rattle.unify.specs.Code.Sections.{nodesFrom, Sections, symbolTest}
+use Rattle.unification.specs.Node.{Node, application, nodeAt, tabulate}
+use Rattle.unification.specs.Closure.{OneSymbol, Joined, arguments, back, on, Clash}
+use Rattle.unification.specs.Computed.Classes.{classOf, renamed, join}
+use Rattle.unification.specs.Code.Heads.{roots}
+use Rattle.unification.specs.Code.Sections.{nodesFrom, Sections, symbolTest}
+use Rattle.unification.proofs.JoinedLaws.{Among}
+use Rattle.unification.proofs.CountLaws.{join-length, join-keeps, join-lowers, unites-front, in-list}
+use Rattle.unification.proofs.SectionLaws.{symbols-differ, run, run-long, nodes-long, variable-from, application-from, from-application, symbol-test, is-node}
 use Rattle.unify.specs.Code.Closing.{Closing, argumentPair, argumentPairs, waiting, Paired, Log, Works}
-use Rattle.unify.proofs.JoinedLaws.{Among}
-use Rattle.unify.proofs.CountLaws.{join-length, join-keeps, join-lowers, unites-front, in-list}
-use Rattle.unify.proofs.SectionLaws.{symbols-differ, run, run-long, nodes-long, variable-from, application-from, from-application, symbol-test, is-node}
 use Rattle.unify.proofs.ClosingLaws.{Wanted, HeadsMeet, retold, reordered, already, heads-clash, united, classes-joined, variable-meets}
 use Rattle.unify.proofs.ClosingLogLaws.{among-both, among-swap, tabulate-among, zip-pairs, pairs-zip, waiting-from, waiting-has, waiting-none, waiting-longer, longer-waiting, extends-on, extends-none, log-places}
 

@@ -7,16 +7,16 @@ use native.Mathlib.Omega.{arith}
 use lib.ListN.{length}
 use Rattle.table.specs.Limits.{maxNodes}
 use Rattle.table.specs.Layout.{word, nodeCount}
-use Rattle.unify.specs.Node.{Node}
-use Rattle.unify.specs.Closure.{Clash}
-use Rattle.unify.specs.Computed.Classes.{classOf}
-use Rattle.unify.specs.Code.Given.{Inside}
-use Rattle.unify.specs.Code.Heads.{Partition}
-use Rattle.unify.specs.Code.Sections.{nodesFrom, Sections}
-use Rattle.unify.specs.Code.Solved.{Closed}
+use Rattle.unification.specs.Node.{Node}
+use Rattle.unification.specs.Closure.{Clash}
+use Rattle.unification.specs.Computed.Classes.{classOf}
+use Rattle.unification.specs.Code.Given.{Inside}
+use Rattle.unification.specs.Code.Heads.{Partition}
+use Rattle.unification.specs.Code.Sections.{nodesFrom, Sections}
+use Rattle.unification.specs.Code.Solved.{Closed}
+use Rattle.unification.proofs.CountLaws.{roots-most}
+use Rattle.unification.proofs.SectionLaws.{nodes-long, sections-well-formed}
 use Rattle.unify.specs.Code.Closing.{Closing, argumentPairs, waiting, Paired, Log, Works, Closes}
-use Rattle.unify.proofs.CountLaws.{roots-most}
-use Rattle.unify.proofs.SectionLaws.{nodes-long, sections-well-formed}
 use Rattle.unify.proofs.ClosingLaws.{reordered, opened, closed-at-last}
 use Rattle.unify.proofs.ClosingLogLaws.{entry, waiting-none, waiting-first, first-waiting, waiting-longer, longer-waiting}
 

@@ -8,23 +8,23 @@ use mathlib.Core.Path.{_≡_, sym, ap}
 use native.Mathlib.Omega.{arith}
 use lib.ListN.{length, take}
 use Rattle.table.specs.Layout.{nodeCount}
+use Rattle.unification.specs.Node.{Node}
+use Rattle.unification.specs.Computed.Classes.{classOf}
+use Rattle.unification.specs.Code.Given.{Inside}
+use Rattle.unification.specs.Code.Sections.{nodesFrom, Sections}
+use Rattle.unification.specs.Code.Heads.{Partition}
+use Rattle.unification.proofs.OutcomeLaws.{outcome-clash, cycle-decides}
+use Rattle.unification.proofs.SectionLaws.{nodes-long, is-node, sections-well-formed}
 use Rattle.unify.specs.declared.Classes.{Classes}
 use Rattle.unify.specs.declared.Extended.the-variants.{Unified, Clash, Occurs}
 use Rattle.unify.specs.declared.order.Placed.{Placed}
 use Rattle.unify.specs.declared.order.Placed.the-variants.{Cycle, Count}
 use Rattle.unify.specs.declared.settle.Settled as settled
 use Rattle.unify.specs.declared.Extended.{Extended}
-use Rattle.unify.specs.Node.{Node}
-use Rattle.unify.specs.Computed.Classes.{classOf}
-use Rattle.unify.specs.Code.Given.{Inside}
-use Rattle.unify.specs.Code.Sections.{nodesFrom, Sections}
-use Rattle.unify.specs.Code.Heads.{Partition}
 use Rattle.unify.specs.Code.Ordering.{FoundOrder}
 use Rattle.unify.specs.Code.Closing.{Closes}
 use Rattle.unify.specs.Code.Settled.{Settles, ComesTo}
 use Rattle.unify.specs.Code.Stands.{headsOf, orderOf, Extends, extended}
-use Rattle.unify.proofs.OutcomeLaws.{outcome-clash, cycle-decides}
-use Rattle.unify.proofs.SectionLaws.{nodes-long, is-node, sections-well-formed}
 use Rattle.unify.proofs.OrderedLaws.{leads-reaches, ordered-unified}
 
 -- the longer list is of nodes

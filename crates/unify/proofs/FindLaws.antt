@@ -7,10 +7,10 @@ use native.Mathlib.Decide.{ℕ-discrete, decLt}
 use native.Mathlib.Omega.{arith}
 use lib.ListN.{length}
 use Rattle.table.specs.Layout.{word, nodeCount}
+use Rattle.unification.proofs.PigeonLaws.{pigeons}
 use Rattle.unify.specs.Code.Order.{Ordered}
 use Rattle.unify.specs.Code.Named.{Alike}
 use Rattle.unify.specs.Code.Naming.{keys, keyOf, keyAt, Compared, Representative, Naming, Found, Searching}
-use Rattle.unify.proofs.PigeonLaws.{pigeons}
 use Rattle.unify.proofs.AlikeLaws.{key-alike}
 
 -- no node stands twice in the order, so it is no longer than there are nodes

@@ -8,7 +8,7 @@ use native.Mathlib.Omega.{arith}
 use lib.ListN.{length, set}
 use lib.Seq.{getD-set-same, getD-set-other}
 use Rattle.table.specs.Layout.{word}
-use Rattle.unify.specs.Words.{Least}
+use Rattle.unification.specs.Words.{Least}
 use Rattle.unify.specs.Code.Kept.{Writes, Kept, Touched}
 
 module _ (P : ℕ → Type 0) (slot value : ℕ → ℕ) (n : ℕ) where

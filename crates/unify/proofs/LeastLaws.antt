@@ -13,21 +13,21 @@ use lib.Dec.{eqb, ltb}
 use lib.ListN.{length, set, take, length-set, length-map}
 use lib.Seq.{take-suc-set, length-take-le}
 use Rattle.table.specs.Layout.{word, kindOf, nameOf, nodeCount}
-use Rattle.unify.specs.Node.{variable, nodeAt, Present}
-use Rattle.unify.specs.Words.{Rising, end, before}
-use Rattle.unify.specs.Computed.Variables.{variablesOf}
-use Rattle.unify.specs.Computed.Classes.{gather}
-use Rattle.unify.specs.Computed.Solution.{nodeOf}
-use Rattle.unify.specs.Code.Sections.{nodesFrom, Sections}
+use Rattle.unification.specs.Node.{variable, nodeAt, Present}
+use Rattle.unification.specs.Words.{Rising, end, before}
+use Rattle.unification.specs.Computed.Variables.{variablesOf}
+use Rattle.unification.specs.Computed.Classes.{gather}
+use Rattle.unification.specs.Computed.Solution.{nodeOf}
+use Rattle.unification.specs.Code.Sections.{nodesFrom, Sections}
+use Rattle.unification.proofs.ListLaws.{gathered, gathered-from, map-same}
+use Rattle.unification.proofs.RisingLaws.{rising-append}
+use Rattle.unification.proofs.VariableLaws.{variables-one}
+use Rattle.unification.proofs.PresentLaws.{present-or-not}
+use Rattle.unification.proofs.FirstLaws.{node-of, node-of-none}
+use Rattle.unification.proofs.SectionLaws.{nodes-long, section-variable}
 use Rattle.unify.specs.Code.Kept.{Kept, Touched}
 use Rattle.unify.specs.Code.Present.{variableNames, noted, LeastByName, presentBelow, KeepsVariable, ListsPresent, leastNodes}
-use Rattle.unify.proofs.ListLaws.{gathered, gathered-from, map-same}
-use Rattle.unify.proofs.RisingLaws.{rising-append}
-use Rattle.unify.proofs.VariableLaws.{variables-one}
-use Rattle.unify.proofs.PresentLaws.{present-or-not}
-use Rattle.unify.proofs.FirstLaws.{node-of, node-of-none}
 use Rattle.unify.proofs.KeptLaws.{kept-none, kept-skip, kept-set, touched-skip, touched-set}
-use Rattle.unify.proofs.SectionLaws.{nodes-long, section-variable}
 
 -- a variable is noted at its number
 pub noted-variable : (words least : List ℕ) (i x : ℕ) → eqb (kindOf words i) 0 ≡ true → x ≡ nameOf words i → set least x i ≡ noted words least i

@@ -1,26 +1,6 @@
--- Laws of the definitions, from the bottom up.
-pub mod ListLaws
-pub mod MatchedLaws
-pub mod RisingLaws
-pub mod PigeonLaws
-pub mod NodeLaws
-pub mod CountLaws
-pub mod JoinedLaws
-pub mod VariableLaws
-pub mod FirstLaws
-pub mod PresentLaws
-pub mod SectionLaws
-pub mod TableLaws
+-- Laws that the proofs of the code need, from the bottom up.
 pub mod KeptLaws
 pub mod LeastLaws
-pub mod ClassLaws
-pub mod WalkLaws
-pub mod SolvedLaws
-pub mod HeadLaws
-pub mod ReadingLaws
-pub mod WordLaws
-pub mod OutcomeLaws
-pub mod PairLaws
 pub mod StartLaws
 pub mod RelabelLaws
 pub mod ClosingLaws
@@ -31,7 +11,6 @@ pub mod OrderLaws
 pub mod OrderedLaws
 pub mod ExtensionLaws
 pub mod AtOnceLaws
-pub mod ValuedLaws
 pub mod AlikeLaws
 pub mod ChainLaws
 pub mod FindLaws
@@ -40,6 +19,4 @@ pub mod NamedLaws
 pub mod NotingLaws
 pub mod SharedLaws
 pub mod BindingLaws
-pub mod AnswerLaws
 pub mod CallingLaws
-pub mod Calls

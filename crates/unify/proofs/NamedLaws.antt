@@ -5,14 +5,14 @@ use mathlib.Core.Path.{_≡_, refl, sym, ap, _∙_}
 use native.Mathlib.Omega.{arith}
 use lib.ListN.{length}
 use Rattle.table.specs.Layout.{word, kindOf, countOf, nodeCount, argumentOf}
-use Rattle.unify.specs.Node.{variable, application, nodeAt}
-use Rattle.unify.specs.Closure.{OneSymbol}
-use Rattle.unify.specs.Computed.Classes.{classOf}
-use Rattle.unify.specs.Code.Sections.{nodesFrom, Sections}
-use Rattle.unify.specs.Code.Heads.{Partition}
+use Rattle.unification.specs.Node.{variable, application, nodeAt}
+use Rattle.unification.specs.Closure.{OneSymbol}
+use Rattle.unification.specs.Computed.Classes.{classOf}
+use Rattle.unification.specs.Code.Sections.{nodesFrom, Sections}
+use Rattle.unification.specs.Code.Heads.{Partition}
+use Rattle.unification.specs.Code.Valued.{SameNames, Valued}
+use Rattle.unification.proofs.SectionLaws.{from-variable, from-application, run-long, pair-place, counted}
 use Rattle.unify.specs.Code.Named.{valueName, Alike, Named, Readable}
-use Rattle.unify.specs.Code.Valued.{SameNames, Valued}
-use Rattle.unify.proofs.SectionLaws.{from-variable, from-application, run-long, pair-place, counted}
 
 -- a node has a head, and the head a place among the names
 pub name-inside : (words args cs names : List ℕ) → Readable words args cs names → (i : ℕ) → i < nodeCount words → (i < length cs) × (classOf cs i < length names)

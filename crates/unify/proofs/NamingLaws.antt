@@ -13,9 +13,9 @@ use lib.ListN.{length, set, replicate, length-set, length-replicate, getD-replic
 use lib.Seq.{getD-set-same, getD-set-other}
 use Rattle.table.specs.Limits.{maxNodes}
 use Rattle.table.specs.Layout.{word, kindOf, nodeCount, argumentOf}
-use Rattle.unify.specs.Computed.Classes.{classOf}
-use Rattle.unify.specs.Code.Sections.{Sections}
-use Rattle.unify.specs.Code.Heads.{Partition}
+use Rattle.unification.specs.Computed.Classes.{classOf}
+use Rattle.unification.specs.Code.Sections.{Sections}
+use Rattle.unification.specs.Code.Heads.{Partition}
 use Rattle.unify.specs.Code.Order.{Ordered}
 use Rattle.unify.specs.Code.Named.{valueName, Readable, Alike, Applied, Named}
 use Rattle.unify.specs.Code.Naming.{keys, keyOf, keyAt, Representative, Represented, NamedBefore, Naming, Found}

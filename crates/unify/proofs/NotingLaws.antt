@@ -11,7 +11,7 @@ use lib.Dec.{eqb}
 use lib.ListN.{length, set, take, drop, length-set, length-map}
 use lib.Seq.{getD-set-other, take-suc, drop-cons, set-at, take-length, length-take-le, append-snoc}
 use Rattle.table.specs.Layout.{word, kindOf, nodeCount}
-use Rattle.unify.specs.Computed.Classes.{classOf}
+use Rattle.unification.specs.Computed.Classes.{classOf}
 use Rattle.unify.specs.Code.Named.{valueName}
 use Rattle.unify.specs.Code.Binding.{HeadNames, applicationNoted, freeNoted, IsApplied, IsFree, nameAt, ApplicationsFrom, FreeFrom, readAt, AreNodes}
 use Rattle.unify.proofs.KeptLaws.{kept-none, kept-skip, kept-set}

@@ -12,15 +12,15 @@ use lib.ListN.{length, set, take, length-set, replicate, getD-replicate}
 use lib.Seq.{getD-set-same, getD-set-other, getD-take, length-take-le}
 use Rattle.table.specs.Limits.{maxNodes}
 use Rattle.table.specs.Layout.{word, countOf, nodeCount, argumentOf}
+use Rattle.unification.specs.Computed.Classes.{classOf}
+use Rattle.unification.specs.Code.Heads.{Partition, countBelow}
+use Rattle.unification.specs.Code.Sections.{Sections}
+use Rattle.unification.proofs.CountLaws.{count-most, count-le, count-less}
+use Rattle.unification.proofs.ListLaws.{first-long}
 use Rattle.unify.specs.declared.order.Placed.{Placed}
 use Rattle.unify.specs.declared.order.Placed.the-variants.{Cycle, Count}
-use Rattle.unify.specs.Computed.Classes.{classOf}
-use Rattle.unify.specs.Code.Heads.{Partition, countBelow}
-use Rattle.unify.specs.Code.Sections.{Sections}
 use Rattle.unify.specs.Code.Order.{Leads, next, further, ArgumentsBefore, Ordered}
 use Rattle.unify.specs.Code.Ordering.{isNew, isDone, Ordering, Visiting, Looped, Later, Passed, Turn, Visited, Changing, Starting, Sweep, Swept, Mending, Keeping, FoundOrder}
-use Rattle.unify.proofs.CountLaws.{count-most, count-le, count-less}
-use Rattle.unify.proofs.ListLaws.{first-long}
 
 -- A place of a list in which place i is written.
 data Written (l : List ℕ) (i a k : ℕ) : Type 0 where

@@ -9,17 +9,17 @@ use borrow.Author.Tests.{eqb-true, eqb-false}
 use lib.Dec.{eqb}
 use lib.ListN.{length}
 use Rattle.table.specs.Layout.{word, nodeCount, argumentOf}
-use Rattle.unify.specs.Closure.{same, Reaches, step, steps}
-use Rattle.unify.specs.Outcome.{unified}
-use Rattle.unify.specs.Computed.Classes.{classOf}
-use Rattle.unify.specs.Computed.Unifying.{outcome}
-use Rattle.unify.specs.Code.Given.{Inside}
-use Rattle.unify.specs.Code.Sections.{nodesFrom, Sections}
+use Rattle.unification.specs.Closure.{same, Reaches, step, steps}
+use Rattle.unification.specs.Outcome.{unified}
+use Rattle.unification.specs.Computed.Classes.{classOf}
+use Rattle.unification.specs.Computed.Unifying.{outcome}
+use Rattle.unification.specs.Code.Given.{Inside}
+use Rattle.unification.specs.Code.Sections.{nodesFrom, Sections}
+use Rattle.unification.specs.Code.Solved.{Closed, Solved}
+use Rattle.unification.proofs.SolvedLaws.{closed-inside}
+use Rattle.unification.proofs.OutcomeLaws.{solved-decides}
+use Rattle.unification.proofs.SectionLaws.{nodes-long, application-from, argument-place, place-argument, counted-application, sections-well-formed}
 use Rattle.unify.specs.Code.Order.{Leads, next, further, Ordered}
-use Rattle.unify.specs.Code.Solved.{Closed, Solved}
-use Rattle.unify.proofs.SolvedLaws.{closed-inside}
-use Rattle.unify.proofs.OutcomeLaws.{solved-decides}
-use Rattle.unify.proofs.SectionLaws.{nodes-long, application-from, argument-place, place-argument, counted-application, sections-well-formed}
 
 -- The first place of a number in a list; past its end where it has none.
 pub placeIn : List ℕ → ℕ → ℕ

@@ -6,7 +6,7 @@ use native.Mathlib.Omega.{arith}
 use borrow.Author.Count.{below-more}
 use lib.ListN.{length, getD, set, length-set, length-map}
 use lib.Seq.{ext-getD, getD-set-same, getD-set-other}
-use Rattle.unify.proofs.ListLaws.{map-at}
+use Rattle.unification.proofs.ListLaws.{map-at}
 
 -- The places of ds below i are changed, and no other.
 pub record Relabelled (f : ℕ → ℕ) (cs : List ℕ) (i : ℕ) (ds : List ℕ) : Type 0 where

@@ -13,28 +13,28 @@ use Rattle.table.specs.Layout.{word, nodeCount, argumentOf}
 use Rattle.terms.specs.Term.{var, app}
 use Rattle.terms.specs.Substitution.{Substitution, sub}
 use Rattle.terms.proofs.SubstitutionLaws.{sub-var}
+use Rattle.unification.specs.Node.{Node, variable, application, nodeAt, tabulate, termOf, each}
+use Rattle.unification.specs.Closure.{given}
+use Rattle.unification.specs.Unifier.{value, Unifies}
+use Rattle.unification.specs.Computed.Classes.{classOf}
+use Rattle.unification.specs.Computed.Solution.{solution}
+use Rattle.unification.specs.Code.Given.{WellFormed, Inside}
+use Rattle.unification.specs.Code.Sections.{nodesFrom, Sections}
+use Rattle.unification.specs.Code.Heads.{Partition}
+use Rattle.unification.specs.Code.Solved.{HeadFits, Closed}
+use Rattle.unification.proofs.ListLaws.{tabulate-member, tabulate-from, zip-left, zip-right}
+use Rattle.unification.proofs.NodeLaws.{each-long, each-at, value-variable, value-application, value-after}
+use Rattle.unification.proofs.SectionLaws.{counted, is-node, sections-well-formed}
+use Rattle.unification.proofs.SolvedLaws.{solution-first}
+use Rattle.unification.proofs.ValuedLaws.{values-named}
 use Rattle.unify.specs.declared.Classes.{Classes}
 use Rattle.unify.specs.declared.Variables.{Variables}
-use Rattle.unify.specs.Node.{Node, variable, application, nodeAt, tabulate, termOf, each}
-use Rattle.unify.specs.Closure.{given}
-use Rattle.unify.specs.Unifier.{value, Unifies}
-use Rattle.unify.specs.Computed.Classes.{classOf}
-use Rattle.unify.specs.Computed.Solution.{solution}
-use Rattle.unify.specs.Code.Given.{WellFormed, Inside}
-use Rattle.unify.specs.Code.Sections.{nodesFrom, Sections}
-use Rattle.unify.specs.Code.Heads.{Partition}
 use Rattle.unify.specs.Code.Order.{Ordered}
-use Rattle.unify.specs.Code.Solved.{HeadFits, Closed}
 use Rattle.unify.specs.Code.Named.{valueName}
 use Rattle.unify.specs.Code.Binding.{HeadNames}
 use Rattle.unify.specs.Code.Stands.{headsOf, orderOf, Begins, BeginsShared, IsNode, NodesFrom, ListsHead, Sharing, Shares}
 use Rattle.unify.proofs.KeptLaws.{kept-none, kept-set}
-use Rattle.unify.proofs.ListLaws.{tabulate-member, tabulate-from, zip-left, zip-right}
-use Rattle.unify.proofs.NodeLaws.{each-long, each-at, value-variable, value-application, value-after}
-use Rattle.unify.proofs.SectionLaws.{counted, is-node, sections-well-formed}
-use Rattle.unify.proofs.SolvedLaws.{solution-first}
 use Rattle.unify.proofs.OrderedLaws.{placeIn, ordered-enough, ordered-solved}
-use Rattle.unify.proofs.ValuedLaws.{values-named}
 use Rattle.unify.proofs.NamedLaws.{named-valued}
 
 -- no node is noted yet

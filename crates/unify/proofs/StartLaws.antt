@@ -12,24 +12,24 @@ use lib.Dec.{eqb}
 use lib.ListN.{length, set, take}
 use lib.Seq.{getD-set-same, getD-set-other}
 use Rattle.table.specs.Layout.{word, kindOf, nameOf, nodeCount, argumentOf}
+use Rattle.unification.specs.Node.{variable, nodeAt}
+use Rattle.unification.specs.Closure.{Joined, one-variable, same}
+use Rattle.unification.specs.Words.{Least}
+use Rattle.unification.specs.Computed.Classes.{classOf}
+use Rattle.unification.specs.Computed.Solution.{nodeOf}
+use Rattle.unification.specs.Code.Sections.{nodesFrom, Sections}
+use Rattle.unification.specs.Code.Heads.{Partition}
+use Rattle.unification.specs.Code.Solved.{Closed}
+use Rattle.unification.proofs.ListLaws.{zip-at}
+use Rattle.unification.proofs.FirstLaws.{node-of}
+use Rattle.unification.proofs.SectionLaws.{nodes-long, section-variable, from-application, variable-from}
 use Rattle.unify.specs.declared.Classes.{Classes}
 use Rattle.unify.specs.declared.Variables.{Variables}
-use Rattle.unify.specs.Node.{variable, nodeAt}
-use Rattle.unify.specs.Closure.{Joined, one-variable, same}
-use Rattle.unify.specs.Words.{Least}
-use Rattle.unify.specs.Computed.Classes.{classOf}
-use Rattle.unify.specs.Computed.Solution.{nodeOf}
-use Rattle.unify.specs.Code.Sections.{nodesFrom, Sections}
-use Rattle.unify.specs.Code.Heads.{Partition}
 use Rattle.unify.specs.Code.Order.{Ordered}
 use Rattle.unify.specs.Code.Present.{variableNames, LeastByName, presentBelow, ListsPresent, leastNodes}
-use Rattle.unify.specs.Code.Solved.{Closed}
 use Rattle.unify.specs.Code.Start.{startHead, Started}
 use Rattle.unify.specs.Code.Stands.{Begins}
-use Rattle.unify.proofs.ListLaws.{zip-at}
-use Rattle.unify.proofs.FirstLaws.{node-of}
 use Rattle.unify.proofs.LeastLaws.{present-least, least-long}
-use Rattle.unify.proofs.SectionLaws.{nodes-long, section-variable, from-application, variable-from}
 
 -- the head of a variable
 start-variable : (words args : List ℕ) (i : ℕ) → kindOf words i ≡ 0 → startHead words args i ≡ nodeOf (nodesFrom words args) (nameOf words i)

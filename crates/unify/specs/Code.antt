@@ -1,14 +1,9 @@
 -- What contracts of inner functions and laws speak of. No reader has to believe these.
-pub mod Given
-pub mod Sections
-pub mod Heads
 pub mod Kept
 pub mod Present
 pub mod Start
 pub mod Order
 pub mod Ordering
-pub mod Solved
-pub mod Valued
 pub mod Named
 pub mod Naming
 pub mod Binding

@@ -1,10 +1,2 @@
--- What a reader has to believe of unification, in document 01's order.
-pub mod Node
-pub mod Unifier
-pub mod Closure
-pub mod Words
-pub mod Outcome
-pub mod Answer
--- What nobody has to believe: definitions that compute what a relation says, and what contracts of inner functions and laws speak of.
-pub mod Computed
+-- What nobody has to believe: what contracts of inner functions and laws speak of.
 pub mod Code

@@ -1,16 +1,16 @@
 // Unifying two nodes of an accepted table: refusals 8 and 9, and what the two nodes come to.
 ghost use Rattle.table.specs.Code.Accepted.{Accepted};
-ghost use Rattle.unify.specs.Node.{nodesIn};
-ghost use Rattle.unify.specs.Code.Sections.{Sections, nodesFrom};
+ghost use Rattle.unification.specs.Node.{nodesIn};
+ghost use Rattle.unification.specs.Code.Sections.{Sections, nodesFrom};
 ghost use Rattle.unify.specs.Code.Calling.{Answers};
 use crate::Extended;
-use crate::Unification;
 use crate::beginning::begin;
 use crate::settle::extend;
 use crate::words::bind;
 use table::Node;
 use table::Refusal;
 use table::layout;
+use unification::Unification;
 
 // Unifies two nodes of the sections of an accepted table.
 fn unify_nodes(nodes: &[u32], arguments: &[u32], a: Node, b: Node, out: &mut [u32]) -> Unification

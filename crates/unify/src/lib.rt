@@ -4,15 +4,15 @@ ghost use mathlib.Core.List.{[], _∷_};
 ghost use mathlib.Core.Logic.{_⊎_};
 ghost use lib.ListN.{length, take};
 ghost use Rattle.terms.specs.Substitution.{Substitution};
-ghost use Rattle.unify.specs.Node.{nodesIn};
-ghost use Rattle.unify.specs.Unifier.{value, MostGeneral};
-ghost use Rattle.unify.specs.Words.{Reads};
-ghost use Rattle.unify.specs.Answer.{told, variableCount, unification, lentAfter};
+ghost use Rattle.unification.specs.Node.{nodesIn};
+ghost use Rattle.unification.specs.Unifier.{value, MostGeneral};
+ghost use Rattle.unification.specs.Words.{Reads};
+ghost use Rattle.unification.specs.Answer.{told, variableCount, unification, lentAfter};
 use present::VARIABLE_NAMES;
 use table::Checked;
 use table::Node;
-use table::Refusal;
 use table::limits::MAX_NODES;
+use unification::Unification;
 
 // The nodes of a checked table.
 mod nodes;
@@ -40,14 +40,6 @@ pub mod words;
 
 // Unifying two nodes of an accepted table.
 mod call;
-
-// What unifying two nodes answers.
-pub enum Unification {
-    Unified,
-    Clash,
-    Occurs,
-    Refused(Refusal),
-}
 
 // What extending classes by a pair comes to.
 pub enum Extended {

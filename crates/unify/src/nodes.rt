@@ -5,7 +5,7 @@ ghost use lib.ListN.{length};
 ghost use lib.Dec.{eqb};
 ghost use Rattle.table.specs.Limits.{maxNodes, maxCount};
 ghost use Rattle.table.specs.Layout.{word, kindOf, nameOf, countOf, nodeCount, argumentOf};
-ghost use Rattle.unify.specs.Code.Sections.{Sections, symbolTest, differTest};
+ghost use Rattle.unification.specs.Code.Sections.{Sections, symbolTest, differTest};
 ghost use Rattle.unify.specs.Code.Named.{valueName};
 use table::Node;
 use table::Variable;

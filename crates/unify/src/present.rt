@@ -4,7 +4,7 @@ ghost use Prim.Native.Nat.{ℕ, _≤_, _<_};
 ghost use lib.ListN.{length};
 ghost use Rattle.table.specs.Limits.{maxNodes};
 ghost use Rattle.table.specs.Layout.{word, nodeCount};
-ghost use Rattle.unify.specs.Code.Sections.{Sections};
+ghost use Rattle.unification.specs.Code.Sections.{Sections};
 ghost use Rattle.unify.specs.Code.Present.{variableNames, noted as notedOf, LeastByName, KeepsVariable, ListsPresent};
 use crate::nodes;
 use table::Node;

@@ -5,8 +5,8 @@ use mathlib.Core.List.{List, _++_, flatten}
 use mathlib.Core.Path.{_≡_}
 use lib.Dec.{ltb}
 use lib.ListN.{length, drop}
-use Rattle.listing.specs.declared.Listing.{Listing}
-use Rattle.listing.specs.Answer.{told, fitting}
+use Rattle.multiset_unification.specs.declared.Listing.{Listing}
+use Rattle.multiset_unification.specs.Answer.{told, fitting}
 
 -- The answer r and the lent words after a call are those of the entries es.
 pub record Answers (es : List (List ℕ)) (lent : List ℕ) (r : Listing) (lent′ : List ℕ) : Type 0 where

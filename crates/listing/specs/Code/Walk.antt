@@ -7,12 +7,12 @@ use lib.Dec.{eqb, leb, ltb}
 use lib.ListN.{length, take, drop, set, replicate}
 use Rattle.table.specs.Limits.{maxTerms, maxLabels}
 use Rattle.table.specs.Layout.{word, nodeCount}
+use Rattle.unification.specs.Node.{Node}
+use Rattle.unification.specs.Outcome.{Outcome, unified, clash, occurs}
+use Rattle.unification.specs.Computed.Unifying.{outcome, wordsOf}
+use Rattle.unification.specs.Code.Sections.{Sections, nodesFrom}
 use Rattle.unify.specs.declared.Classes.{Classes}
 use Rattle.unify.specs.declared.Variables.{Variables}
-use Rattle.unify.specs.Node.{Node}
-use Rattle.unify.specs.Outcome.{Outcome, unified, clash, occurs}
-use Rattle.unify.specs.Computed.Unifying.{outcome, wordsOf}
-use Rattle.unify.specs.Code.Sections.{Sections, nodesFrom}
 use Rattle.unify.specs.Code.Stands.{Formed, Stands, Lists}
 use Rattle.listing.specs.declared.Labels.{Labels}
 use Rattle.listing.specs.declared.Branch.{Branch}

@@ -5,9 +5,9 @@ use mathlib.Core.List.{List, [], _∷_, _++_, map, flatten}
 use mathlib.Core.Path.{_≡_}
 use lib.Dec.{eqb, ltb}
 use lib.ListN.{length, take, drop}
+use Rattle.multiset_unification.specs.Answer.{fitting}
+use Rattle.multiset_unification.specs.Computed.Choices.{branch}
 use Rattle.listing.specs.declared.Written.{Written}
-use Rattle.listing.specs.Answer.{fitting}
-use Rattle.listing.specs.Computed.Choices.{branch}
 
 -- Words xs in the place of as many lent words from `at` on.
 unfoldable pub put : ℕ → List ℕ → List ℕ → List ℕ

@@ -6,14 +6,14 @@ use mathlib.Core.Path.{_≡_}
 use lib.Dec.{eqb}
 use lib.ListN.{length, set, drop}
 use Rattle.table.specs.Layout.{word, kindOf, nodeCount}
-use Rattle.unify.specs.Node.{Node}
-use Rattle.unify.specs.Computed.Classes.{classOf}
-use Rattle.unify.specs.Computed.Unifying.{wordsOf}
-use Rattle.unify.specs.Code.Given.{Inside}
+use Rattle.unification.specs.Node.{Node}
+use Rattle.unification.specs.Computed.Classes.{classOf}
+use Rattle.unification.specs.Computed.Unifying.{wordsOf}
+use Rattle.unification.specs.Code.Given.{Inside}
+use Rattle.unification.specs.Code.Solved.{Closed}
 use Rattle.unify.specs.Code.Kept.{Kept}
 use Rattle.unify.specs.Code.Present.{leastNodes}
 use Rattle.unify.specs.Code.Named.{valueName, Readable, Named}
-use Rattle.unify.specs.Code.Solved.{Closed}
 
 -- The sections, the heads of the nodes, and the names of the heads.
 pub record HeadNames (words args cs names : List ℕ) : Type 0 where

@@ -5,11 +5,11 @@ use mathlib.Core.List.{List, [], _∷_}
 use mathlib.Core.Path.{_≡_}
 use lib.Dec.{leb, ltb}
 use lib.ListN.{length}
-use Rattle.unify.specs.declared.Unification.{Unification}
-use Rattle.unify.specs.Node.{Node}
-use Rattle.unify.specs.Computed.Variables.{variablesOf}
-use Rattle.unify.specs.Computed.Unifying.{outcome, wordsOf}
-use Rattle.unify.specs.Answer.{Answer, ended, refused, told, wordsAfter}
+use Rattle.unification.specs.declared.Unification.{Unification}
+use Rattle.unification.specs.Node.{Node}
+use Rattle.unification.specs.Computed.Variables.{variablesOf}
+use Rattle.unification.specs.Computed.Unifying.{outcome, wordsOf}
+use Rattle.unification.specs.Answer.{Answer, ended, refused, told, wordsAfter}
 
 -- The answer, where the table is accepted (`accepted-table`).
 unfoldable pub called : List Node → ℕ → ℕ → ℕ → Answer

@@ -6,21 +6,17 @@ use mathlib.Core.Path.{_≡_}
 use lib.ListN.{length}
 use Rattle.table.specs.Limits.{maxNodes}
 use Rattle.table.specs.Layout.{word, countOf, nodeCount, argumentOf}
-use Rattle.unify.specs.Node.{Node, variable, application, nodeAt, tabulate}
-use Rattle.unify.specs.Closure.{Joined, Clash}
-use Rattle.unify.specs.Computed.Classes.{classOf, gather}
-use Rattle.unify.specs.Code.Given.{Inside}
-use Rattle.unify.specs.Code.Heads.{Partition, roots}
-use Rattle.unify.specs.Code.Sections.{nodesFrom}
-use Rattle.unify.specs.Code.Solved.{Closed}
+use Rattle.unification.specs.Node.{Node, variable, application, nodeAt, tabulate}
+use Rattle.unification.specs.Closure.{Joined, Clash}
+use Rattle.unification.specs.Computed.Classes.{classOf, gather}
+use Rattle.unification.specs.Code.Given.{Inside}
+use Rattle.unification.specs.Code.Heads.{Partition, roots, Unites}
+use Rattle.unification.specs.Code.Sections.{nodesFrom}
+use Rattle.unification.specs.Code.Solved.{Closed}
 
 -- Nodes of one class of cs are of one class of ds.
 abbrev pub Coarser : List ℕ → List ℕ → Type 0
 Coarser cs ds = (i j : ℕ) → i < length cs → j < length cs → classOf cs i ≡ classOf cs j → classOf ds i ≡ classOf ds j
-
--- The nodes of each pair are of one class of ds.
-abbrev pub Unites : List ℕ → List (ℕ × ℕ) → Type 0
-Unites ds todo = (a b : ℕ) → List·Memᴰ (a, b) todo → classOf ds a ≡ classOf ds b
 
 -- Nodes a and b are of one class of cs, or will be when the pairs of todo are joined.
 abbrev pub Linked : List ℕ → List (ℕ × ℕ) → ℕ → ℕ → Type 0

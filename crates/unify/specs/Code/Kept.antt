@@ -4,7 +4,7 @@ use mathlib.Core.List.{List}
 use mathlib.Core.Logic.{_⊎_}
 use mathlib.Core.Path.{_≡_}
 use Rattle.table.specs.Layout.{word}
-use Rattle.unify.specs.Words.{Least}
+use Rattle.unification.specs.Words.{Least}
 
 -- Place k, of those from i to n with P, is written at slot s.
 abbrev pub Writes : (ℕ → Type 0) → (ℕ → ℕ) → ℕ → ℕ → ℕ → ℕ → Type 0

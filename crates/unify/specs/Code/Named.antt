@@ -4,9 +4,9 @@ use mathlib.Core.List.{List}
 use mathlib.Core.Path.{_≡_}
 use lib.ListN.{length}
 use Rattle.table.specs.Layout.{word, kindOf, nameOf, countOf, nodeCount, argumentOf}
-use Rattle.unify.specs.Computed.Classes.{classOf}
-use Rattle.unify.specs.Code.Sections.{Sections}
-use Rattle.unify.specs.Code.Heads.{Partition}
+use Rattle.unification.specs.Computed.Classes.{classOf}
+use Rattle.unification.specs.Code.Sections.{Sections}
+use Rattle.unification.specs.Code.Heads.{Partition}
 
 -- The name of the value of node i, given the names of heads.
 abbrev pub valueName : List ℕ → List ℕ → ℕ → ℕ

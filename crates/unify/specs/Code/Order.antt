@@ -4,7 +4,7 @@ use mathlib.Core.List.{List}
 use mathlib.Core.Path.{_≡_}
 use lib.ListN.{length}
 use Rattle.table.specs.Layout.{word, countOf, nodeCount, argumentOf}
-use Rattle.unify.specs.Computed.Classes.{classOf}
+use Rattle.unification.specs.Computed.Classes.{classOf}
 
 -- Node h leads to node g: g is the head of an argument of h, or what such a head leads to.
 pub data Leads (words args cs : List ℕ) : ℕ → ℕ → Type 0 where

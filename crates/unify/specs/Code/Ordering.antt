@@ -6,11 +6,11 @@ use mathlib.Core.Path.{_≡_}
 use lib.Dec.{eqb}
 use lib.ListN.{length, take}
 use Rattle.table.specs.Layout.{word, nodeCount, argumentOf}
+use Rattle.unification.specs.Computed.Classes.{classOf}
+use Rattle.unification.specs.Code.Heads.{Partition, countBelow}
+use Rattle.unification.specs.Code.Sections.{Sections}
 use Rattle.unify.specs.declared.order.Placed.{Placed}
 use Rattle.unify.specs.declared.order.Placed.the-variants.{Cycle, Count}
-use Rattle.unify.specs.Computed.Classes.{classOf}
-use Rattle.unify.specs.Code.Heads.{Partition, countBelow}
-use Rattle.unify.specs.Code.Sections.{Sections}
 use Rattle.unify.specs.Code.Order.{Leads, ArgumentsBefore, Ordered}
 
 -- Node k is not visited yet.

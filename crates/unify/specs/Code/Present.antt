@@ -7,11 +7,11 @@ use lib.Dec.{eqb, ltb}
 use lib.ListN.{length, set, take}
 use Rattle.table.specs.Limits.{maxVariable}
 use Rattle.table.specs.Layout.{word, kindOf, nameOf, nodeCount}
-use Rattle.unify.specs.Node.{Node}
-use Rattle.unify.specs.Computed.Variables.{variablesOf}
-use Rattle.unify.specs.Computed.Solution.{nodeOf}
-use Rattle.unify.specs.Computed.Classes.{gather}
-use Rattle.unify.specs.Code.Sections.{nodesFrom}
+use Rattle.unification.specs.Node.{Node}
+use Rattle.unification.specs.Computed.Variables.{variablesOf}
+use Rattle.unification.specs.Computed.Solution.{nodeOf}
+use Rattle.unification.specs.Computed.Classes.{gather}
+use Rattle.unification.specs.Code.Sections.{nodesFrom}
 
 -- The least node of each variable present, in rising order of variable number.
 unfoldable pub leastNodes : List Node → List ℕ

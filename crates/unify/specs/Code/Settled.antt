@@ -4,16 +4,16 @@ use mathlib.Core.List.{List, _∷_}
 use mathlib.Core.Path.{_≡_}
 use lib.ListN.{take}
 use Rattle.table.specs.Layout.{nodeCount}
+use Rattle.unification.specs.Outcome.{Outcome, unified, clash, occurs}
+use Rattle.unification.specs.Computed.Classes.{classOf}
+use Rattle.unification.specs.Computed.Unifying.{outcome}
+use Rattle.unification.specs.Code.Given.{Inside}
+use Rattle.unification.specs.Code.Sections.{nodesFrom}
+use Rattle.unification.specs.Code.Heads.{Partition}
+use Rattle.unification.specs.Code.Solved.{Closed}
 use Rattle.unify.specs.declared.settle.Settled.{Settled}
 use Rattle.unify.specs.declared.settle.Settled.the-variants.{Clash, Occurs, Count}
-use Rattle.unify.specs.Outcome.{Outcome, unified, clash, occurs}
-use Rattle.unify.specs.Computed.Classes.{classOf}
-use Rattle.unify.specs.Computed.Unifying.{outcome}
-use Rattle.unify.specs.Code.Given.{Inside}
-use Rattle.unify.specs.Code.Sections.{nodesFrom}
-use Rattle.unify.specs.Code.Heads.{Partition}
 use Rattle.unify.specs.Code.Order.{Ordered}
-use Rattle.unify.specs.Code.Solved.{Closed}
 
 -- For whatever pairs the classes stand for, unifying them and the pair of a and b comes to this.
 abbrev pub ComesTo : List ℕ → List ℕ → List ℕ → ℕ → ℕ → Outcome → Type 0

@@ -5,21 +5,21 @@ use mathlib.Core.Path.{_≡_}
 use lib.ListN.{length, set, take, drop}
 use Rattle.table.specs.Layout.{word, nodeCount}
 use Rattle.terms.specs.Substitution.{Substitution}
+use Rattle.unification.specs.Unifier.{Unifies}
+use Rattle.unification.specs.Outcome.{Outcome, unified, clash, occurs}
+use Rattle.unification.specs.Computed.Classes.{classOf}
+use Rattle.unification.specs.Computed.Unifying.{outcome, wordsOf}
+use Rattle.unification.specs.Computed.Variables.{variablesOf}
+use Rattle.unification.specs.Code.Given.{Inside}
+use Rattle.unification.specs.Code.Sections.{nodesFrom}
+use Rattle.unification.specs.Code.Heads.{Partition}
+use Rattle.unification.specs.Code.Solved.{Closed}
 use Rattle.unify.specs.declared.Classes.{Classes}
 use Rattle.unify.specs.declared.Variables.{Variables}
 use Rattle.unify.specs.declared.Extended.{Extended}
 use Rattle.unify.specs.declared.Extended.the-variants.{Unified, Clash, Occurs}
-use Rattle.unify.specs.Unifier.{Unifies}
-use Rattle.unify.specs.Outcome.{Outcome, unified, clash, occurs}
-use Rattle.unify.specs.Computed.Classes.{classOf}
-use Rattle.unify.specs.Computed.Unifying.{outcome, wordsOf}
-use Rattle.unify.specs.Computed.Variables.{variablesOf}
-use Rattle.unify.specs.Code.Given.{Inside}
-use Rattle.unify.specs.Code.Sections.{nodesFrom}
-use Rattle.unify.specs.Code.Heads.{Partition}
 use Rattle.unify.specs.Code.Order.{Ordered}
 use Rattle.unify.specs.Code.Present.{variableNames, leastNodes}
-use Rattle.unify.specs.Code.Solved.{Closed}
 use Rattle.unify.specs.Code.Kept.{Kept}
 use Rattle.unify.specs.Code.Named.{valueName}
 use Rattle.unify.specs.Code.Binding.{HeadNames}

@@ -5,8 +5,8 @@ use mathlib.Core.List.{List}
 use mathlib.Core.Path.{_≡_}
 use lib.Dec.{eqb}
 use Rattle.table.specs.Layout.{word, kindOf, nameOf}
-use Rattle.unify.specs.Computed.Solution.{nodeOf}
-use Rattle.unify.specs.Code.Sections.{nodesFrom}
+use Rattle.unification.specs.Computed.Solution.{nodeOf}
+use Rattle.unification.specs.Code.Sections.{nodesFrom}
 
 -- The head of node i: the least node of its variable, or itself.
 unfoldable pub startHead : List ℕ → List ℕ → ℕ → ℕ

@@ -4,7 +4,7 @@ use mathlib.Core.Path.{sym, ap, _∙_}
 use native.Mathlib.Omega.{arith}
 use borrow.Author.Needs.{needs}
 use Rattle.table.proofs.AnswerLaws.{number-within}
-use Rattle.listing.specs.Answer.{told}
+use Rattle.multiset_unification.specs.Answer.{told}
 use Rattle.list.proofs.LengthLaws.{title-fits}
 use Rattle.list.proofs.PrintLaws.{refused-printed, full-printable, full-printed, finished-printable, finished-printed}
 use Rattle.list.proofs.print.print_listing.Statement.{statement}

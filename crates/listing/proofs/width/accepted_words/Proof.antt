@@ -2,7 +2,7 @@
 use native.Mathlib.Omega.{arith}
 use borrow.Author.Needs.{needs}
 use Rattle.table.proofs.AcceptedLaws.{readable}
-use Rattle.unify.proofs.TableLaws.{sections-of}
+use Rattle.unification.proofs.TableLaws.{sections-of}
 use Rattle.listing.proofs.WidthLaws.{entry-counted}
 use Rattle.listing.proofs.width.accepted_words.Statement.{statement}
 use Rattle.listing.proofs.width.accepted_words.Tie as tie

@@ -3,7 +3,7 @@ use mathlib.Core.Path.{sym, _∙_}
 use borrow.Author.Needs.{needs}
 use lib.ListN.{getD-replicate}
 use lib.Seq.{take-at}
-use Rattle.unify.proofs.ListLaws.{first-long}
+use Rattle.unification.proofs.ListLaws.{first-long}
 use Rattle.unify.proofs.StartLaws.{begun}
 use Rattle.unify.proofs.beginning.begin.Statement.{statement}
 use Rattle.unify.proofs.beginning.begin.Tie as tie

@@ -8,7 +8,7 @@ use lib.ListN.{length, take}
 use lib.Seq.{take-at, take-append-le}
 use Rattle.table.specs.Limits.{maxNodes}
 use Rattle.table.specs.Layout.{nodeCount}
-use Rattle.unify.proofs.ListLaws.{first-long}
+use Rattle.unification.proofs.ListLaws.{first-long}
 use Rattle.unify.proofs.SharedLaws.{begun-shared}
 use Rattle.unify.proofs.beginning.begin_shared.Statement.{statement}
 use Rattle.unify.proofs.beginning.begin_shared.Tie as tie

@@ -2,7 +2,7 @@
 use native.Mathlib.Omega.{arith}
 use borrow.Author.Needs.{needs}
 use Rattle.table.proofs.AcceptedLaws.{readable}
-use Rattle.unify.proofs.TableLaws.{sections-of, nodes-of-sections}
+use Rattle.unification.proofs.TableLaws.{sections-of, nodes-of-sections}
 use Rattle.unify.proofs.call.unify_accepted.Statement.{statement}
 use Rattle.unify.proofs.call.unify_accepted.Tie as tie
 

@@ -4,11 +4,11 @@ use mathlib.Core.Path.{_≡_, refl, sym, ap, _∙_}
 use mathlib.Core.List.{List, [], _∷_}
 use borrow.Author.Needs.{needs}
 use Rattle.table.specs.Layout.{nodeCount}
-use Rattle.unify.specs.declared.Unification.{Unification}
-use Rattle.unify.specs.Outcome.{Outcome}
-use Rattle.unify.specs.Computed.Unifying.{outcome, wordsOf}
-use Rattle.unify.specs.Answer.{told, ended, wordsAfter}
-use Rattle.unify.specs.Code.Sections.{nodesFrom}
+use Rattle.unification.specs.declared.Unification.{Unification}
+use Rattle.unification.specs.Outcome.{Outcome}
+use Rattle.unification.specs.Computed.Unifying.{outcome, wordsOf}
+use Rattle.unification.specs.Answer.{told, ended, wordsAfter}
+use Rattle.unification.specs.Code.Sections.{nodesFrom}
 use Rattle.unify.specs.Code.Stands.{extended}
 use Rattle.unify.specs.Code.Calling.{Answers}
 use Rattle.unify.proofs.CallingLaws.{unified-left, answers-node, nodes-given, answers-few, answers-ended}

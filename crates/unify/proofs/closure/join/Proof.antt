@@ -6,8 +6,8 @@ use native.Mathlib.Omega.{arith}
 use borrow.Author.Needs.{needs}
 use borrow.Author.Tests.{not-true, not-false}
 use Rattle.table.specs.Layout.{kindOf}
-use Rattle.unify.specs.Computed.Classes.{classOf}
-use Rattle.unify.specs.Code.Sections.{symbolTest}
+use Rattle.unification.specs.Computed.Classes.{classOf}
+use Rattle.unification.specs.Code.Sections.{symbolTest}
 use Rattle.unify.proofs.ClosingStepLaws.{kind-variable, kind-application, symbols-tested, join-already, join-variable, join-variable-second, join-clash, join-applications, log-room}
 use Rattle.unify.proofs.closure.join.Statement.{statement}
 use Rattle.unify.proofs.closure.join.Tie as tie

@@ -3,7 +3,7 @@ use Prim.Native.Nat.{_-_}
 use native.Mathlib.Omega.{arith}
 use borrow.Author.Needs.{needs}
 use lib.ListN.{length}
-use Rattle.unify.specs.Computed.Classes.{renamed}
+use Rattle.unification.specs.Computed.Classes.{renamed}
 use Rattle.unify.proofs.RelabelLaws.{Relabelled, relabel-none, relabel-next, relabel-end}
 use Rattle.unify.proofs.closure.relabel.Statement.{statement}
 use Rattle.unify.proofs.closure.relabel.Tie as tie

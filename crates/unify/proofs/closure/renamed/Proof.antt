@@ -1,6 +1,6 @@
 -- `unify::closure::renamed` meets its contract. Assumes nothing.
 use mathlib.Core.Path.{sym}
-use Rattle.unify.proofs.CountLaws.{renamed-here, renamed-other}
+use Rattle.unification.proofs.CountLaws.{renamed-here, renamed-other}
 use Rattle.unify.proofs.closure.renamed.Statement.{statement}
 use Rattle.unify.proofs.closure.renamed.Tie as tie
 

@@ -8,7 +8,7 @@ use borrow.Fn.Kinds.{In}
 use borrow.Fn.PlainCycle.{Measures, is, falls, and}
 use lib.ListN.{length-set}
 use Rattle.table.specs.Layout.{nodeCount}
-use Rattle.unify.specs.Code.Heads.{countBelow}
+use Rattle.unification.specs.Code.Heads.{countBelow}
 use Rattle.unify.specs.Code.Ordering.{isNew, Turn}
 use Rattle.unify.proofs.OrderLaws.{visited-cycle, visited-count, met-done, met-open, met-new, opened, fewer, visit-next, turned, place-left, finished}
 use Rattle.unify.proofs.order.visit.Reads as visit

@@ -4,7 +4,7 @@ use mathlib.Core.Path.{_≡_, refl, _∙_}
 use native.Mathlib.Omega.{arith}
 use borrow.Author.Needs.{needs}
 use lib.ListN.{length, take}
-use Rattle.unify.specs.Computed.Classes.{gather}
+use Rattle.unification.specs.Computed.Classes.{gather}
 use Rattle.unify.specs.Code.Present.{variableNames, presentBelow}
 use Rattle.unify.proofs.LeastLaws.{present-next, present-all}
 use Rattle.unify.proofs.present.list_variables.Statement.{statement}

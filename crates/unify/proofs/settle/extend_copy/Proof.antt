@@ -7,9 +7,9 @@ use lib.ListN.{length}
 use lib.Seq.{take-at, take-append-le}
 use Rattle.table.specs.Limits.{maxNodes}
 use Rattle.table.specs.Layout.{nodeCount}
+use Rattle.unification.proofs.ListLaws.{part-long}
 use Rattle.unify.specs.Code.Settled.{Settles}
 use Rattle.unify.specs.Code.Stands.{headsOf}
-use Rattle.unify.proofs.ListLaws.{part-long}
 use Rattle.unify.proofs.ExtensionLaws.{extends-clash, extends-occurs, extends-unified}
 use Rattle.unify.proofs.settle.extend_copy.Statement.{statement}
 use Rattle.unify.proofs.settle.extend_copy.Tie as tie

@@ -8,8 +8,8 @@ use borrow.Author.Needs.{needs}
 use lib.ListN.{length, take}
 use Rattle.table.specs.Limits.{maxNodes}
 use Rattle.table.specs.Layout.{nodeCount}
+use Rattle.unification.proofs.ListLaws.{part-long}
 use Rattle.unify.specs.Code.Present.{variableNames}
-use Rattle.unify.proofs.ListLaws.{part-long}
 use Rattle.unify.proofs.BindingLaws.{leaves, leaves-nothing}
 use Rattle.unify.proofs.words.bind.Statement.{statement}
 use Rattle.unify.proofs.words.bind.Tie as tie

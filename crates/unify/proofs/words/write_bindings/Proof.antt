@@ -1,7 +1,7 @@
 -- `unify::words::write_bindings` meets its contract: the room that is lent is as long as there are nodes. Assumes nothing.
 use mathlib.Core.Path.{_∙_}
 use borrow.Author.Needs.{needs}
-use Rattle.unify.proofs.ListLaws.{first-long}
+use Rattle.unification.proofs.ListLaws.{first-long}
 use Rattle.unify.proofs.words.write_bindings.Statement.{statement}
 use Rattle.unify.proofs.words.write_bindings.Tie as tie
 

@@ -1,0 +1,24 @@
+-- Laws of the definitions, from the bottom up.
+pub mod ListLaws
+pub mod MatchedLaws
+pub mod RisingLaws
+pub mod PigeonLaws
+pub mod NodeLaws
+pub mod CountLaws
+pub mod JoinedLaws
+pub mod VariableLaws
+pub mod FirstLaws
+pub mod PresentLaws
+pub mod SectionLaws
+pub mod TableLaws
+pub mod ClassLaws
+pub mod WalkLaws
+pub mod SolvedLaws
+pub mod HeadLaws
+pub mod ReadingLaws
+pub mod WordLaws
+pub mod OutcomeLaws
+pub mod PairLaws
+pub mod ValuedLaws
+pub mod AnswerLaws
+pub mod Calls
