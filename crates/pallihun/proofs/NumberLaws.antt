@@ -4,12 +4,12 @@ use mathlib.Core.Path.{_≡_, refl, sym, ap, _∙_}
 use mathlib.Core.Logic.{_⊎_, inl, inr}
 use native.Mathlib.Omega.{arith}
 use Rattle.table.proofs.AnswerLaws.{number-within, number-apart}
-use Rattle.unify.specs.declared.Unification.{Unification}
-use Rattle.unify.specs.declared.Unification.the-variants.{Unified, Clash, Occurs, Refused}
-use Rattle.unify.specs.Answer.{told}
-use Rattle.listing.specs.declared.Listing.{Listing}
-use Rattle.listing.specs.declared.Listing.the-variants.{Finished, Full, Refused as RefusedListing}
-use Rattle.listing.specs.Answer.{told as toldListing}
+use Rattle.unification.specs.declared.Unification.{Unification}
+use Rattle.unification.specs.declared.Unification.the-variants.{Unified, Clash, Occurs, Refused}
+use Rattle.unification.specs.Answer.{told}
+use Rattle.multiset_unification.specs.declared.Listing.{Listing}
+use Rattle.multiset_unification.specs.declared.Listing.the-variants.{Finished, Full, Refused as RefusedListing}
+use Rattle.multiset_unification.specs.Answer.{told as toldListing}
 use Rattle.pallihun.specs.declared.PallihunListing.{PallihunListing}
 use Rattle.pallihun.specs.Numbers.{numberOf, numbersOf}
 

@@ -1,7 +1,7 @@
 -- The numbers by which answers are given to callers in other languages. Checking a table has document 01's, by `told` of crate `table`.
 use Prim.Native.Nat.{ℕ}
-use Rattle.unify.specs.Outcome.{unified, clash, occurs}
-use Rattle.unify.specs.Answer.{Answer, ended, refused}
+use Rattle.unification.specs.Outcome.{unified, clash, occurs}
+use Rattle.unification.specs.Answer.{Answer, ended, refused}
 use Rattle.pallihun.specs.declared.PallihunListing.{PallihunListing}
 
 -- Unifying two nodes: 0 for unified, 1000 for a clash, 1001 for occurs, or the number of the refusal.

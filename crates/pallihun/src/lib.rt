@@ -7,12 +7,12 @@ ghost use lib.Dec.{eqb};
 ghost use lib.ListN.{length, take};
 ghost use Rattle.terms.specs.Substitution.{Substitution};
 ghost use Rattle.table.specs.Refusal.{refusal};
-ghost use Rattle.unify.specs.Node.{nodesIn};
-ghost use Rattle.unify.specs.Unifier.{value, MostGeneral};
-ghost use Rattle.unify.specs.Words.{Reads};
-ghost use Rattle.unify.specs.Answer.{variableCount, unification, lentAfter};
-ghost use Rattle.listing.specs.Answer.{listed, entryWords, lentAfter as listingAfter};
-ghost use Rattle.listing.specs.Page14.{Page14};
+ghost use Rattle.unification.specs.Node.{nodesIn};
+ghost use Rattle.unification.specs.Unifier.{value, MostGeneral};
+ghost use Rattle.unification.specs.Words.{Reads};
+ghost use Rattle.unification.specs.Answer.{variableCount, unification, lentAfter};
+ghost use Rattle.multiset_unification.specs.Answer.{listed, entryWords, lentAfter as listingAfter};
+ghost use Rattle.multiset_unification.specs.Page14.{Page14};
 ghost use Rattle.pallihun.specs.Numbers.{numberOf, numbersOf};
 use table::Node;
 

@@ -1,13 +1,13 @@
 // The numbers of the answers. Refusals have document 01's; so has full.
 ghost use mathlib.Core.Path.{_≡_};
 ghost use Rattle.table.specs.Answer.{told as checkedTold};
-ghost use Rattle.unify.specs.Answer.{told as unificationTold};
-ghost use Rattle.listing.specs.Answer.{told as listingTold};
+ghost use Rattle.unification.specs.Answer.{told as unificationTold};
+ghost use Rattle.multiset_unification.specs.Answer.{told as listingTold};
 ghost use Rattle.pallihun.specs.Numbers.{numberOf, numbersOf};
 use crate::PallihunListing;
-use listing::Listing;
+use multiset_unification::Listing;
 use table::Checked;
-use unify::Unification;
+use unification::Unification;
 
 // Work done: a table accepted, two nodes unified, a listing finished.
 const DONE: u32 = 0;

@@ -2,7 +2,7 @@
 use Prim.Native.Nat.{ℕ}
 use mathlib.Core.Path.{sym, ap, _∙_}
 use borrow.Author.Needs.{needs}
-use Rattle.listing.specs.Answer.{told}
+use Rattle.multiset_unification.specs.Answer.{told}
 use Rattle.pallihun.proofs.numbers.of_listing.Statement.{statement}
 use Rattle.pallihun.proofs.numbers.of_listing.Tie as tie
 
