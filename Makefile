@@ -4,7 +4,7 @@
 test:
 	@tools/test
 
-# Builds the program `list`, and prints its listing of two problems, each beside the problem in words.
+# Builds the program `list`, and prints its listing of three problems, each beside the problem in words.
 demo:
 	@tools/demo
 
@@ -24,7 +24,7 @@ compare:
 	rt check list examples
 	@tools/lib
 	cargo build --manifest-path tests/Cargo.toml --release --offline --locked
-	cargo build --manifest-path tests/in_process/Cargo.toml --release --offline --locked
+	PALLIHUN_LIB_DIR=$(CURDIR)/target/lib cargo build --manifest-path tests/in_process/Cargo.toml --release --offline --locked
 	@tools/compare --seed $(SEED) --count $(TABLES)
 
 # The files that a reader has to believe, with their lines of definitions.

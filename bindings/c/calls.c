@@ -1,10 +1,13 @@
 /*
- * Calls with NULL where a length is 0, and how much stack the deepest calls take. Ends in 'N passed, M failed'.
+ * Calls with NULL where a length is 0, calls beside pages that can't be read, and how much stack the
+ * deepest calls take. Ends in 'N passed, M failed'.
  */
 #include "expect.h"
 #include <pallihun.h>
 #include <string.h>
+#include <sys/mman.h>
 #include <ucontext.h>
+#include <unistd.h>
 
 enum { MOST_LENT = 16384, STACK_BYTES = 1 << 20 };
 
@@ -76,6 +79,53 @@ static void call_deep(void)
     deep_unification = pallihun_unify(deep, deep_words, 0, PALLIHUN_MAX_NODES - 1, lent_words, MOST_LENT);
 }
 
+/*
+ * Room for words, between two pages that can be neither read nor written: words lie at its start or at
+ * its end.
+ */
+typedef struct room {
+    uint32_t *start, *end;
+} room;
+
+static room between_pages(void)
+{
+    const size_t page = (size_t)sysconf(_SC_PAGESIZE), bytes = 64 * page;
+    unsigned char *const all = mmap(NULL, bytes + 2 * page, PROT_NONE, MAP_PRIVATE | MAP_ANONYMOUS, -1, 0);
+    mprotect(all + page, bytes, PROT_READ | PROT_WRITE);
+    return (room){(uint32_t *)(void *)(all + page), (uint32_t *)(void *)(all + page + bytes)};
+}
+
+/* A call that reads or writes beside its words ends the program. The page of the table is not writable. */
+static void call_beside_pages(const uint32_t *words, size_t count, size_t lent, uint32_t answer)
+{
+    const room table = between_pages(), out = between_pages();
+    memcpy(table.start, words, 4 * count);
+    memcpy(table.end - count, words, 4 * count);
+    mprotect(table.start, (size_t)(table.end - table.start) * 4, PROT_READ);
+    const uint32_t *const tables[] = {table.start, table.end - count};
+    uint32_t *const outs[] = {out.start, out.end - lent};
+    for (int i = 0; i < 4; i++) {
+        const pallihun_listing listing = pallihun_list(tables[i % 2], count, outs[i / 2], lent);
+        expect(listing.answer == answer, "a listing beside pages that can't be read");
+        expect(pallihun_check(tables[i % 2], count) == (answer == PALLIHUN_FULL ? 0 : answer), "a check there");
+        pallihun_unify(tables[i % 2], count, 0, 1, outs[i / 2], lent);
+        pallihun_unify(tables[i % 2], count, 0, PALLIHUN_MAX_NODES - 1, outs[i / 2], lent);
+        pallihun_entry_words(tables[i % 2], count);
+    }
+}
+
+static void read_beside_pages(void)
+{
+    const size_t count = deep_table(deep);
+    call_beside_pages(empty, 12, 0, PALLIHUN_FINISHED);
+    call_beside_pages(small, SMALL, 3, PALLIHUN_FINISHED);
+    call_beside_pages(small, SMALL, 2, PALLIHUN_FULL);
+    call_beside_pages(deep, count, MOST_LENT - 1, PALLIHUN_FULL);
+    call_beside_pages(deep, count - 1, 100, PALLIHUN_BROKEN_PAIR);
+    for (size_t words = 0; words < PALLIHUN_HEADER_WORDS; words++)
+        call_beside_pages(deep, words, 1, PALLIHUN_TOO_FEW_WORDS);
+}
+
 /* How many bytes of a painted stack a function changes. */
 static size_t stack_of(void (*function)(void))
 {
@@ -108,6 +158,7 @@ static void measure_stack(void)
 int main(void)
 {
     pass_null();
+    read_beside_pages();
     measure_stack();
     return finish();
 }

@@ -31,7 +31,8 @@ pub struct Count {
 }
 
 impl Count {
-    fn add(&mut self, made: &Made, difference: Option<String>) {
+    /// Counts a table, or a question about it, and prints the first differences.
+    pub fn add(&mut self, made: &Made, difference: Option<String>) {
         let Some(difference) = difference else {
             self.passed += 1;
             return;
