@@ -30,21 +30,27 @@ pub fn unifications(made: &Made) -> Vec<Question> {
 }
 
 fn accepted(random: &mut Random, problem: &Problem) -> Vec<Unification> {
+    let mut numbers = pairs_of_nodes(random, problem, FEW_NODES, SAMPLE);
+    numbers.push(not_both_nodes(random, problem.nodes.len()));
+    let variables = problem.variables().len();
+    numbers.into_iter().map(|(a, b)| Unification { a, b, lent: lent(random, variables) }).collect()
+}
+
+/// Pairs of nodes of a problem: each pair where it has no more than `few` nodes, otherwise `sample` pairs of terms of its
+/// sides and as many of any nodes.
+pub fn pairs_of_nodes(random: &mut Random, problem: &Problem, few: usize, sample: usize) -> Vec<(u32, u32)> {
     let nodes = problem.nodes.len();
     let mut pairs: Vec<(usize, usize)> = vec![];
-    if nodes <= FEW_NODES {
+    if nodes <= few {
         pairs.extend((0..nodes).flat_map(|a| (0..nodes).map(move |b| (a, b))));
     } else {
         let (left, right) = (&problem.left.terms, &problem.right.terms);
         if !left.is_empty() && !right.is_empty() {
-            pairs.extend((0..SAMPLE).map(|_| (random.pick(left), random.pick(right))));
+            pairs.extend((0..sample).map(|_| (random.pick(left), random.pick(right))));
         }
-        pairs.extend((0..SAMPLE).map(|_| (random.below(nodes), random.below(nodes))));
+        pairs.extend((0..sample).map(|_| (random.below(nodes), random.below(nodes))));
     }
-    let mut numbers: Vec<(u32, u32)> = pairs.into_iter().map(|(a, b)| (a as u32, b as u32)).collect();
-    numbers.push(not_both_nodes(random, nodes));
-    let variables = problem.variables().len();
-    numbers.into_iter().map(|(a, b)| Unification { a, b, lent: lent(random, variables) }).collect()
+    pairs.into_iter().map(|(a, b)| (a as u32, b as u32)).collect()
 }
 
 /// Two numbers of which the first, the second or both are no nodes.

@@ -2,6 +2,7 @@
 
 use crate::expected::Listed;
 use second::operations::LENT;
+use second::pairs::pairs_of_nodes;
 use second::random::Random;
 use second::table::Problem;
 
@@ -19,17 +20,7 @@ pub fn pairs(random: &mut Random, table: &Result<Problem, u32>) -> Vec<(u32, u32
     // Refusals 1 to 7 go before 8.
     let Ok(problem) = table else { return vec![(random.below(4) as u32, 0), (u32::MAX, 0)] };
     let nodes = problem.nodes.len();
-    let mut pairs: Vec<(usize, usize)> = vec![];
-    if nodes <= FEW_NODES {
-        pairs.extend((0..nodes).flat_map(|a| (0..nodes).map(move |b| (a, b))));
-    } else {
-        let (left, right) = (&problem.left.terms, &problem.right.terms);
-        if !left.is_empty() && !right.is_empty() {
-            pairs.extend((0..SAMPLE).map(|_| (random.pick(left), random.pick(right))));
-        }
-        pairs.extend((0..SAMPLE).map(|_| (random.below(nodes), random.below(nodes))));
-    }
-    let mut numbers: Vec<(u32, u32)> = pairs.into_iter().map(|(a, b)| (a as u32, b as u32)).collect();
+    let mut numbers = pairs_of_nodes(random, problem, FEW_NODES, SAMPLE);
     let node = random.below(nodes.max(1)) as u32;
     for wrong in [nodes as u32, random.pick(&[nodes as u32 + 1, 4 * nodes as u32, 256, 65536, u32::MAX])] {
         numbers.extend([(wrong, node), (node, wrong), (wrong, wrong)]);
