@@ -37,13 +37,30 @@ static char *spell_words(char *text, const uint32_t *words, size_t count)
     return text;
 }
 
+/* How often each number was answered by each operation, and how often a listing was finished with no entry. */
+enum { CHECK, UNIFY, LIST, OPERATIONS };
+static unsigned met[OPERATIONS][PALLIHUN_OCCURS + 1], met_empty;
+
+static void meet(int operation, uint32_t answer)
+{
+    if (answer <= PALLIHUN_OCCURS)
+        met[operation][answer]++;
+}
+
 static char *spell_refusal(char *text, uint32_t answer)
 {
     return text + sprintf(text, "refused %u", (unsigned)answer);
 }
 
+static char *spell_check(char *text, uint32_t answer)
+{
+    meet(CHECK, answer);
+    return answer == PALLIHUN_ACCEPTED ? text + sprintf(text, "accepted") : spell_refusal(text, answer);
+}
+
 static char *spell_unification(char *text, uint32_t answer)
 {
+    meet(UNIFY, answer);
     switch (answer) {
     case PALLIHUN_UNIFIED:
         return text + sprintf(text, "unified");
@@ -58,6 +75,8 @@ static char *spell_unification(char *text, uint32_t answer)
 
 static char *spell_listing(char *text, pallihun_listing listing)
 {
+    meet(LIST, listing.answer);
+    met_empty += listing.answer == PALLIHUN_FINISHED && listing.entries == 0;
     switch (listing.answer) {
     case PALLIHUN_FINISHED:
         return text + sprintf(text, "entries %llu", (unsigned long long)listing.entries);
@@ -84,24 +103,15 @@ static void answer(const char *question, char *text)
     } else if (sscanf(question, "list with %u lent", &lent) == 1) {
         text = spell_listing(text, pallihun_list(table, words, out, lent));
     } else {
-        const uint32_t checked = pallihun_check(table, words);
-        text = checked == PALLIHUN_ACCEPTED ? text + sprintf(text, "accepted") : spell_refusal(text, checked);
+        text = spell_check(text, pallihun_check(table, words));
     }
     expect(lent == MOST_LENT || out[lent] == 9000 + lent, "the word behind the lent ones is as it was");
     strcpy(spell_words(text, out, lent), "\n");
 }
 
-/* Answers that have to be met, each at least once, by the text behind the name of a line. */
-static const char *const kinds[] = {
-    ": accepted", ": refused 1", ": refused 2", ": refused 3", ": refused 4", ": refused 5", ": refused 6", ": refused 7",
-    ": refused 8", ": refused 9", ": unified", ": clash", ": occurs", ": entries 0", ": entries 1", ": full ",
-};
-enum { KINDS = sizeof kinds / sizeof kinds[0] };
-
 static void ask_lines(const char *questions, const char *answers)
 {
     static char question[LINE_BYTES], expected[LINE_BYTES], found[LINE_BYTES];
-    unsigned met[KINDS] = {0};
     FILE *const q = fopen(questions, "r"), *const a = fopen(answers, "r");
     if (q == NULL || a == NULL) {
         expect(0, "the files of questions and answers are there");
@@ -111,14 +121,23 @@ static void ask_lines(const char *questions, const char *answers)
         answer(question, found);
         const int same = fgets(expected, LINE_BYTES, a) != NULL && strcmp(expected, found) == 0;
         expect(same, found);
-        for (int kind = 0; kind < KINDS; kind++)
-            met[kind] += strstr(found, kinds[kind]) != NULL;
     }
     expect(fgets(expected, LINE_BYTES, a) == NULL, "there are as many answers as questions");
-    for (int kind = 0; kind < KINDS; kind++)
-        expect(met[kind] > 0, kinds[kind]);
     fclose(q);
     fclose(a);
+}
+
+/* Each operation has to have given each of its answers. */
+static void expect_all_met(void)
+{
+    for (int answer = PALLIHUN_ACCEPTED; answer <= PALLIHUN_WRONG_LABEL; answer++) {
+        expect(met[CHECK][answer] > 0, "every answer of check is met");
+        expect(met[LIST][answer] > 0, "every answer of list is met");
+    }
+    for (int answer = PALLIHUN_UNIFIED; answer <= PALLIHUN_TOO_FEW_LENT; answer++)
+        expect(met[UNIFY][answer] > 0, "every answer of unify is met");
+    expect(met[UNIFY][PALLIHUN_CLASH] > 0 && met[UNIFY][PALLIHUN_OCCURS] > 0, "clash and occurs are met");
+    expect(met[LIST][PALLIHUN_FULL] > 0 && met_empty > 0, "full, and finished with no entry, are met");
 }
 
 int main(int argc, char **argv)
@@ -128,5 +147,6 @@ int main(int argc, char **argv)
         return 2;
     }
     ask_lines(argv[1], argv[2]);
+    expect_all_met();
     return finish();
 }
