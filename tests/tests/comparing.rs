@@ -114,8 +114,8 @@ fn script(name: &str, line: &str) -> String {
 }
 
 #[track_caller]
-fn fails_always(program: &str, why: &str) {
-    let output = compare(program, "", &["--count", "20", "--patience", "1"]);
+fn fails_always(program: &str, patience: &str, why: &str) {
+    let output = compare(program, "", &["--count", "20", "--patience", patience]);
     assert_eq!(counts(&output), (0, 20));
     assert!(!output.status.success());
     assert!(String::from_utf8_lossy(&output.stdout).contains(why));
@@ -123,13 +123,13 @@ fn fails_always(program: &str, why: &str) {
 
 #[test]
 fn a_program_that_does_not_end_fails() {
-    fails_always(&script("sleeps", "exec sleep 30"), "no end in 1 seconds");
-    fails_always(&script("closes", "exec 1>&-; exec sleep 30"), "no end in 1 seconds");
+    fails_always(&script("sleeps", "exec sleep 30"), "1", "no end in 1 seconds");
+    fails_always(&script("closes", "exec 1>&-; exec sleep 30"), "1", "no end in 1 seconds");
 }
 
 #[test]
 fn a_program_that_is_killed_fails() {
-    fails_always(&script("killed", "kill -9 $$"), "ended by signal 9");
+    fails_always(&script("killed", "kill -9 $$"), "20", "ended by signal 9");
 }
 
 #[test]
