@@ -2,11 +2,13 @@
 use Prim.Native.Nat.{ℕ, _<_, _≤_}
 use mathlib.Core.Path.{_≡_, refl, sym, ap, _∙_}
 use mathlib.Core.Logic.{_⊎_, inl, inr}
+use mathlib.Core.List.{List}
 use native.Mathlib.Omega.{arith}
 use Rattle.table.proofs.AnswerLaws.{number-within, number-apart}
 use Rattle.unification.specs.declared.Unification.{Unification}
 use Rattle.unification.specs.declared.Unification.the-variants.{Unified, Clash, Occurs, Refused}
-use Rattle.unification.specs.Answer.{told}
+use Rattle.unification.specs.Answer.{told, unification}
+use Rattle.unification.proofs.AnswerLaws.{told-there}
 use Rattle.multiset_unification.specs.declared.Listing.{Listing}
 use Rattle.multiset_unification.specs.declared.Listing.the-variants.{Finished, Full, Refused as RefusedListing}
 use Rattle.multiset_unification.specs.Answer.{told as toldListing}
@@ -50,3 +52,13 @@ number-of-one (Refused r) Unified e = absurd (omega (arith, e, number-within r .
 number-of-one (Refused r) Clash e = absurd (omega (arith, e, number-within r .1))
 number-of-one (Refused r) Occurs e = absurd (omega (arith, e, number-within r .1))
 number-of-one (Refused r) (Refused s) e = ap Refused (number-apart r s e)
+
+-- no other number is answered: 0 to 9, 1000 or 1001
+pub number-known : (t : List ℕ) (a b lent : ℕ) → (numberOf (unification t a b lent) ≤ 9) ⊎ ((numberOf (unification t a b lent) ≡ 1000) ⊎ (numberOf (unification t a b lent) ≡ 1001))
+number-known t a b lent = let r = told-there t a b lent in go (r .0) (ap numberOf (r .1))
+  where
+    go : (u : Unification) → numberOf (told u) ≡ numberOf (unification t a b lent) → (numberOf (unification t a b lent) ≤ 9) ⊎ ((numberOf (unification t a b lent) ≡ 1000) ⊎ (numberOf (unification t a b lent) ≡ 1001))
+    go Unified e = inl (omega (arith, e))
+    go Clash e = inr (inl (sym e))
+    go Occurs e = inr (inr (sym e))
+    go (Refused r) e = inl (omega (arith, e, number-within r .1))
