@@ -9,13 +9,16 @@ use multiset_unification::Listing;
 use table::Checked;
 use unification::Unification;
 
-// Work done: a table accepted, two nodes unified, a listing finished.
+// The work is done: a table is accepted, two nodes are unified, a listing is finished.
 const DONE: u32 = 0;
-// A listing that is full.
+
+// A listing is full.
 const FULL: u32 = 10;
-// Two nodes that clash, and two of which one occurs in the other: document 01 has words for these.
+
+// Two nodes clash. Document 01 has a word for this and the next, and no number.
 const CLASH: u32 = 1000;
 
+// Two nodes do not clash, and a class reaches itself: occurs.
 const OCCURS: u32 = 1001;
 
 // The number of what checking a table answers.
