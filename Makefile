@@ -1,4 +1,4 @@
-.PHONY: test demo lib install compare believed
+.PHONY: test demo lib install compare bench believed
 
 # Proves every crate from nothing, tries the edits that must be refused, and runs the tests. Ends in 'N passed, 0 failed'.
 test:
@@ -19,13 +19,18 @@ install: lib
 
 # Holds the proved programs and the library against the second program for longer: on TABLES tables of the seed SEED, for each comparison.
 SEED ?= 2
-TABLES ?= 20000
+compare: TABLES ?= 20000
 compare:
 	rt check list examples
 	@tools/lib
 	cargo build --manifest-path tests/Cargo.toml --release --offline --locked
 	PALLIHUN_LIB_DIR=$(CURDIR)/target/lib cargo build --manifest-path tests/in_process/Cargo.toml --release --offline --locked
 	@tools/compare --seed $(SEED) --count $(TABLES)
+
+# Times the library on the tables that bench/tables.py writes, or on those of the folder TABLES; with BASELINE=PROGRAM also that program, in
+# the same rounds. GROWTH=1: tables that grow; LENT=N: so many words are lent.
+bench:
+	@tools/bench $(if $(TABLES),--tables "$(TABLES)") $(if $(BASELINE),--baseline "$(BASELINE)") $(if $(GROWTH),--growth) $(if $(LENT),--lent "$(LENT)")
 
 # The files that a reader has to believe, with their lines of definitions.
 believed:
