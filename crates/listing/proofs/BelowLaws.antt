@@ -17,14 +17,14 @@ use Rattle.table.specs.Code.Accepted.{Accepted}
 use Rattle.terms.specs.Term.{var}
 use Rattle.terms.specs.Substitution.{Substitution}
 use Rattle.unification.specs.Node.{Node, nodesIn}
-use Rattle.unification.specs.Unifier.{Unifies, Unifiable}
+use Rattle.unification.specs.Unifier.{Unifies}
 use Rattle.unification.specs.Code.Given.{WellFormed, Inside}
 use Rattle.unification.specs.Outcome.{Outcome, unified, clash, occurs}
 use Rattle.unification.specs.Computed.Variables.{variablesOf}
 use Rattle.unification.specs.Computed.Unifying.{outcome, wordsOf}
 use Rattle.unification.proofs.AnswerLaws.{words-counted}
 use Rattle.unification.proofs.OutcomeLaws.{outcome-unified}
-use Rattle.unification.proofs.PairLaws.{more-none, same-unifiers, same-outcome, same-words}
+use Rattle.unification.proofs.PairLaws.{more-none, same-outcome, same-words}
 use Rattle.unification.proofs.TableLaws.{well-formed, left-node, right-node}
 use Rattle.multiset_unification.specs.Choice.{pairs}
 use Rattle.multiset_unification.specs.Entry.{pairsOf, entryOf}
@@ -33,6 +33,7 @@ use Rattle.multiset_unification.specs.Computed.Listing.{kept, choicesOf, comple
 use Rattle.multiset_unification.proofs.ChoiceLaws.{choices-are}
 use Rattle.multiset_unification.proofs.EntryLaws.{Choice, pairs-inside}
 use Rattle.listing.specs.Code.Writing.{marked}
+use Rattle.listing.specs.Code.Branch.{pairedBy}
 use Rattle.listing.specs.Code.Walk.{over, ifUnified, onDigit, below}
 use Rattle.listing.proofs.HopelessLaws.{over-none}
 
@@ -58,7 +59,7 @@ module _ {A B : Type 0} where
   flat-none f (x ∷ xs) h = rw (h x, flat-none f xs h)
 
   -- one element for each
-  flat-one : (f : A → B) (xs : List A) → flatMap (λ x. f x ∷ []) xs ≡ map f xs
+  pub flat-one : (f : A → B) (xs : List A) → flatMap (λ x. f x ∷ []) xs ≡ map f xs
   unfolding flatMap
   flat-one f [] = refl
   flat-one f (x ∷ xs) = ap (f x ∷_) (flat-one f xs)
@@ -70,7 +71,7 @@ flat-map f g [] = refl
 flat-map {C = C} f g (x ∷ xs) = ap (λ (zs : List C). f (g x) ++ zs) (flat-map f g xs)
 
 -- what strings that branch have, they have digit by digit
-flat-branch : (f : List ℕ → List (List ℕ)) (d c : ℕ) (g : ℕ → List (List ℕ)) → flatMap f (branch d c g) ≡ over d c (λ e. flatMap (λ es. f (e ∷ es)) (g e))
+pub flat-branch : (f : List ℕ → List (List ℕ)) (d c : ℕ) (g : ℕ → List (List ℕ)) → flatMap f (branch d c g) ≡ over d c (λ e. flatMap (λ es. f (e ∷ es)) (g e))
 unfolding flatMap branch over
 flat-branch f d zero g = refl
 flat-branch f d (suc c) g =
@@ -79,7 +80,7 @@ flat-branch f d (suc c) g =
     ∙ ap (λ (zs : List (List ℕ)). flatMap (λ es. f (d ∷ es)) (g d) ++ zs) (flat-branch f (suc d) c g)
 
 -- what digits have depends on them alone
-over-same : (d c : ℕ) (f g : ℕ → List (List ℕ)) → ((e : ℕ) → d ≤ e → f e ≡ g e) → over d c f ≡ over d c g
+pub over-same : (d c : ℕ) (f g : ℕ → List (List ℕ)) → ((e : ℕ) → d ≤ e → f e ≡ g e) → over d c f ≡ over d c g
 unfolding over
 over-same d zero f g h = refl
 over-same d (suc c) f g h =
@@ -147,22 +148,16 @@ marked-rights k m marks used s =
     marked-from k marks used 0 (λ j p q e. let n = s .size in let x : j ≡ p = omega (arith, e) in rw (← x) (s .paired j (omega (arith, n, q))))
     ∙ ap (rights k used 0) (s .size)
 
--- The pairs of digits es of further left terms ls, one after the other before the pairs ps.
-unfoldable trail : List ℕ → List ℕ → List ℕ → List (ℕ × ℕ) → List (ℕ × ℕ)
-trail [] rs es ps = ps
-trail (a ∷ ls) rs [] ps = ps
-trail (a ∷ ls) rs (d ∷ es) ps = trail ls rs es (cond (leb d (length rs)) ((a, word rs (d - 1)) ∷ ps) ps)
-
 -- The terms are nodes.
 abbrev Nodes : List Node → List ℕ → Type 0
 Nodes ns ts = (i : ℕ) → i < length ts → word ts i < length ns
 
 -- What is kept of a string of digits, where the pairs are ps before it: an entry g of its digits and pairs.
 abbrev keptAfter : List Node → List ℕ → List ℕ → List (ℕ × ℕ) → (List ℕ → List (ℕ × ℕ) → List ℕ) → List ℕ → List (List ℕ)
-keptAfter ns rs ls ps g es = kept (outcome ns (trail ls rs es ps)) (g es (trail ls rs es ps))
+keptAfter ns rs ls ps g es = kept (outcome ns (pairedBy ls rs es ps)) (g es (pairedBy ls rs es ps))
 
 -- a further pair of nodes
-inside-more : (ns : List Node) (a b : ℕ) (ps : List (ℕ × ℕ)) → a < length ns → b < length ns → Inside ns ps → Inside ns ((a, b) ∷ ps)
+pub inside-more : (ns : List Node) (a b : ℕ) (ps : List (ℕ × ℕ)) → a < length ns → b < length ns → Inside ns ps → Inside ns ((a, b) ∷ ps)
 inside-more ns a b ps p q h x y (List·Memᴰ·head e) =
     (rw (ap (λ (z : ℕ × ℕ). z .0) e) p, rw (ap (λ (z : ℕ × ℕ). z .1) e) q)
 inside-more ns a b ps p q h x y (List·Memᴰ·tail m) = h x y m
@@ -183,7 +178,7 @@ module _ (ns : List Node) (w : WellFormed ns) (rs : List ℕ) (right : Nodes ns 
 
   -- so of the strings after them none is kept
   none-after : (ls used : List ℕ) (ps : List (ℕ × ℕ)) (g : List ℕ → List (ℕ × ℕ) → List ℕ) → Nodes ns ls → Inside ns ps → (outcome ns ps ≡ unified → ⊥) → flatMap (keptAfter ns rs ls ps g) (lefts (length rs) k l used (length ls)) ≡ []
-  unfolding flatMap trail lefts
+  unfolding flatMap pairedBy lefts
   none-after [] used ps g left h n = flat-none (keptAfter ns rs [] ps g) (lefts (length rs) k l used 0) (λ es. kept-none (outcome ns ps) (g es ps) n)
   none-after (a ∷ ls) used ps g left h n =
       flat-branch (keptAfter ns rs (a ∷ ls) ps g) 1 (length rs + l) (λ d. cond (leb d (length rs) && among d used) [] (lefts (length rs) k l (d ∷ used) (length ls)))
@@ -210,7 +205,7 @@ module _ (ns : List Node) (w : WellFormed ns) (rs : List ℕ) (right : Nodes ns 
     rest-after ds d ps marks used h o s =
         rest (ds ++ d ∷ []) ps marks used h o s
         ∙ flat-same (keptAfter ns rs ls ps (entryAfter (ds ++ d ∷ []))) (keptAfter ns rs ls ps (λ es. entryAfter ds (d ∷ es))) (lefts (length rs) k l used (length ls))
-        (λ es m. ap (λ (zs : List ℕ). kept (outcome ns (trail ls rs es ps)) (zs ++ wordsOf ns (trail ls rs es ps))) (append-assoc ds (d ∷ []) es))
+        (λ es m. ap (λ (zs : List ℕ). kept (outcome ns (pairedBy ls rs es ps)) (zs ++ wordsOf ns (pairedBy ls rs es ps))) (append-assoc ds (d ∷ []) es))
 
     -- where a pair has come to ps, there is nothing below unless they are unified
     after-pair : (ds : List ℕ) (d : ℕ) (ps : List (ℕ × ℕ)) (marks used : List ℕ) → Inside ns ps → Marks (length rs) marks used → ifUnified (outcome ns ps) (below ns rs k l ls (ds ++ d ∷ []) ps marks) ≡ flatMap (keptAfter ns rs ls ps (λ es. entryAfter ds (d ∷ es))) (lefts (length rs) k l used (length ls))
@@ -227,7 +222,7 @@ module _ (ns : List Node) (w : WellFormed ns) (rs : List ℕ) (right : Nodes ns 
 
     -- what a digit of the next left term has
     after-digit : (a : ℕ) → a < length ns → (ds : List ℕ) (ps : List (ℕ × ℕ)) (marks used : List ℕ) → Inside ns ps → outcome ns ps ≡ unified → Marks (length rs) marks used → (d : ℕ) → 1 ≤ d → onDigit ns rs (below ns rs k l ls) ds ps marks a d ≡ flatMap (λ es. keptAfter ns rs (a ∷ ls) ps (entryAfter ds) (d ∷ es)) (cond (leb d (length rs) && among d used) [] (lefts (length rs) k l (d ∷ used) (length ls)))
-    unfolding onDigit trail flatMap
+    unfolding onDigit pairedBy flatMap
     after-digit a p ds ps marks used h o s d q = pick (leb d (length rs)) refl (among d used) refl
       where
         mark : d ≤ length rs → eqb (word marks (d - 1)) 0 ≡ among d used
@@ -245,7 +240,7 @@ module _ (ns : List Node) (w : WellFormed ns) (rs : List ℕ) (right : Nodes ns 
 
   -- what is below a branch is what is kept of its strings of digits
   kept-below : (ls : List ℕ) → Nodes ns ls → KeptBelow ls
-  unfolding below lefts trail kept
+  unfolding below lefts pairedBy kept
   kept-below [] left ds ps marks used h o s =
       ap (map (λ es. entryAfter ds es ps)) (marked-rights k (length rs) marks used s)
       ∙ sym (flat-one (λ es. entryAfter ds es ps) (rights k used 0 (length rs)))
@@ -257,35 +252,35 @@ module _ (ns : List Node) (w : WellFormed ns) (rs : List ℕ) (right : Nodes ns 
       ∙ sym (flat-branch (keptAfter ns rs (a ∷ ls) ps (entryAfter ds)) 1 (length rs + l) (λ d. cond (leb d (length rs) && among d used) [] (lefts (length rs) k l (d ∷ used) (length ls))))
 
 -- further digits keep the pairs before them
-trail-kept : (ls rs es : List ℕ) (ps : List (ℕ × ℕ)) (p : ℕ × ℕ) → List·Memᴰ p ps → List·Memᴰ p (trail ls rs es ps)
-unfolding trail
-trail-kept [] rs es ps p m = m
-trail-kept (a ∷ ls) rs [] ps p m = m
-trail-kept (a ∷ ls) rs (d ∷ es) ps p m = trail-kept ls rs es _ p (pick (leb d (length rs)))
+paired-kept : (ls rs es : List ℕ) (ps : List (ℕ × ℕ)) (p : ℕ × ℕ) → List·Memᴰ p ps → List·Memᴰ p (pairedBy ls rs es ps)
+unfolding pairedBy
+paired-kept [] rs es ps p m = m
+paired-kept (a ∷ ls) rs [] ps p m = m
+paired-kept (a ∷ ls) rs (d ∷ es) ps p m = paired-kept ls rs es _ p (pick (leb d (length rs)))
   where
     pick : (b : Bool) → List·Memᴰ p (cond b ((a, word rs (d - 1)) ∷ ps) ps)
     pick true = List·Memᴰ·tail m
     pick false = m
 
 -- and add their own
-trail-pairs : (ls rs es : List ℕ) (ps : List (ℕ × ℕ)) (p : ℕ × ℕ) → List·Memᴰ p (pairs ls rs es) → List·Memᴰ p (trail ls rs es ps)
-unfolding trail pairs
-trail-pairs [] rs es ps p m = absurd (List·Memᴰ·not-nil m)
-trail-pairs (a ∷ ls) rs [] ps p m = absurd (List·Memᴰ·not-nil m)
-trail-pairs (a ∷ ls) rs (d ∷ es) ps p m =
-    pick (leb d (length rs)) m (trail-pairs ls rs es ((a, word rs (d - 1)) ∷ ps) p) (trail-pairs ls rs es ps p)
+paired-pairs : (ls rs es : List ℕ) (ps : List (ℕ × ℕ)) (p : ℕ × ℕ) → List·Memᴰ p (pairs ls rs es) → List·Memᴰ p (pairedBy ls rs es ps)
+unfolding pairedBy pairs
+paired-pairs [] rs es ps p m = absurd (List·Memᴰ·not-nil m)
+paired-pairs (a ∷ ls) rs [] ps p m = absurd (List·Memᴰ·not-nil m)
+paired-pairs (a ∷ ls) rs (d ∷ es) ps p m =
+    pick (leb d (length rs)) m (paired-pairs ls rs es ((a, word rs (d - 1)) ∷ ps) p) (paired-pairs ls rs es ps p)
   where
-    pick : (b : Bool) → List·Memᴰ p (cond b ((a, word rs (d - 1)) ∷ pairs ls rs es) (pairs ls rs es)) → (List·Memᴰ p (pairs ls rs es) → List·Memᴰ p (trail ls rs es ((a, word rs (d - 1)) ∷ ps))) → (List·Memᴰ p (pairs ls rs es) → List·Memᴰ p (trail ls rs es ps)) → List·Memᴰ p (trail ls rs es (cond b ((a, word rs (d - 1)) ∷ ps) ps))
-    pick true (List·Memᴰ·head e) x y = trail-kept ls rs es ((a, word rs (d - 1)) ∷ ps) p (List·Memᴰ·head e)
+    pick : (b : Bool) → List·Memᴰ p (cond b ((a, word rs (d - 1)) ∷ pairs ls rs es) (pairs ls rs es)) → (List·Memᴰ p (pairs ls rs es) → List·Memᴰ p (pairedBy ls rs es ((a, word rs (d - 1)) ∷ ps))) → (List·Memᴰ p (pairs ls rs es) → List·Memᴰ p (pairedBy ls rs es ps)) → List·Memᴰ p (pairedBy ls rs es (cond b ((a, word rs (d - 1)) ∷ ps) ps))
+    pick true (List·Memᴰ·head e) x y = paired-kept ls rs es ((a, word rs (d - 1)) ∷ ps) p (List·Memᴰ·head e)
     pick true (List·Memᴰ·tail n) x y = x n
     pick false n x y = y n
 
 -- and no others
-trail-from : (ls rs es : List ℕ) (ps : List (ℕ × ℕ)) (p : ℕ × ℕ) → List·Memᴰ p (trail ls rs es ps) → List·Memᴰ p ps ⊎ List·Memᴰ p (pairs ls rs es)
-unfolding trail pairs
-trail-from [] rs es ps p m = inl m
-trail-from (a ∷ ls) rs [] ps p m = inl m
-trail-from (a ∷ ls) rs (d ∷ es) ps p m = pick (leb d (length rs)) (trail-from ls rs es _ p m)
+paired-from : (ls rs es : List ℕ) (ps : List (ℕ × ℕ)) (p : ℕ × ℕ) → List·Memᴰ p (pairedBy ls rs es ps) → List·Memᴰ p ps ⊎ List·Memᴰ p (pairs ls rs es)
+unfolding pairedBy pairs
+paired-from [] rs es ps p m = inl m
+paired-from (a ∷ ls) rs [] ps p m = inl m
+paired-from (a ∷ ls) rs (d ∷ es) ps p m = pick (leb d (length rs)) (paired-from ls rs es _ p m)
   where
     pick : (b : Bool) → List·Memᴰ p (cond b ((a, word rs (d - 1)) ∷ ps) ps) ⊎ List·Memᴰ p (pairs ls rs es) → List·Memᴰ p ps ⊎ List·Memᴰ p (cond b ((a, word rs (d - 1)) ∷ pairs ls rs es) (pairs ls rs es))
     pick true (inl (List·Memᴰ·head e)) = inr (List·Memᴰ·head e)
@@ -297,11 +292,11 @@ trail-from (a ∷ ls) rs (d ∷ es) ps p m = pick (leb d (length rs)) (trail-fro
 module _ (t : List ℕ) (g : Accepted t) where
   -- The pairs of the digits as the walk has them, the latest first.
   abbrev met : List ℕ → List (ℕ × ℕ)
-  met es = trail (leftTermsOf t) (rightTermsOf t) es []
+  met es = pairedBy (leftTermsOf t) (rightTermsOf t) es []
 
   -- they are pairs of the digits
   met-from : (es : List ℕ) (p : ℕ × ℕ) → List·Memᴰ p (met es) → List·Memᴰ p (pairsOf t es)
-  met-from es p m = go (trail-from (leftTermsOf t) (rightTermsOf t) es [] p m)
+  met-from es p m = go (paired-from (leftTermsOf t) (rightTermsOf t) es [] p m)
     where
       go : List·Memᴰ p [] ⊎ List·Memᴰ p (pairsOf t es) → List·Memᴰ p (pairsOf t es)
       go (inl n) = absurd (List·Memᴰ·not-nil n)
@@ -314,7 +309,7 @@ module _ (t : List ℕ) (g : Accepted t) where
       let f = well-formed t g in
       let i = pairs-inside t g es c in
       let h : Inside (nodesIn t) (met es) = λ a b m. i a b (met-from es (a, b) m) in
-      let y = trail-pairs (leftTermsOf t) (rightTermsOf t) es [] in
+      let y = paired-pairs (leftTermsOf t) (rightTermsOf t) es [] in
       kept-same (outcome (nodesIn t) (met es)) (es ++ wordsOf (nodesIn t) (met es)) (es ++ wordsOf (nodesIn t) (pairsOf t es))
       (λ o. ap (λ (ws : List ℕ). es ++ ws) (same-words (nodesIn t) f (met es) (pairsOf t es) h i (met-from es) y (outcome-unified (nodesIn t) f (met es) h .0 o)))
       ∙ ap (λ (o : Outcome). kept o (es ++ wordsOf (nodesIn t) (pairsOf t es))) (same-outcome (nodesIn t) f (met es) (pairsOf t es) h i (met-from es) y)
@@ -410,71 +405,29 @@ flatten-long w (e ∷ es) h =
     omega (arith, x, y, u, v)
 
 -- pairs that are not unified have no entries
-not-unified : (o : Outcome) (es : List (List ℕ)) → (o ≡ unified → ⊥) → ifUnified o es ≡ []
+pub not-unified : (o : Outcome) (es : List (List ℕ)) → (o ≡ unified → ⊥) → ifUnified o es ≡ []
 unfolding ifUnified
 not-unified unified es h = absurd (h refl)
 not-unified clash es h = refl
 not-unified occurs es h = refl
 
--- only whether pairs are unified decides whether they have entries
-if-same : (o p : Outcome) (es fs : List (List ℕ)) → o ≡ unified ↔ (p ≡ unified) → (o ≡ unified → es ≡ fs) → ifUnified o es ≡ ifUnified p fs
-unfolding ifUnified
-if-same unified p es fs e h = rw (e .0 refl) (h refl)
-if-same clash p es fs e h =
-    sym (not-unified p fs (λ z. let y = e .1 z in let x : _≡_ {A = ℕ} 0 1 = cc in omega arith))
-if-same occurs p es fs e h =
-    sym (not-unified p fs (λ z. let y = e .1 z in let x : _≡_ {A = ℕ} 0 1 = cc in omega arith))
-
-module _ (ns : List Node) (w : WellFormed ns) (rs : List ℕ) (right : Nodes ns rs) (k l : ℕ) where
+module _ (ns : List Node) where
   -- Two lists of pairs have the same unifiers.
   abbrev Same : List (ℕ × ℕ) → List (ℕ × ℕ) → Type 0
   Same ps qs = (σ : Substitution) → Unifies ns ps σ ↔ Unifies ns qs σ
 
+  -- what unifies one unifies the other, with one pair more
   one-more : (p : ℕ × ℕ) (ps qs : List (ℕ × ℕ)) (σ : Substitution) → (Unifies ns ps σ → Unifies ns qs σ) → Unifies ns (p ∷ ps) σ → Unifies ns (p ∷ qs) σ
   one-more p ps qs σ f u x y (List·Memᴰ·head e) = u x y (List·Memᴰ·head e)
   one-more p ps qs σ f u x y (List·Memᴰ·tail m) = f (λ a b n. u a b (List·Memᴰ·tail n)) x y m
 
   -- so they have with one pair more
-  same-more : (p : ℕ × ℕ) (ps qs : List (ℕ × ℕ)) → Same ps qs → Same (p ∷ ps) (p ∷ qs)
+  pub same-more : (p : ℕ × ℕ) (ps qs : List (ℕ × ℕ)) → Same ps qs → Same (p ∷ ps) (p ∷ qs)
   same-more p ps qs e σ = (one-more p ps qs σ (e σ .0), one-more p qs ps σ (e σ .1))
 
   -- both are unified or neither is
-  same-unified : (ps qs : List (ℕ × ℕ)) → Inside ns ps → Inside ns qs → Same ps qs → outcome ns ps ≡ unified ↔ (outcome ns qs ≡ unified)
-  same-unified ps qs h i e =
+  pub same-unified : WellFormed ns → (ps qs : List (ℕ × ℕ)) → Inside ns ps → Inside ns qs → Same ps qs → outcome ns ps ≡ unified ↔ (outcome ns qs ≡ unified)
+  same-unified w ps qs h i e =
       let a = outcome-unified ns w ps h in
       let b = outcome-unified ns w qs i in
       ((λ z. let u = a .0 z in b .1 (u .0, e (u .0) .0 (u .1))), (λ z. let u = b .0 z in a .1 (u .0, e (u .0) .1 (u .1))))
-
-  -- Pairs with the same unifiers have the same entries below them, with left terms ls to go.
-  abbrev SameBelow : List ℕ → Type 0
-  SameBelow ls = (ds : List ℕ) (ps qs : List (ℕ × ℕ)) (marks : List ℕ) → Inside ns ps → Inside ns qs → Same ps qs → Unifiable ns ps → below ns rs k l ls ds ps marks ≡ below ns rs k l ls ds qs marks
-
-  -- those of a digit of the next left term
-  same-digit : (ls : List ℕ) → SameBelow ls → (a : ℕ) → a < length ns → (ds : List ℕ) (ps qs : List (ℕ × ℕ)) (marks : List ℕ) → Inside ns ps → Inside ns qs → Same ps qs → Unifiable ns ps → (d : ℕ) → 1 ≤ d → onDigit ns rs (below ns rs k l ls) ds ps marks a d ≡ onDigit ns rs (below ns rs k l ls) ds qs marks a d
-  unfolding onDigit
-  same-digit ls rest a p ds ps qs marks h i e u d q = pick (leb d (length rs)) refl
-    where
-      pick : (b : Bool) → leb d (length rs) ≡ b → cond b (cond (eqb (word marks (d - 1)) 0) [] (ifUnified (outcome ns ((a, word rs (d - 1)) ∷ ps)) (below ns rs k l ls (ds ++ d ∷ []) ((a, word rs (d - 1)) ∷ ps) (set marks (d - 1) 0)))) (below ns rs k l ls (ds ++ d ∷ []) ps marks) ≡ cond b (cond (eqb (word marks (d - 1)) 0) [] (ifUnified (outcome ns ((a, word rs (d - 1)) ∷ qs)) (below ns rs k l ls (ds ++ d ∷ []) ((a, word rs (d - 1)) ∷ qs) (set marks (d - 1) 0)))) (below ns rs k l ls (ds ++ d ∷ []) qs marks)
-      pick true b =
-          let r : d ≤ length rs = leb-true d (length rs) b in
-          let g = inside-pair ns w rs right k l a d ps p q r h in
-          let j = inside-pair ns w rs right k l a d qs p q r i in
-          let m = same-more (a, word rs (d - 1)) ps qs e in
-          ap (λ (es : List (List ℕ)). cond (eqb (word marks (d - 1)) 0) [] es)
-          (if-same (outcome ns ((a, word rs (d - 1)) ∷ ps)) (outcome ns ((a, word rs (d - 1)) ∷ qs)) (below ns rs k l ls (ds ++ d ∷ []) ((a, word rs (d - 1)) ∷ ps) (set marks (d - 1) 0)) (below ns rs k l ls (ds ++ d ∷ []) ((a, word rs (d - 1)) ∷ qs) (set marks (d - 1) 0)) (same-unified ((a, word rs (d - 1)) ∷ ps) ((a, word rs (d - 1)) ∷ qs) g j m)
-          (λ z. rest (ds ++ d ∷ []) ((a, word rs (d - 1)) ∷ ps) ((a, word rs (d - 1)) ∷ qs) (set marks (d - 1) 0) g j m (outcome-unified ns w ((a, word rs (d - 1)) ∷ ps) g .0 z)))
-      pick false b = rest (ds ++ d ∷ []) ps qs marks h i e u
-
-  -- those of all strings of digits
-  same-below : (ls : List ℕ) → Nodes ns ls → SameBelow ls
-  unfolding below
-  same-below [] left ds ps qs marks h i e u =
-      ap (λ (ws : List ℕ). map (λ es. ds ++ es ++ ws) (marked k marks)) (same-unifiers ns w ps qs h i e u)
-  same-below (a ∷ ls) left ds ps qs marks h i e u =
-      over-same 1 (length rs + l) (λ d. onDigit ns rs (below ns rs k l ls) ds ps marks a d) (λ d. onDigit ns rs (below ns rs k l ls) ds qs marks a d)
-      (λ d q. same-digit ls (same-below ls (λ j r. left (suc j) (omega arith))) a (left 0 (omega arith)) ds ps qs marks h i e u d q)
-
-  -- below pairs that every substitution unifies are the entries below no pair
-  pub below-same : (ls : List ℕ) → Nodes ns ls → (ps : List (ℕ × ℕ)) (marks : List ℕ) → Inside ns ps → ((σ : Substitution) → Unifies ns ps σ) → below ns rs k l ls [] ps marks ≡ below ns rs k l ls [] [] marks
-  below-same ls left ps marks h u =
-      same-below ls left [] ps [] marks h (λ a b m. absurd (List·Memᴰ·not-nil m)) (λ σ. ((λ v a b m. absurd (List·Memᴰ·not-nil m)), (λ v. u σ))) (var, u var)

@@ -1,8 +1,8 @@
 -- A call by its parts: the answer and the lent words are those of the entries that the walk writes, and all that `list` promises follows.
 -- All entries have one length, so the words used tell how many there are. Assumes nothing.
-use Prim.Native.Nat.{ℕ, _+_, _-_, _*_, _/_, _≤_, _<_}
-use mathlib.Core.Bool.{true, false, cond}
-use mathlib.Core.List.{List, [], _∷_, _++_, flatten, List·Memᴰ}
+use Prim.Native.Nat.{ℕ, zero, suc, _+_, _-_, _*_, _/_, _≤_, _<_}
+use mathlib.Core.Bool.{Bool, true, false, cond}
+use mathlib.Core.List.{List, [], _∷_, _++_, flatten, List·Memᴰ, List·Memᴰ·not-nil}
 use mathlib.Core.Path.{_≡_, refl, sym, ap, _∙_}
 use native.Mathlib.Decide.{decLt}
 use native.Mathlib.Nat.{mul-comm}
@@ -10,21 +10,26 @@ use native.Mathlib.Omega.{arith}
 use borrow.Author.Tests.{lt-ltb, le-ltb, le-leb}
 use lib.Arith.{digits-div}
 use lib.Dec.{ltb}
-use lib.ListN.{length, drop, replicate, length-replicate}
+use lib.ListN.{length, take, drop, replicate, length-replicate, getD-replicate, replicate-append-replicate, length-map}
+use lib.Seq.{drop-at, take-all}
 use Rattle.table.specs.declared.Refusal.{Refusal}
-use Rattle.table.specs.Layout.{nodesOf, argumentsOf, leftTermsOf, leftLabelsOf, rightTermsOf, rightLabelsOf}
+use Rattle.table.specs.Limits.{maxTerms, maxNodes}
+use Rattle.table.specs.Layout.{word, nodeCount, nodesOf, argumentsOf, leftTermsOf, leftLabelsOf, rightTermsOf, rightLabelsOf}
 use Rattle.table.specs.Answer.{numberOf}
 use Rattle.table.specs.Refusal.{refusal}
 use Rattle.table.specs.Code.Accepted.{Accepted}
 use Rattle.table.proofs.AcceptedLaws.{accepted}
 use Rattle.table.proofs.AnswerLaws.{number-within}
+use Rattle.unification.specs.Computed.Variables.{variablesOf}
+use Rattle.unification.specs.Computed.Solution.{nodeOf}
 use Rattle.unification.specs.Computed.Unifying.{wordsOf}
 use Rattle.unification.specs.Code.Sections.{nodesFrom}
-use Rattle.unification.proofs.ListLaws.{length-none}
+use Rattle.unification.proofs.ListLaws.{length-none, part-long}
 use Rattle.unification.proofs.TableLaws.{sections-of, nodes-of-sections}
 use Rattle.unification.proofs.AnswerLaws.{words-counted}
 use Rattle.unify.specs.declared.Variables.{Variables}
-use Rattle.unify.specs.Code.Stands.{Lists}
+use Rattle.unify.specs.Code.Present.{leastNodes}
+use Rattle.unify.specs.Code.Stands.{Formed, StandsAlways, Shared, Lists, BeginsShared}
 use Rattle.multiset_unification.specs.declared.Listing.{Listing}
 use Rattle.multiset_unification.specs.declared.Listing.the-variants.{Finished, Full, Refused}
 use Rattle.multiset_unification.specs.Answer.{told, fitting, listed, lentAfter}
@@ -36,9 +41,15 @@ use Rattle.multiset_unification.proofs.Page14.{page14-finished}
 use Rattle.listing.specs.declared.Labels.{Labels}
 use Rattle.listing.specs.declared.Written.{Written}
 use Rattle.listing.specs.Code.Writing.{put, Writes, marked}
-use Rattle.listing.specs.Code.Walk.{below, Listable, allEntries}
+use Rattle.listing.specs.Code.Branch.{Listable, marksIn}
+use Rattle.listing.specs.Code.Memory.{keyOf}
+use Rattle.listing.specs.Code.Partners.{MayPair}
+use Rattle.listing.specs.Code.Walk.{below, unpairedIn, Walking, Walked, allEntries}
 use Rattle.listing.specs.Code.Calling.{Answers}
+use Rattle.listing.proofs.MemoryLaws.{remembers-none}
+use Rattle.listing.proofs.HopelessLaws.{unpaired-ones}
 use Rattle.listing.proofs.BelowLaws.{below-listing, below-long, flatten-long}
+use Rattle.listing.proofs.BranchLaws.{paired-none}
 
 -- of entries that have one length as many fit as that length goes into their words
 fitting-counted : (width lent : ℕ) (es : List (List ℕ)) → 0 < width → ((e : List ℕ) → List·Memᴰ e es → length e ≡ width) → length (flatten (fitting lent es)) / width ≡ length (fitting lent es)
@@ -48,6 +59,7 @@ fitting-counted width lent es h l =
     ap (λ (n : ℕ). n / width) q ∙ digits-div (length (fitting lent es)) h
 
 module _ {es : List (List ℕ)} {lent lent′ : List ℕ} {w : Written} (x : Writes es lent 0 lent′ w) (width : ℕ) (h : 0 < width) (l : (e : List ℕ) → List·Memᴰ e es → length e ≡ width) where
+  -- the lent words begin with the entries that fit
   written-words : lent′ ≡ flatten (fitting (length lent) es) ++ drop (length (flatten (fitting (length lent) es))) lent
   unfolding put
   written-words =
@@ -56,6 +68,7 @@ module _ {es : List (List ℕ)} {lent lent′ : List ℕ} {w : Written} (x : Wri
       let q = x .words in
       rw (z, o) at q
 
+  -- the words used tell how many
   counted : w .used / width ≡ length (fitting (length lent) es)
   counted =
       let z : length lent - 0 ≡ length lent = omega arith in
@@ -63,19 +76,32 @@ module _ {es : List (List ℕ)} {lent lent′ : List ℕ} {w : Written} (x : Wri
       let u : w .used ≡ length (flatten (fitting (length lent) es)) = rw z at q ∙ omega arith in
       ap (λ (n : ℕ). n / width) u ∙ fitting-counted width (length lent) es h l
 
-  filled-up : ltb (length lent) (length (flatten es)) ≡ w .full
-  filled-up =
+  -- and it is told whether one did not fit
+  over-told : w .missed ≡ cond (ltb (length lent) (length (flatten es))) 1 0
+  over-told =
       let z : length lent - 0 ≡ length lent = omega arith in
-      let q = x .full in
-      sym (rw z at q)
+      let q = x .missed in
+      rw z at q
 
   -- an entry did not fit
-  pub written-full : w .full ≡ true → Answers es lent (Full (w .used / width)) lent′
-  written-full f = record { answer = rw (counted, filled-up, f) refl; words = written-words }
+  pub written-full : (w .missed ≡ 0 → ⊥) → Answers es lent (Full (w .used / width)) lent′
+  written-full f =
+      let o : ltb (length lent) (length (flatten es)) ≡ true = pick (ltb (length lent) (length (flatten es))) (λ z. f (over-told ∙ z)) in
+      record { answer = rw (counted, o) refl; words = written-words }
+    where
+      pick : (b : Bool) → (_≡_ {A = ℕ} (cond b 1 0) 0 → ⊥) → b ≡ true
+      pick true n = refl
+      pick false n = absurd (n refl)
 
   -- all entries did
-  pub written-finished : w .full ≡ false → Answers es lent (Finished (w .used / width)) lent′
-  written-finished f = record { answer = rw (counted, filled-up, f) refl; words = written-words }
+  pub written-finished : w .missed ≡ 0 → Answers es lent (Finished (w .used / width)) lent′
+  written-finished f =
+      let o : ltb (length lent) (length (flatten es)) ≡ false = pick (ltb (length lent) (length (flatten es))) (sym over-told ∙ f) in
+      record { answer = rw (counted, o) refl; words = written-words }
+    where
+      pick : (b : Bool) → _≡_ {A = ℕ} (cond b 1 0) 0 → b ≡ false
+      pick true n = absurd (omega (arith, n))
+      pick false n = refl
 
 -- one entry of no words always fits
 pub written-empty : (es : List (List ℕ)) (lent : List ℕ) → es ≡ [] ∷ [] → Answers es lent (Finished 1) lent
@@ -98,6 +124,94 @@ unfolding below marked
 all-empty {words} {args} [] [] labels s h = ap (_∷ []) (length-none (wordsOf (nodesFrom words args) []) (words-counted (nodesFrom words args) [] ∙ sym (s .counted) ∙ omega (arith, h)))
 all-empty [] (b ∷ right) labels s h = absurd (omega arith)
 all-empty (a ∷ left) right labels s h = absurd (omega arith)
+
+-- the variables present are in the list of their nodes
+pub variables-inside : {words args : List ℕ} {v : Variables} → Lists words args v → v .count ≤ length (v .nodes)
+unfolding leastNodes
+variables-inside {words} {args} {v} s = go (decLt (length (v .nodes)) (v .count))
+  where
+    long : length (take (v .count) (v .nodes)) ≡ v .count
+    long = ap length (s .nodes) ∙ length-map (variablesOf (nodesFrom words args)) (nodeOf (nodesFrom words args)) ∙ sym (s .counted)
+
+    go : Dec (length (v .nodes) < v .count) → v .count ≤ length (v .nodes)
+    go (yes q) = let e = ap length (take-all (v .count) (v .nodes) (omega arith)) in omega (arith, e, long)
+    go (no q) = omega arith
+
+-- the classes that unifying begins with have a head for each node
+pub heads-begun : {words args left right : List ℕ} {labels : Labels} → Listable words args left right labels → (n : ℕ) → n ≡ nodeCount words → {long : ℕ} → long ≡ length {A = ℕ} (take (n - 0) (replicate maxNodes 0)) → long ≡ n - 0
+heads-begun g n e f =
+    let l = part-long (replicate maxNodes 0) n (omega (arith, e, g .sections .limit)) in
+    omega (arith, f, l)
+
+-- at first any two terms may be paired
+pub all-may : {words args left right : List ℕ} {labels : Labels} → Listable words args left right labels → MayPair words args left right (replicate (maxTerms * maxTerms) 1)
+all-may {left = left} {right = right} g =
+    record {
+      size = refl;
+      never = λ i j p q e. absurd (one (maxTerms * i + j) (omega (arith, p, q, g .left-few, g .right-few)) e);
+    }
+  where
+    one : (j : ℕ) → j < 64 → word (replicate 64 1) j ≡ 0 → ⊥
+    one j h e = let x = getD-replicate {A = ℕ} 64 j 1 0 h in omega (arith, x, e)
+
+-- a part of equal words
+take-replicate : (n m x : ℕ) → n ≤ m → take n (replicate m x) ≡ replicate n x
+take-replicate zero m x h = refl
+take-replicate (suc n) zero x h = absurd (omega arith)
+take-replicate (suc n) (suc m) x h = ap (x ∷_) (take-replicate n m x (omega arith))
+
+-- and the rest of them
+drop-replicate : (n m x : ℕ) → drop n (replicate (n + m) x) ≡ replicate m x
+drop-replicate n m x = ap (drop n) (sym (replicate-append-replicate n m x)) ∙ drop-at (replicate n x) (replicate m x) n (length-replicate n x)
+
+-- the branch without digits
+module _ {words args left right : List ℕ} {labels : Labels} (g : Listable words args left right labels) {v : Variables} {cs : List ℕ} (s : BeginsShared words args v cs) where
+  -- the classes that unifying begins with, where they stand in an array
+  pub first-classes : {cs′ : List ℕ} → cs′ ≡ cs → Formed words args cs′ × StandsAlways words args cs′ × Shared words args cs′
+  first-classes q = rw q (s .formed, record { pairs = s .pairs; stands = s .stands; same = s .same }, s .shared)
+
+  -- The entry that it stands in.
+  abbrev first-entry : List ℕ
+  first-entry = take (length left + length right + v .count - 0) (replicate 80 1)
+
+  width-room : length left + length right + v .count ≤ 80
+  width-room = omega (arith, g .left-few, g .right-few, s .lists .within)
+
+  -- no right term is marked as paired
+  first-marks : marksIn left right first-entry ≡ replicate (length right) 1
+  first-marks =
+      let z : length left + length right + v .count - 0 ≡ length left + (length right + v .count) = omega arith in
+      let t : first-entry ≡ replicate (length left + (length right + v .count)) 1 = ap (λ (n : ℕ). take n (replicate 80 1)) z ∙ take-replicate (length left + (length right + v .count)) 80 1 (omega (arith, width-room)) in
+      ap (λ (e : List ℕ). take (length right) (drop (length left) e)) t
+      ∙ ap (take (length right)) (drop-replicate (length left) (length right + v .count) 1)
+      ∙ take-replicate (length right) (length right + v .count) 1 (omega arith)
+
+  -- what the walk needs to know of it
+  pub first-walking : {may cs′ : List ℕ} → MayPair words args left right may → cs′ ≡ cs → (lent : List ℕ) → Walking words args left right labels (take (v .count - 0) (v .nodes)) may cs′ 0 1 (length right) 0 first-entry (replicate 128 0) lent 0
+  unfolding keyOf
+  first-walking m q lent =
+      let z : v .count - 0 ≡ v .count = omega arith in
+      record {
+        listable = g;
+        lists = ap (λ (n : ℕ). take n (v .nodes)) z ∙ s .lists .nodes;
+        partners = m;
+        formed = rw q (s .formed);
+        standing = record { pairs = s .pairs; stands = rw q (s .stands); unifiers = λ σ. rw (paired-none left right []) ((λ u a b n. absurd (List·Memᴰ·not-nil n)), (λ u. s .same σ)) };
+        branching = record {
+          size = part-long (replicate 80 1) (length left + length right + v .count) width-room ∙ ap (λ (n : ℕ). length left + length right + n) (s .lists .counted);
+          depth = omega arith;
+          positive = λ j h. absurd (omega arith);
+          counted = sym (unpaired-ones (length right)) ∙ ap unpairedIn (sym first-marks);
+          keyed = refl;
+          weighed = refl;
+        };
+        remembers = remembers-none words args left right lent;
+        room = omega arith;
+      }
+
+  -- writes all entries
+  pub first-walked : {memory lent entry′ memory′ lent′ : List ℕ} {w : Written} → Walked words args left right labels 0 first-entry memory lent 0 entry′ memory′ lent′ w → Writes (allEntries words args left right labels) lent 0 lent′ w
+  first-walked r = rw (first-marks, paired-none left right []) at (r .writes)
 
 -- an accepted table can be listed by its sections
 pub listable : (t : List ℕ) → Accepted t → {labels : Labels} → labels .left ≡ length (leftLabelsOf t) → labels .right ≡ length (rightLabelsOf t) → Listable (nodesOf t) (argumentsOf t) (leftTermsOf t) (rightTermsOf t) labels

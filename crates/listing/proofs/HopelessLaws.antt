@@ -34,7 +34,7 @@ unpaired-ones zero = refl
 unpaired-ones (suc m) = ap suc (unpaired-ones m)
 
 -- without left labels an unpaired right term has no digit
-marked-none : (marks : List ℕ) → 0 < unpairedIn marks → marked 0 marks ≡ []
+pub marked-none : (marks : List ℕ) → 0 < unpairedIn marks → marked 0 marks ≡ []
 unfolding unpairedIn marked branch
 marked-none [] h = absurd (omega arith)
 marked-none (z ∷ zs) h = pick (eqb z 0) h (marked-none zs)

@@ -1,98 +1,202 @@
--- The entries of a whole string of left digits: the digits, the marks and the binding words make the first entry, and its right digits the others.
--- By the lengths of the parts. Assumes nothing.
-use Prim.Native.Nat.{ℕ, _+_, _-_, _≤_}
-use mathlib.Core.List.{List, _++_, map, append-nil, append-assoc}
+-- The entries of a branch in which every left term has its digit, or every right term is paired: all have the binding words that are put behind the digits.
+-- By the lengths of the parts, and by induction on the left terms that labels are left for. Assumes nothing.
+use Prim.Native.Nat.{ℕ, zero, suc, _+_, _-_, _^_, _≤_, _<_}
+use mathlib.Core.Bool.{Bool, true, false, cond}
+use mathlib.Core.List.{List, [], _∷_, _++_, map, flatMap, append-nil, append-assoc, List·Memᴰ}
+use mathlib.Core.Logic.{_⊎_, inl, inr}
 use mathlib.Core.Path.{_≡_, refl, sym, ap, _∙_}
 use native.Mathlib.Omega.{arith}
-use borrow.Rule.Slice.PartMut.{midOf, putMid, post-is, mid-len}
-use lib.ListN.{length, take, drop, replicate, length-append, drop-of-length-le}
-use lib.Seq.{take-at, drop-at, drop-length}
+use borrow.Author.Tests.{eqb-true}
+use lib.Dec.{eqb}
+use lib.ListN.{length, take, drop, length-append, length-drop, length-map}
+use lib.Seq.{length-take-le, take-take, take-at, drop-at, take-append-le, take-add, drop-length}
+use Rattle.table.specs.Layout.{word}
+use Rattle.unification.specs.Node.{Node}
 use Rattle.unification.specs.Computed.Variables.{variablesOf}
+use Rattle.unification.specs.Computed.Solution.{nodeOf}
 use Rattle.unification.specs.Computed.Unifying.{wordsOf}
 use Rattle.unification.specs.Code.Sections.{nodesFrom}
-use Rattle.unification.proofs.ListLaws.{part-long}
-use Rattle.unify.specs.declared.Classes.{Classes}
-use Rattle.unify.specs.declared.Variables.{Variables}
-use Rattle.unify.specs.Code.Stands.{Stands, Lists, Leaves}
+use Rattle.unification.proofs.AnswerLaws.{words-counted}
+use Rattle.unify.specs.Code.Present.{leastNodes}
+use Rattle.multiset_unification.specs.Computed.Choices.{branch}
 use Rattle.listing.specs.declared.Labels.{Labels}
-use Rattle.listing.specs.declared.Branch.{Branch}
 use Rattle.listing.specs.declared.Written.{Written}
-use Rattle.listing.specs.Code.Writing.{put, marked, marksFrom, rightEntries, Writes}
-use Rattle.listing.specs.Code.Walk.{below, Strung, Filled, Walking, Walked}
-use Rattle.listing.proofs.WritingLaws.{put-long, put-put}
+use Rattle.listing.specs.Code.Writing.{marked, rightEntries, labelStrings, labelEntries, Writes, Restored, Relabelled}
+use Rattle.listing.specs.Code.Branch.{pairsIn, marksIn}
+use Rattle.listing.specs.Code.Memory.{Bound, Notes, Pairable, Remembers}
+use Rattle.listing.specs.Code.Walk.{over, onDigit, below, unpairedIn, Walking, branchEntries, Walked}
+use Rattle.listing.proofs.RightLaws.{right-words}
+use Rattle.listing.proofs.LabelLaws.{label-words}
+use Rattle.listing.proofs.MemoryLaws.{key-fits, remembers-noted}
+use Rattle.listing.proofs.BelowLaws.{flat-one, flat-branch, over-same}
+use Rattle.listing.proofs.BranchLaws.{digit-label, digit-taken, branch-room, marks-long}
 
--- the room for the binding words
-room-long : (e : List ℕ) (a v : ℕ) → length e ≡ a + v → length (midOf a (a + v - a) e) ≡ v
-room-long e a v h =
-    let l = mid-len a (a + v) e (omega (arith, h)) in
-    omega (arith, l)
+-- where every right term is paired, every mark is 0
+noughts : (marks : List ℕ) → unpairedIn marks ≡ 0 → (j : ℕ) → word marks j ≡ 0
+unfolding unpairedIn
+noughts [] h j = refl
+noughts (z ∷ zs) h j = pick (eqb z 0) refl h (noughts zs) j
+  where
+    pick : (b : Bool) → eqb z 0 ≡ b → cond b (unpairedIn zs) (suc (unpairedIn zs)) ≡ 0 → (unpairedIn zs ≡ 0 → (j : ℕ) → word zs j ≡ 0) → (j : ℕ) → word (z ∷ zs) j ≡ 0
+    pick true e q r zero = eqb-true z 0 e
+    pick true e q r (suc j) = r q j
+    pick false e q r j = absurd (omega (arith, q))
 
--- the digits and the marks, written one behind the other, stand first
-module _ (ds marks e₀ e₁ e₂ : List ℕ) (v : ℕ) (l : length e₀ ≡ length ds + length marks + v) (p : e₁ ≡ put 0 ds e₀) (q : e₂ ≡ put (length ds) marks e₁) where
-  together : e₂ ≡ put 0 (ds ++ marks) e₀
-  together =
-      let z : 0 + length ds ≡ length ds = omega arith in
-      q ∙ ap (put (length ds) marks) p ∙ ap (λ (n : ℕ). put n marks (put 0 ds e₀)) (sym z) ∙ put-put 0 ds marks e₀ (omega (arith, l))
+-- and they are the only string of right digits
+marked-noughts : (k : ℕ) (marks : List ℕ) → unpairedIn marks ≡ 0 → marked k marks ≡ marks ∷ []
+unfolding unpairedIn marked branch
+marked-noughts k [] h = refl
+marked-noughts k (z ∷ zs) h = pick (eqb z 0) refl h (marked-noughts k zs)
+  where
+    pick : (b : Bool) → eqb z 0 ≡ b → cond b (unpairedIn zs) (suc (unpairedIn zs)) ≡ 0 → (unpairedIn zs ≡ 0 → marked k zs ≡ zs ∷ []) → cond b (branch 0 1 (λ d. marked k zs)) (branch 1 k (λ d. marked k zs)) ≡ (z ∷ zs) ∷ []
+    pick true e q r = rw (r q, eqb-true z 0 e) refl
+    pick false e q r = absurd (omega (arith, q))
 
-  both : length (ds ++ marks) ≡ length ds + length marks
-  both = length-append ds marks
+-- digits that have no entry can be left out at the start
+over-skip : (d a b : ℕ) (f : ℕ → List (List ℕ)) → ((e : ℕ) → d ≤ e → e < d + a → f e ≡ []) → over d (a + b) f ≡ over (d + a) b f
+unfolding over
+over-skip d zero b f h =
+    let x : 0 + b ≡ b = omega arith in
+    let y : d ≡ d + 0 = omega arith in
+    ap (λ (n : ℕ). over d n f) x ∙ ap (λ (e : ℕ). over e b f) y
+over-skip d (suc a) b f h =
+    let x : suc a + b ≡ suc (a + b) = omega arith in
+    let y : suc d + a ≡ d + suc a = omega arith in
+    ap (λ (n : ℕ). over d n f) x
+    ∙ ap (λ (es : List (List ℕ)). es ++ over (suc d) (a + b) f) (h d (omega arith) (omega arith))
+    ∙ over-skip (suc d) a b f (λ e p q. h e (omega arith) (omega (arith, q)))
+    ∙ ap (λ (e : ℕ). over e b f) y
 
-  filled-long : length e₂ ≡ length ds + length marks + v
-  filled-long = ap length together ∙ put-long 0 (ds ++ marks) e₀ (omega (arith, l, both)) ∙ l
+-- strings that branch, digit by digit
+map-branch : (f : List ℕ → List ℕ) (d c : ℕ) (g : ℕ → List (List ℕ)) → map f (branch d c g) ≡ over d c (λ e. map (λ es. f (e ∷ es)) (g e))
+map-branch f d c g =
+    sym (flat-one f (branch d c g))
+    ∙ flat-branch (λ x. f x ∷ []) d c g
+    ∙ over-same d c (λ e. flatMap (λ es. f (e ∷ es) ∷ []) (g e)) (λ e. map (λ es. f (e ∷ es)) (g e)) (λ e q. flat-one (λ es. f (e ∷ es)) (g e))
 
-  -- there is room for the binding words
-  pub filled-room : v ≤ length (midOf (length ds + length marks) (length ds + length marks + v - (length ds + length marks)) e₂)
-  filled-room =
-      let r = room-long e₂ (length ds + length marks) v filled-long in
-      omega (arith, r)
+-- where every right term is paired, the entries below are those of the strings of labels
+below-labels : (ns : List Node) (rs : List ℕ) (k l : ℕ) (ls ds : List ℕ) (ps : List (ℕ × ℕ)) (marks : List ℕ) → unpairedIn marks ≡ 0 → below ns rs k l ls ds ps marks ≡ map (λ es. ds ++ es ++ (marks ++ wordsOf ns ps)) (labelStrings (length rs) l (length ls))
+unfolding below labelStrings
+below-labels ns rs k l [] ds ps marks h =
+    ap (map (λ es. ds ++ es ++ wordsOf ns ps)) (marked-noughts k marks h)
+    ∙ ap (_∷ []) (append-assoc ds marks (wordsOf ns ps) ∙ ap (λ (es : List ℕ). es ++ (marks ++ wordsOf ns ps)) (sym (append-nil ds)))
+below-labels ns rs k l (a ∷ ls) ds ps marks h =
+    let m : 1 + length rs ≡ suc (length rs) = omega arith in
+    over-skip 1 (length rs) l (λ d. onDigit ns rs (below ns rs k l ls) ds ps marks a d) (λ d p q. digit-taken ns rs (below ns rs k l ls) ds ps marks a d (omega (arith, q)) (noughts marks h (d - 1)))
+    ∙ ap (λ (e : ℕ). over e l (λ d. onDigit ns rs (below ns rs k l ls) ds ps marks a d)) m
+    ∙ over-same (suc (length rs)) l (λ d. onDigit ns rs (below ns rs k l ls) ds ps marks a d) (λ d. map (λ es. ds ++ d ∷ es ++ (marks ++ wordsOf ns ps)) (labelStrings (length rs) l (length ls)))
+    (λ d q. digit-label ns rs (below ns rs k l ls) ds ps marks a d (omega (arith, q)) ∙ below-labels ns rs k l ls (ds ++ d ∷ []) ps marks h ∙ simp append-assoc)
+    ∙ sym (map-branch (λ es. ds ++ es ++ (marks ++ wordsOf ns ps)) (suc (length rs)) l (λ d. labelStrings (length rs) l (length ls)))
 
-  filled-first : take (length ds + length marks) e₂ ≡ ds ++ marks
-  unfolding put
-  filled-first = rw together (take-at (ds ++ marks) _ _ both)
+-- one of two, where it is not the first
+pub other : {a b c : ℕ} → (a ≡ b) ⊎ (c ≡ 0) → (a ≡ b → ⊥) → c ≡ 0
+other (inl e) n = absurd (n e)
+other (inr e) n = e
 
-  -- and the binding words behind them
-  pub strung : {words args : List ℕ} {c : Classes} {vs : Variables} → Lists words args vs → vs .count ≡ v → (part : List ℕ) → Leaves words args c (midOf (length ds + length marks) (length ds + length marks + v - (length ds + length marks)) e₂) part → Strung words args c ds marks (putMid (length ds + length marks) (length ds + length marks + v - (length ds + length marks)) e₂ part)
-  strung {words} {args} {c} {vs} g n part f = record { entry = whole }
-    where
-      whole : (ps : List (ℕ × ℕ)) → Stands words args c ps → putMid (length ds + length marks) (length ds + length marks + v - (length ds + length marks)) e₂ part ≡ ds ++ marks ++ wordsOf (nodesFrom words args) ps
-      whole ps s =
-          let r = room-long e₂ (length ds + length marks) v filled-long in
-          let x = post-is (length ds + length marks) (length ds + length marks + v) e₂ (omega arith) ∙ drop-of-length-le e₂ {i = length ds + length marks + v} (omega (arith, filled-long)) in
-          let y = drop-of-length-le (midOf (length ds + length marks) (length ds + length marks + v - (length ds + length marks)) e₂) {i = length (variablesOf (nodesFrom words args))} (omega (arith, r, n, g .counted)) in
-          rw (filled-first, x, f ps s, y, append-nil (wordsOf (nodesFrom words args) ps), append-nil (wordsOf (nodesFrom words args) ps)) refl
+module _ {words args left right : List ℕ} {labels : Labels} {list may cs : List ℕ} {key weight unpaired i : ℕ} {entry memory lent : List ℕ} {at : ℕ} (g : Walking words args left right labels list may cs key weight unpaired i entry memory lent at) where
+  -- an entry has a word for each term and each variable
+  pub branch-width : length entry ≡ length left + length right + length list
+  unfolding leastNodes
+  branch-width =
+      let l : length list ≡ length (variablesOf (nodesFrom words args)) = ap length (g .lists) ∙ length-map (variablesOf (nodesFrom words args)) (nodeOf (nodesFrom words args)) in
+      omega (arith, l, g .branching .size)
 
--- what differs from the filled entry in its right digits are the entries of the string
-string-rights : (k : ℕ) (ds marks bs e : List ℕ) → e ≡ ds ++ marks ++ bs → rightEntries k e (length ds) (length ds + length marks) ≡ map (λ es. ds ++ es ++ bs) (marked k marks)
-unfolding rightEntries
-string-rights k ds marks bs e h =
-    let t : take (length ds) e ≡ ds = rw (h, append-assoc ds marks bs) (take-at ds (marks ++ bs) (length ds) refl) in
-    let d : drop (length ds) e ≡ marks ++ bs = rw (h, append-assoc ds marks bs) (drop-at ds (marks ++ bs) (length ds) refl) in
-    let m : length ds + length marks - length ds ≡ length marks = omega arith in
-    let z : marksFrom e (length ds) (length ds + length marks) ≡ marks = rw (d, m) (take-at marks bs (length marks) refl) in
-    let b : drop (length ds + length marks) e ≡ bs = rw h (drop-at (ds ++ marks) bs (length ds + length marks) (length-append ds marks)) in
-    rw (t, z, b) refl
+  -- its digits pair nodes
+  pub branch-pairable : Pairable words left right entry i
+  branch-pairable =
+      record {
+        depth = g .branching .depth;
+        positive = g .branching .positive;
+        left-nodes = g .listable .left-nodes;
+        right-nodes = g .listable .right-nodes;
+      }
 
-pub filled-rights : {words args : List ℕ} {c : Classes} {k : ℕ} {ds marks e lent : List ℕ} {at : ℕ} {lent′ : List ℕ} {w : Written} → Strung words args c ds marks e → Writes (rightEntries k e (length ds) (length ds + length marks)) lent at lent′ w → Filled words args c k ds marks lent at lent′ w
-filled-rights {words} {args} {c} {k} {ds} {marks} {e} s r =
-    record {
-      writes = λ ps g. rw (← string-rights k ds marks (wordsOf (nodesFrom words args) ps) e (s .entry ps g)) r;
-    }
+  -- its key is in range
+  pub key-room : key + 1 < 2 ^ 64
+  key-room = rw (g .branching .keyed) (key-fits (length right) i entry (g .listable .right-few) (omega (arith, g .branching .depth, g .listable .left-few)))
 
-module _ {words args left right : List ℕ} {labels : Labels} {v : Variables} {c : Classes} {b : Branch} {lent : List ℕ} {at : ℕ} (g : Walking words args left right labels v c b (length left) lent at) where
-  -- there is room for the entry
-  pub string-room : length {A = ℕ} (take (length left + length right + v .count - 0) (replicate 80 0)) ≡ length (take (length left - 0) (b .digits)) + length (take (length right - 0) (b .marks)) + v .count
-  string-room =
-      let few = g .listable .left-few in
-      let many = g .listable .right-few in
-      let n = part-long (b .digits) (length left) (omega (arith, few, g .digits-size)) in
-      let m = part-long (b .marks) (length right) (omega (arith, many, g .marks-size)) in
-      let l = part-long (replicate 80 0) (length left + length right + v .count) (omega (arith, few, many, g .lists .within)) in
-      omega (arith, n, m, l)
+  -- the binding words are put behind its digits
+  module _ {entry₁ : List ℕ} (b : Bound words args left right entry i entry₁) where
+    -- there is room for the digits and the marks
+    room : length left + length right ≤ length entry
+    room = branch-room (g .branching)
 
-  -- a branch without left terms to go is a whole string
-  pub string-walked : {lent′ : List ℕ} {w : Written} → Filled words args c (labels .left) (take (length left - 0) (b .digits)) (take (length right - 0) (b .marks)) lent at lent′ w → Walked words args left right labels c b (length left) lent at lent′ w
-  unfolding below
-  string-walked r =
-      let n : length left - 0 ≡ length left = omega arith in
-      let m : length right - 0 ≡ length right = omega arith in
-      record { writes = λ ps s. rw (drop-length left, ← n, ← m) (r .writes ps s) }
+    -- as many words come before them
+    digits-long : length (take (length left + length right) entry) ≡ length left + length right
+    digits-long = length-take-le (length left + length right) entry room
+
+    -- the entry is as long as before
+    pub bound-long : length entry₁ ≡ length entry
+    bound-long =
+        let x = length-append (take (length left + length right) entry) (wordsOf (nodesFrom words args) (pairsIn left right entry i)) in
+        let y = words-counted (nodesFrom words args) (pairsIn left right entry i) in
+        ap length (b .words-put) ∙ omega (arith, x, y, digits-long, g .branching .size)
+
+    -- they stand behind the digits and the marks
+    bound-behind : drop (length left + length right) entry₁ ≡ wordsOf (nodesFrom words args) (pairsIn left right entry i)
+    bound-behind =
+        ap (drop (length left + length right)) (b .words-put) ∙ drop-at (take (length left + length right) entry) _ _ digits-long
+
+    -- the digits stay
+    bound-digits : (j : ℕ) → j ≤ length left → take j entry₁ ≡ take j entry
+    bound-digits j h =
+        ap (take j) (b .words-put)
+        ∙ take-append-le j (take (length left + length right) entry) _ (omega (arith, digits-long, h))
+        ∙ take-take j (length left + length right) entry (omega (arith, h))
+
+    -- the marks stand before them
+    bound-tail : drop (length left) entry₁ ≡ marksIn left right entry ++ wordsOf (nodesFrom words args) (pairsIn left right entry i)
+    bound-tail =
+        let l : length (take (length left) entry) ≡ length left = length-take-le (length left) entry (omega (arith, room)) in
+        ap (drop (length left)) (b .words-put)
+        ∙ ap (λ (es : List ℕ). drop (length left) (es ++ wordsOf (nodesFrom words args) (pairsIn left right entry i))) (take-add (length left) (length right) entry)
+        ∙ ap (drop (length left)) (append-assoc (take (length left) entry) (marksIn left right entry) (wordsOf (nodesFrom words args) (pairsIn left right entry i)))
+        ∙ drop-at (take (length left) entry) _ _ l
+
+    -- and stay too
+    bound-marks : marksIn left right entry₁ ≡ marksIn left right entry
+    bound-marks = ap (take (length right)) bound-tail ∙ take-at (marksIn left right entry) _ _ (marks-long (g .branching))
+
+    -- its right digits give the entries of a whole string of left digits
+    string-entries : i ≡ length left → rightEntries (labels .left) entry₁ (length left) (length left + length right) ≡ branchEntries words args left right labels entry i
+    unfolding rightEntries below
+    string-entries q =
+        let t : take (length left) entry₁ ≡ take i entry = bound-digits (length left) (omega arith) ∙ ap (λ (j : ℕ). take j entry) (sym q) in
+        let z : drop i left ≡ [] = ap (λ (j : ℕ). drop j left) q ∙ drop-length left in
+        let m : length left + length right - length left ≡ length right = omega arith in
+        rw (m, t, bound-behind, bound-marks, z) refl
+
+    -- its strings of labels those of a branch in which every right term is paired
+    label-entries : unpaired ≡ 0 → labelEntries (length right) (labels .right) entry₁ i (length left) ≡ branchEntries words args left right labels entry i
+    unfolding labelEntries
+    label-entries q =
+        let x = below-labels (nodesFrom words args) right (labels .left) (labels .right) (drop i left) (take i entry) (pairsIn left right entry i) (marksIn left right entry) (sym (g .branching .counted) ∙ q) in
+        rw (x, length-drop i left, bound-digits i (g .branching .depth), bound-tail) refl
+
+    module _ {lent′ : List ℕ} {w : Written} {memory′ : List ℕ} (n : Notes memory key at (w .used) memory′) where
+      -- entries with these binding words are remembered
+      noted : {es : List (List ℕ)} → ((e : List ℕ) → List·Memᴰ e es → (length e ≡ length entry₁) × (drop (length left + length right) e ≡ drop (length left + length right) entry₁)) → Writes es lent at lent′ w → Remembers words args left right memory′ lent′ (w .used)
+      noted f x =
+          let d = g .branching .depth in
+          remembers-noted entry i key (g .remembers) (g .branching .keyed) d (omega (arith, room, d)) (g .branching .positive)
+          (λ e m. (f e m .0 ∙ bound-long ∙ g .branching .size, f e m .1 ∙ bound-behind)) x n
+
+      -- every left term has its digit
+      pub string-walked : {entry₂ : List ℕ} → i ≡ length left → Writes (rightEntries (labels .left) entry₁ (length left) (length left + length right)) lent at lent′ w → Restored entry₁ w entry₂ → Walked words args left right labels i entry memory lent at entry₂ memory′ lent′ w
+      string-walked q x r =
+          record {
+            writes = rw (string-entries q) at x;
+            size = r .size ∙ bound-long;
+            keeps = λ z. record { digits = ap (take i) (r .same z) ∙ bound-digits i (g .branching .depth); marks = ap (marksIn left right) (r .same z) ∙ bound-marks };
+            remembers = λ z. noted (right-words (labels .left) entry₁ (length left) (length right) (omega (arith, bound-long, room))) x;
+          }
+
+      -- every right term is paired
+      pub label-walked : {entry₂ : List ℕ} → unpaired ≡ 0 → Writes (labelEntries (length right) (labels .right) entry₁ i (length left)) lent at lent′ w → Relabelled entry₁ i (length left) entry₂ → Walked words args left right labels i entry memory lent at entry₂ memory′ lent′ w
+      label-walked q x r =
+          record {
+            writes = rw (label-entries q) at x;
+            size = r .size ∙ bound-long;
+            keeps = λ z. record { digits = r .first ∙ bound-digits i (g .branching .depth); marks = ap (take (length right)) (r .last) ∙ bound-marks };
+            remembers = λ z. noted (label-words (length right) (labels .right) entry₁ i (length left) (g .branching .depth) (omega (arith, bound-long, room)) (length right)) x;
+          }

@@ -1,34 +1,44 @@
 -- One step of the walk: what a branch writes, by its digits, and what holds of the branch after one digit more.
 -- The definition mirrors the code, so that each way through the code is one equation of it. Assumes nothing.
-use Prim.Native.Nat.{ℕ, zero, suc, _+_, _-_, _≤_, _<_}
-use mathlib.Core.Bool.{true, false}
-use mathlib.Core.List.{List, [], _∷_, _++_}
+use Prim.Native.Nat.{ℕ, suc, _+_, _-_, _*_, _^_, _≤_, _<_}
+use mathlib.Core.Bool.{Bool, true, false, _||_, false≢true}
+use mathlib.Core.List.{List, [], _∷_, _++_, List·Memᴰ·not-nil}
+use mathlib.Core.Logic.{_⊎_, inl, inr, _↔_}
 use mathlib.Core.Path.{_≡_, refl, sym, ap, _∙_}
+use native.Mathlib.Nat.{mul-le-mul-right, pow-suc, pow-le-pow-right}
 use native.Mathlib.Numerals.{add-one}
 use native.Mathlib.Omega.{arith}
-use borrow.Author.Tests.{lt-leb, le-leb, eq-eqb, ne-eqb}
-use lib.ListN.{length, take, drop, set, replicate, length-set, length-drop, length-replicate}
-use lib.Seq.{drop-cons, take-suc-set, take-set-lt, getD-take}
-use Rattle.table.specs.Limits.{maxTerms}
+use borrow.Author.Tests.{eqb-true, eqb-false}
+use lib.Dec.{eqb}
+use lib.ListN.{length, take, drop, set, replicate, length-set, length-drop, length-append}
+use lib.Seq.{length-take-le, drop-cons, take-take, take-at, set-set, set-getD}
+use Rattle.table.specs.Limits.{maxTerms, maxNodes}
 use Rattle.table.specs.Layout.{word}
 use Rattle.unification.specs.Node.{Node}
-use Rattle.unification.specs.Outcome.{Outcome}
+use Rattle.unification.specs.Outcome.{unified}
+use Rattle.unification.specs.Computed.Classes.{classOf}
 use Rattle.unification.specs.Computed.Unifying.{outcome}
+use Rattle.unification.specs.Code.Given.{Inside}
 use Rattle.unification.specs.Code.Sections.{nodesFrom}
+use Rattle.unification.proofs.ListLaws.{part-long}
 use Rattle.unification.proofs.SectionLaws.{is-node, sections-well-formed}
-use Rattle.unify.specs.declared.Classes.{Classes}
-use Rattle.unify.specs.declared.Variables.{Variables}
 use Rattle.unify.specs.declared.Extended.{Extended}
 use Rattle.unify.specs.declared.Extended.the-variants.{Unified, Clash, Occurs}
-use Rattle.unify.specs.Code.Stands.{Stands, Extends, extended, BeginsShared}
+use Rattle.unify.specs.Code.Stands.{Formed, Stands, Extends, extended}
 use Rattle.listing.specs.declared.Labels.{Labels}
-use Rattle.listing.specs.declared.Branch.{Branch}
 use Rattle.listing.specs.declared.Written.{Written}
 use Rattle.listing.specs.Code.Writing.{Writes, Remains}
-use Rattle.listing.specs.Code.Walk.{over, ifUnified, onDigit, below, unpairedIn, hopeless, Listable, Walking, branchEntries, digitEntries, Walked, Stepped, Turning, allEntries}
+use Rattle.listing.specs.Code.Branch.{Listable, pairedBy, pairsIn, marksIn}
+use Rattle.listing.specs.Code.Memory.{keyOf, Remembers}
+use Rattle.listing.specs.Code.Partners.{stuck}
+use Rattle.listing.specs.Code.Walk.{over, ifUnified, onDigit, below, unpairedIn, hopeless, Branching, Walking, Joining, branchEntries, digitEntries, KeepsBranch, WritesBelow, Walked, WalkedJoined, Stepped, Turning}
+use Rattle.unify.proofs.AtOnceLaws.{together, formed-unified}
+use Rattle.listing.proofs.MemoryLaws.{key-placed, key-paired, key-bound}
+use Rattle.listing.proofs.PartnerLaws.{below-stuck, may-none}
 use Rattle.listing.proofs.WritingLaws.{remains-whole, remains-next, remains-full, remains-done, writes-none}
-use Rattle.listing.proofs.BelowLaws.{below-same}
-use Rattle.listing.proofs.HopelessLaws.{below-hopeless, unpaired-set, unpaired-ones}
+use Rattle.listing.proofs.HopelessLaws.{below-hopeless, unpaired-set}
+use Rattle.listing.proofs.BelowLaws.{inside-more, not-unified, same-more, same-unified}
+use Rattle.listing.proofs.BranchLaws.{digit-label, digit-taken, digit-pair, paired-placed, paired-more, paired-inside, set-digits, set-marks, mark-digits, mark-marks, mark-word, keeps-again, branch-room, marks-long, digits-positive, branching-kept, branching-next}
 
 -- where left terms are still to go, the entries below a branch are those of each digit of the next one
 below-over : (ns : List Node) (left rs : List ℕ) (k l i : ℕ) (ds : List ℕ) (ps : List (ℕ × ℕ)) (marks : List ℕ) → i < length left → below ns rs k l (drop i left) ds ps marks ≡ over 1 (length rs + l) (λ d. onDigit ns rs (below ns rs k l (drop (i + 1) left)) ds ps marks (word left i) d)
@@ -51,223 +61,409 @@ over-end f d n h =
     let e : n - d ≡ 0 = omega (arith, h) in
     ap (λ (c : ℕ). over d c f) e
 
--- a digit above the right terms puts the next left term in a right label
-digit-label : (ns : List Node) (rs : List ℕ) (f : List ℕ → List (ℕ × ℕ) → List ℕ → List (List ℕ)) (ds : List ℕ) (ps : List (ℕ × ℕ)) (marks : List ℕ) (a d : ℕ) → length rs < d → onDigit ns rs f ds ps marks a d ≡ f (ds ++ d ∷ []) ps marks
-unfolding onDigit
-digit-label ns rs f ds ps marks a d h = rw (lt-leb d (length rs) h)
-
--- a right term that is paired already takes no other
-digit-taken : (ns : List Node) (rs : List ℕ) (f : List ℕ → List (ℕ × ℕ) → List ℕ → List (List ℕ)) (ds : List ℕ) (ps : List (ℕ × ℕ)) (marks : List ℕ) (a d : ℕ) → d ≤ length rs → word marks (d - 1) ≡ 0 → onDigit ns rs f ds ps marks a d ≡ []
-unfolding onDigit
-digit-taken ns rs f ds ps marks a d h e = rw (le-leb d (length rs) h, eq-eqb (word marks (d - 1)) 0 e)
-
--- otherwise the pair decides
-digit-pair : (ns : List Node) (rs : List ℕ) (f : List ℕ → List (ℕ × ℕ) → List ℕ → List (List ℕ)) (ds : List ℕ) (ps : List (ℕ × ℕ)) (marks : List ℕ) (a d : ℕ) → d ≤ length rs → (word marks (d - 1) ≡ 0 → ⊥) → onDigit ns rs f ds ps marks a d ≡ ifUnified (outcome ns ((a, word rs (d - 1)) ∷ ps)) (f (ds ++ d ∷ []) ((a, word rs (d - 1)) ∷ ps) (set marks (d - 1) 0))
-unfolding onDigit
-digit-pair ns rs f ds ps marks a d h n = rw (le-leb d (length rs) h, ne-eqb (word marks (d - 1)) 0 n)
-
 -- Nothing is written.
 abbrev idle : ℕ → Written
-idle at = record { used = at; full = false }
+idle at = record { used = at; missed = 0 }
 
-nothing-written : {es : List (List ℕ)} (lent : List ℕ) (at : ℕ) → at ≤ length lent → es ≡ [] → Writes es lent at lent (idle at)
-nothing-written lent at h e = rw e (writes-none lent at h)
+-- where there are no entries, nothing is to be done
+nothing-below : {es : List (List ℕ)} {words args left right : List ℕ} {i : ℕ} {entry memory lent : List ℕ} {at : ℕ} → Remembers words args left right memory lent at → at ≤ length lent → es ≡ [] → WritesBelow es words args left right i entry memory lent at entry memory lent (idle at)
+nothing-below {es} {entry = entry} {lent = lent} {at = at} r h e =
+    record {
+      writes = rw e (writes-none lent at h);
+      size = refl;
+      keeps = λ z. record { digits = refl; marks = refl };
+      remembers = λ z. r;
+    }
 
-module _ {words args left right : List ℕ} {labels : Labels} {v : Variables} {c : Classes} {b : Branch} {i : ℕ} {lent : List ℕ} {at : ℕ} (g : Walking words args left right labels v c b i lent at) where
-  digits-inside : i < length left → i < length (b .digits)
-  digits-inside h = omega (arith, h, g .digits-size, g .listable .left-few)
+-- the pairs of a branch are of nodes
+branch-inside : {words args left right : List ℕ} {labels : Labels} {entry : List ℕ} {key weight unpaired i : ℕ} → Listable words args left right labels → Branching words args left right entry key weight unpaired i → Inside (nodesFrom words args) (pairsIn left right entry i)
+branch-inside {words} {args} {left} {right} {labels} {entry} {i = i} l g =
+    paired-inside (nodesFrom words args) right (λ j h. is-node words args (word right j) (l .right-nodes j h)) left (λ j h. is-node words args (word left j) (l .left-nodes j h)) (take i entry) (digits-positive g) [] (λ a b m. absurd (List·Memᴰ·not-nil m))
 
+module _ {words args left right : List ℕ} {labels : Labels} {list may cs : List ℕ} {key weight unpaired i : ℕ} {entry memory lent : List ℕ} {at : ℕ} (g : Walking words args left right labels list may cs key weight unpaired i entry memory lent at) where
   -- a hopeless branch has no entries
-  pub hopeless-walked : hopeless (labels .left) (labels .right) (length left - i) (b .unpaired) ≡ true → Walked words args left right labels c b i lent at lent (idle at)
+  pub hopeless-walked : hopeless (labels .left) (labels .right) (length left - i) unpaired ≡ true → Walked words args left right labels i entry memory lent at entry memory lent (idle at)
   hopeless-walked h =
-      let e : hopeless (labels .left) (labels .right) (length (drop i left)) (unpairedIn (take (length right) (b .marks))) ≡ true =
-      rw (length-drop i left, ← g .counted) h in
+      let e : hopeless (labels .left) (labels .right) (length (drop i left)) (unpairedIn (marksIn left right entry)) ≡ true =
+      rw (length-drop i left, ← g .branching .counted) h in
+      nothing-below (g .remembers) (g .room) (below-hopeless (nodesFrom words args) right (labels .left) (labels .right) (drop i left) (take i entry) (pairsIn left right entry i) (marksIn left right entry) e)
+
+  -- the marks, as they are lent
+  lent-marks : take (length left + length right - length left) (drop (length left) entry) ≡ marksIn left right entry
+  lent-marks =
+      let c : length left + length right - length left ≡ length right = omega arith in
+      ap (λ (n : ℕ). take n (drop (length left) entry)) c
+
+  pub stuck-room : length (take (length left + length right - length left) (drop (length left) entry)) ≤ maxTerms
+  stuck-room = rw lent-marks (omega (arith, marks-long (g .branching), g .listable .right-few))
+
+  -- nor has one with a term that must be paired and has no partner
+  pub stuck-walked : stuck (labels .left) (labels .right) may i (length left) (take (length left + length right - length left) (drop (length left) entry)) ≡ true → Walked words args left right labels i entry memory lent at entry memory lent (idle at)
+  stuck-walked h =
+      let s : stuck (labels .left) (labels .right) may i (length left) (marksIn left right entry) ≡ true = rw (← lent-marks) h in
+      nothing-below (g .remembers) (g .room) (below-stuck words args left right may labels i (take i entry) (pairsIn left right entry i) (marksIn left right entry) (g .listable) (g .partners) (g .branching .depth) (marks-long (g .branching)) (branch-inside (g .listable) (g .branching)) s)
+
+  -- what is known of a branch stands where it is kept
+  walking-kept : {entry′ memory′ lent′ : List ℕ} {at′ : ℕ} → length entry′ ≡ length entry → KeepsBranch left right i entry entry′ → Remembers words args left right memory′ lent′ at′ → at′ ≤ length lent′ → Walking words args left right labels list may cs key weight unpaired i entry′ memory′ lent′ at′
+  walking-kept l k r h =
       record {
-        writes = λ ps s. nothing-written lent at (g .room) (below-hopeless (nodesFrom words args) right (labels .left) (labels .right) (drop i left) (take i (b .digits)) ps (take (length right) (b .marks)) e);
+        listable = g .listable;
+        lists = g .lists;
+        partners = g .partners;
+        formed = g .formed;
+        standing = record { pairs = g .standing .pairs; stands = g .standing .stands; unifiers = λ σ. rw (k .digits) (g .standing .unifiers σ) };
+        branching = branching-kept (g .branching) l k;
+        remembers = r;
+        room = h;
       }
 
-  -- a left term put in a label
-  module _ (h : i < length left) (d : ℕ) where
-    pub placed-next : {b′ : Branch} → b′ .digits ≡ set (b .digits) i d → b′ .marks ≡ b .marks → b′ .unpaired ≡ b .unpaired → Walking words args left right labels v c b′ (i + 1) lent at
-    placed-next ds ms u =
-        record {
-          listable = g .listable;
-          lists = g .lists;
-          formed = g .formed;
-          standing = g .standing;
-          depth = omega (arith, h);
-          digits-size = ap length ds ∙ length-set (b .digits) i d ∙ g .digits-size;
-          marks-size = ap length ms ∙ g .marks-size;
-          counted = u ∙ g .counted ∙ ap (λ (zs : List ℕ). unpairedIn (take (length right) zs)) (sym ms);
-          room = g .room;
-        }
+  -- every left term has its digit, or every right term is paired
+  pub ending : eqb i (length left) || eqb unpaired 0 ≡ true → (i ≡ length left) ⊎ (unpaired ≡ 0)
+  ending h = pick (eqb i (length left)) refl (eqb unpaired 0) refl h
+    where
+      pick : (x : Bool) → eqb i (length left) ≡ x → (y : Bool) → eqb unpaired 0 ≡ y → x || y ≡ true → (i ≡ length left) ⊎ (unpaired ≡ 0)
+      pick true p y q e = inl (eqb-true i (length left) p)
+      pick false p true q e = inr (eqb-true unpaired 0 q)
+      pick false p false q e = absurd (false≢true e)
 
-    digits-next : take (i + 1) (set (b .digits) i d) ≡ take i (b .digits) ++ d ∷ []
-    digits-next = rw (add-one i) (take-suc-set (b .digits) i d (digits-inside h))
+  -- or there is a next left term
+  pub going-on : eqb i (length left) || eqb unpaired 0 ≡ false → i < length left
+  going-on h = pick (eqb i (length left)) refl h
+    where
+      pick : (x : Bool) → eqb i (length left) ≡ x → x || eqb unpaired 0 ≡ false → i < length left
+      pick true p e = absurd (false≢true (sym e))
+      pick false p e = let n = eqb-false i (length left) p in omega (arith, n, g .branching .depth)
 
-    pub placed-stepped : {b′ : Branch} {lent′ : List ℕ} {w : Written} → b′ .digits ≡ set (b .digits) i d → b′ .marks ≡ b .marks → length right < d → Walked words args left right labels c b′ (i + 1) lent at lent′ w → Stepped words args left right labels c b i d lent at lent′ w
-    placed-stepped {b′} {lent′} {w} ds ms l r = record { writes = λ ps s. rw (equal ps) (r .writes ps s) }
-      where
-        equal : (ps : List (ℕ × ℕ)) → digitEntries words args left right labels b i d ps ≡ branchEntries words args left right labels b′ (i + 1) ps
-        equal ps =
-            digit-label (nodesFrom words args) right (below (nodesFrom words args) right (labels .left) (labels .right) (drop (i + 1) left)) (take i (b .digits)) ps (take (length right) (b .marks)) (word left i) d l
-            ∙ ap (λ (es : List ℕ). below (nodesFrom words args) right (labels .left) (labels .right) (drop (i + 1) left) es ps (take (length right) (b .marks))) (sym digits-next ∙ ap (take (i + 1)) (sym ds))
-            ∙ ap (λ (zs : List ℕ). below (nodesFrom words args) right (labels .left) (labels .right) (drop (i + 1) left) (take (i + 1) (b′ .digits)) ps (take (length right) zs)) (sym ms)
+  -- the next weight is in range
+  pub weight-room : i < length left → weight * 16 ≤ 4294967296
+  weight-room h =
+      let p : 16 ^ suc i ≤ 16 ^ 8 = pow-le-pow-right {n = 16} (omega arith) {i = suc i} {j = 8} (omega (arith, h, g .listable .left-few)) in
+      let e : weight * 16 ≡ 16 ^ suc i = ap (λ (x : ℕ). x * 16) (g .branching .weighed) ∙ sym (pow-suc 16 i) in
+      omega (arith, p, e)
 
-    -- a right term that is paired already
-    pub taken-stepped : d ≤ length right → 0 < d → word (b .marks) (d - 1) ≡ 0 → Stepped words args left right labels c b i d lent at lent (idle at)
-    taken-stepped l p z =
-        record {
-          writes = λ ps s. nothing-written lent at (g .room) (digit-taken (nodesFrom words args) right (below (nodesFrom words args) right (labels .left) (labels .right) (drop (i + 1) left)) (take i (b .digits)) ps (take (length right) (b .marks)) (word left i) d l (getD-take (length right) (b .marks) (d - 1) 0 (omega (arith, l, p)) ∙ z));
-        }
+  -- and so is the next key
+  key-small : key < weight
+  key-small =
+      let b = branch-room (g .branching) in
+      let l : length (take i entry) ≡ i = length-take-le i entry (omega (arith, b, g .branching .depth)) in
+      let k = key-bound (length right) (take i entry) (g .listable .right-few) in
+      let w : weight ≡ 16 ^ length (take i entry) = g .branching .weighed ∙ ap (λ (x : ℕ). 16 ^ x) (sym l) in
+      omega (arith, k, w, g .branching .keyed)
 
-    -- a left term paired with the right term that the digit counts to
-    module _ (l : d ≤ length right) (p : 0 < d) (n : word (b .marks) (d - 1) ≡ 0 → ⊥) where
-      unmarked : word (take (length right) (b .marks)) (d - 1) ≡ 0 → ⊥
-      unmarked e = n (sym (getD-take (length right) (b .marks) (d - 1) 0 (omega (arith, l, p))) ∙ e)
+  -- so is what a pair adds to the key
+  pub pair-room : i < length left → (d : ℕ) → d ≤ length right → d * weight ≤ 2147483648
+  pair-room h d l =
+      let m : d * weight ≤ 8 * weight = mul-le-mul-right weight (omega (arith, l, g .listable .right-few)) in
+      omega (arith, m, weight-room h)
 
-      marks-next : take (length right) (set (b .marks) (d - 1) 0) ≡ set (take (length right) (b .marks)) (d - 1) 0
-      marks-next = take-set-lt (length right) (b .marks) (d - 1) 0 (omega (arith, l, p))
+  -- and the key itself
+  pub key-room : i < length left → key ≤ 268435456
+  key-room h = omega (arith, key-small, weight-room h)
 
-      unpaired-next : b .unpaired ≡ suc (unpairedIn (take (length right) (set (b .marks) (d - 1) 0)))
-      unpaired-next = g .counted ∙ unpaired-set (take (length right) (b .marks)) (d - 1) unmarked ∙ ap (λ (zs : List ℕ). suc (unpairedIn zs)) (sym marks-next)
+  -- the next left term has digit d
+  module _ (h : i < length left) {d : ℕ} (p : 0 < d) where
+    digits-room : length left ≤ length entry
+    digits-room = omega (arith, branch-room (g .branching))
 
-      -- there is one, so that one can be taken off
-      pub unpaired-some : 0 < b .unpaired
-      unpaired-some = omega (arith, unpaired-next)
+    -- it comes behind the digits before it
+    digits-next : take (i + 1) (set entry i d) ≡ take i entry ++ d ∷ []
+    digits-next = set-digits left right entry i d h digits-room
 
-      module _ {r : Extended} {c′ : Classes} (x : Extends words args c (word left i) (word right (d - 1)) r c′) where
-        pairEntries : List (ℕ × ℕ) → List (List ℕ)
-        pairEntries ps = below (nodesFrom words args) right (labels .left) (labels .right) (drop (i + 1) left) (take i (b .digits) ++ d ∷ []) ((word left i, word right (d - 1)) ∷ ps) (set (take (length right) (b .marks)) (d - 1) 0)
+    -- the digits before it are the same where those up to it are
+    digits-before : (entry′ : List ℕ) → take (i + 1) entry′ ≡ take i entry ++ d ∷ [] → take i entry′ ≡ take i entry
+    digits-before entry′ e =
+        sym (take-take i (i + 1) entry′ (omega arith)) ∙ ap (take i) e ∙ take-at (take i entry) (d ∷ []) i (length-take-le i entry (omega (arith, digits-room, h)))
 
-        decided : (ps : List (ℕ × ℕ)) → Stands words args c ps → digitEntries words args left right labels b i d ps ≡ ifUnified (extended r) (pairEntries ps)
-        unfolding pairEntries
-        decided ps s =
-            digit-pair (nodesFrom words args) right (below (nodesFrom words args) right (labels .left) (labels .right) (drop (i + 1) left)) (take i (b .digits)) ps (take (length right) (b .marks)) (word left i) d l unmarked
-            ∙ ap (λ (o : Outcome). ifUnified o (pairEntries ps)) (sym (x .answers ps s))
+    -- a left term put in a label
+    module _ (l : length right < d) where
+      -- it pairs nothing
+      pairs-placed : pairsIn left right (set entry i d) (i + 1) ≡ pairsIn left right entry i
+      pairs-placed = rw digits-next (paired-placed left right (take i entry) d [] l)
 
-        failed : ((es : List (List ℕ)) → ifUnified (extended r) es ≡ []) → Stepped words args left right labels c b i d lent at lent (idle at)
-        failed f = record { writes = λ ps s. nothing-written lent at (g .room) (decided ps s ∙ f (pairEntries ps)) }
+      -- the walk goes on with it
+      pub placed-next : Walking words args left right labels list may cs key (weight * 16) unpaired (i + 1) (set entry i d) memory lent at
+      placed-next =
+          record {
+            listable = g .listable;
+            lists = g .lists;
+            partners = g .partners;
+            formed = g .formed;
+            standing = record { pairs = g .standing .pairs; stands = g .standing .stands; unifiers = λ σ. rw pairs-placed (g .standing .unifiers σ) };
+            branching = branching-next (g .branching) h p (length-set entry i d) digits-next (g .branching .keyed ∙ sym (key-placed (length right) (take i entry) d l)) (g .branching .counted ∙ ap unpairedIn (sym (set-marks left right entry i d h)));
+            remembers = g .remembers;
+            room = g .room;
+          }
 
-        -- a pair that fails has no entries below it
-        pub clash-stepped : r ≡ Clash → Stepped words args left right labels c b i d lent at lent (idle at)
-        unfolding ifUnified
-        clash-stepped e = failed (λ es. ap (λ (q : Extended). ifUnified (extended q) es) e)
+      -- and its entries are those below it
+      placed-entries : digitEntries words args left right labels entry i d ≡ branchEntries words args left right labels (set entry i d) (i + 1)
+      placed-entries =
+          digit-label (nodesFrom words args) right (below (nodesFrom words args) right (labels .left) (labels .right) (drop (i + 1) left)) (take i entry) (pairsIn left right entry i) (marksIn left right entry) (word left i) d l
+          ∙ rw (pairs-placed, digits-next, set-marks left right entry i d h) refl
 
-        pub occurs-stepped : r ≡ Occurs → Stepped words args left right labels c b i d lent at lent (idle at)
-        unfolding ifUnified
-        occurs-stepped e = failed (λ es. ap (λ (q : Extended). ifUnified (extended q) es) e)
+      -- so that they are written
+      pub placed-stepped : {entry′ memory′ lent′ : List ℕ} {w : Written} → Walked words args left right labels (i + 1) (set entry i d) memory lent at entry′ memory′ lent′ w → Stepped words args left right labels i d entry memory lent at entry′ memory′ lent′ w
+      placed-stepped {entry′} y =
+          record {
+            writes = rw placed-entries (y .writes);
+            size = y .size ∙ length-set entry i d;
+            keeps = λ z. record { digits = digits-before entry′ (y .keeps z .digits ∙ digits-next); marks = y .keeps z .marks ∙ set-marks left right entry i d h };
+            remembers = y .remembers;
+          }
 
-        module _ (u : r ≡ Unified) {b′ : Branch} (ds : b′ .digits ≡ set (b .digits) i d) (ms : b′ .marks ≡ set (b .marks) (d - 1) 0) where
-          pub paired-next : b′ .unpaired ≡ b .unpaired - 1 → Walking words args left right labels v c′ b′ (i + 1) lent at
-          paired-next e =
+    -- a left term paired with the right term that the digit counts to: q is the place of its mark, m that of the mark of the two
+    module _ (l : d ≤ length right) (q : ℕ) (e : q ≡ length left + d - 1) (m : ℕ) where
+      -- it is paired already, or the two have no common value
+      pub refused-stepped : m ≡ maxTerms * i + (d - 1) → eqb (word entry q) 0 || eqb (word may m) 0 ≡ true → Stepped words args left right labels i d entry memory lent at entry memory lent (idle at)
+      refused-stepped f t = nothing-below (g .remembers) (g .room) (pick (eqb (word entry q) 0) refl (eqb (word may m) 0) refl t)
+        where
+          pick : (x : Bool) → eqb (word entry q) 0 ≡ x → (y : Bool) → eqb (word may m) 0 ≡ y → x || y ≡ true → digitEntries words args left right labels entry i d ≡ []
+          pick true z y u v =
+              digit-taken (nodesFrom words args) right (below (nodesFrom words args) right (labels .left) (labels .right) (drop (i + 1) left)) (take i entry) (pairsIn left right entry i) (marksIn left right entry) (word left i) d l (mark-word left right entry q d e p l ∙ eqb-true (word entry q) 0 z)
+          pick false z true u v =
+              may-none words args left right may labels i d (below (nodesFrom words args) right (labels .left) (labels .right) (drop (i + 1) left)) (take i entry) (pairsIn left right entry i) (marksIn left right entry) (g .listable) (g .partners) h p l (branch-inside (g .listable) (g .branching)) (ap (word may) (sym f) ∙ eqb-true (word may m) 0 u)
+          pick false z false u v = absurd (false≢true v)
+
+      module _ (n : eqb (word entry q) 0 || eqb (word may m) 0 ≡ false) where
+        -- neither mark is 0, so the right term is not paired
+        unmarked : word (marksIn left right entry) (d - 1) ≡ 0 → ⊥
+        unmarked z = pick (eqb (word entry q) 0) refl n
+          where
+            pick : (x : Bool) → eqb (word entry q) 0 ≡ x → x || eqb (word may m) 0 ≡ false → ⊥
+            pick true y f = false≢true (sym f)
+            pick false y f = eqb-false (word entry q) 0 y (sym (mark-word left right entry q d e p l) ∙ z)
+
+        -- The entry with the digit, in which the right term is marked as paired.
+        abbrev paired : List ℕ
+        paired = set (set entry i d) q 0
+
+        -- the digit comes behind those before it
+        paired-digits : take (i + 1) paired ≡ take i entry ++ d ∷ []
+        paired-digits = mark-digits left right (set entry i d) q d e p l (i + 1) 0 (omega (arith, h)) ∙ digits-next
+
+        -- the right term is marked
+        paired-marks : marksIn left right paired ≡ set (marksIn left right entry) (d - 1) 0
+        paired-marks = mark-marks left right (set entry i d) q d e p l 0 ∙ ap (λ (zs : List ℕ). set zs (d - 1) 0) (set-marks left right entry i d h)
+
+        -- the entry is as long as before
+        paired-long : length paired ≡ length entry
+        paired-long = length-set (set entry i d) q 0 ∙ length-set entry i d
+
+        -- the place of the mark is in an entry that was written with it
+        pub mark-inside : {es : List (List ℕ)} {j : ℕ} {entry′ memory′ lent′ : List ℕ} {w : Written} → WritesBelow es words args left right j paired memory lent at entry′ memory′ lent′ w → q < length entry′
+        mark-inside y = omega (arith, y .size, paired-long, branch-room (g .branching), e, p, l)
+
+        -- one right term less is unpaired
+        unpaired-next : unpaired ≡ suc (unpairedIn (marksIn left right paired))
+        unpaired-next = g .branching .counted ∙ unpaired-set (marksIn left right entry) (d - 1) unmarked ∙ ap (λ (zs : List ℕ). suc (unpairedIn zs)) (sym paired-marks)
+
+        -- there is one, so that one can be taken off
+        pub unpaired-some : 0 < unpaired
+        unpaired-some = omega (arith, unpaired-next)
+
+        -- the pairs before it are the same
+        pairs-before : pairsIn left right paired i ≡ pairsIn left right entry i
+        pairs-before = ap (λ (ds : List ℕ). pairedBy left right ds []) (digits-before paired paired-digits)
+
+        -- there are i of them
+        digits-long : length (take i entry) ≡ i
+        digits-long = length-take-le i entry (omega (arith, digits-room, h))
+
+        -- and its pair comes in front
+        pairs-next : pairsIn left right paired (i + 1) ≡ (word left i, word right (d - 1)) ∷ pairsIn left right entry i
+        pairs-next =
+            ap (λ (ds : List ℕ). pairedBy left right ds []) paired-digits
+            ∙ paired-more left right (take i entry) d [] (omega (arith, digits-long, h)) l
+            ∙ ap (λ (j : ℕ). (word left j, word right (d - 1)) ∷ pairsIn left right entry i) digits-long
+
+        module _ {a b : ℕ} (x : a ≡ word left i) (y : b ≡ word right (d - 1)) where
+          -- the pair is to be joined to the classes
+          pub joining : Joining words args left right labels list may cs (key + d * weight) (weight * 16) (unpaired - 1) i a b paired memory lent at
+          joining =
               record {
                 listable = g .listable;
                 lists = g .lists;
-                formed = x .formed u;
-                standing = ((word left i, word right (d - 1)) ∷ g .standing .0, x .stands u (g .standing .0) (g .standing .1));
-                depth = omega (arith, h);
-                digits-size = ap length ds ∙ length-set (b .digits) i d ∙ g .digits-size;
-                marks-size = ap length ms ∙ length-set (b .marks) (d - 1) 0 ∙ g .marks-size;
-                counted = e ∙ omega (arith, unpaired-next) ∙ ap (λ (zs : List ℕ). unpairedIn (take (length right) zs)) (sym ms);
+                partners = g .partners;
+                formed = g .formed;
+                standing = record { pairs = g .standing .pairs; stands = g .standing .stands; unifiers = λ σ. rw pairs-before (g .standing .unifiers σ) };
+                branching = branching-next (g .branching) h p paired-long paired-digits keyed (omega (arith, unpaired-next));
+                pair = rw (pairs-next, pairs-before, x, y) refl;
+                first = rw x (g .listable .left-nodes i h);
+                second = rw y (g .listable .right-nodes (d - 1) (omega (arith, p, l)));
+                remembers = g .remembers;
                 room = g .room;
               }
-
-          pub paired-stepped : {lent′ : List ℕ} {w : Written} → Walked words args left right labels c′ b′ (i + 1) lent at lent′ w → Stepped words args left right labels c b i d lent at lent′ w
-          unfolding ifUnified pairEntries
-          paired-stepped {lent′} {w} y = record { writes = λ ps s. rw (equal ps s) (y .writes ((word left i, word right (d - 1)) ∷ ps) (x .stands u ps s)) }
             where
-              equal : (ps : List (ℕ × ℕ)) → Stands words args c ps → digitEntries words args left right labels b i d ps ≡ branchEntries words args left right labels b′ (i + 1) ((word left i, word right (d - 1)) ∷ ps)
-              equal ps s =
-                  decided ps s
-                  ∙ ap (λ (q : Extended). ifUnified (extended q) (pairEntries ps)) u
-                  ∙ ap (λ (es : List ℕ). below (nodesFrom words args) right (labels .left) (labels .right) (drop (i + 1) left) es ((word left i, word right (d - 1)) ∷ ps) (set (take (length right) (b .marks)) (d - 1) 0)) (sym digits-next ∙ ap (take (i + 1)) (sym ds))
-                  ∙ ap (λ (zs : List ℕ). below (nodesFrom words args) right (labels .left) (labels .right) (drop (i + 1) left) (take (i + 1) (b′ .digits)) ((word left i, word right (d - 1)) ∷ ps) zs) (sym marks-next ∙ ap (take (length right)) (sym ms))
+              keyed : key + d * weight ≡ keyOf (length right) (take i entry ++ d ∷ [])
+              keyed = rw (key-paired (length right) (take i entry) d l, digits-long, ← g .branching .weighed, ← g .branching .keyed) refl
+
+          -- its entries are those below it, if it can be
+          joined-entries : digitEntries words args left right labels entry i d ≡ ifUnified (outcome (nodesFrom words args) ((a, b) ∷ pairsIn left right paired i)) (branchEntries words args left right labels paired (i + 1))
+          joined-entries =
+              digit-pair (nodesFrom words args) right (below (nodesFrom words args) right (labels .left) (labels .right) (drop (i + 1) left)) (take i entry) (pairsIn left right entry i) (marksIn left right entry) (word left i) d l unmarked
+              ∙ rw (pairs-next, pairs-before, paired-digits, paired-marks, x, y) refl
+
+          -- the mark is put back
+          pub joined-stepped : {entry′ memory′ lent′ : List ℕ} {w : Written} {v : ℕ} → v ≡ word entry q → WalkedJoined words args left right labels i a b paired memory lent at entry′ memory′ lent′ w → Stepped words args left right labels i d entry memory lent at (set entry′ q v) memory′ lent′ w
+          joined-stepped {entry′} {memory′} {lent′} {w} {v} u r =
+              record {
+                writes = rw joined-entries (r .writes);
+                size = length-set entry′ q v ∙ r .size ∙ paired-long;
+                keeps = λ z. record { digits = mark-digits left right entry′ q d e p l i v (omega (arith, h)) ∙ digits-before entry′ (r .keeps z .digits ∙ paired-digits); marks = marks z };
+                remembers = r .remembers;
+              }
+            where
+              marks : w .missed ≡ 0 → marksIn left right (set entry′ q v) ≡ marksIn left right entry
+              marks z =
+                  mark-marks left right entry′ q d e p l v
+                  ∙ ap (λ (zs : List ℕ). set zs (d - 1) v) (r .keeps z .marks ∙ paired-marks)
+                  ∙ set-set (marksIn left right entry) (d - 1) 0 v
+                  ∙ ap (set (marksIn left right entry) (d - 1)) (u ∙ sym (mark-word left right entry q d e p l))
+                  ∙ set-getD (marksIn left right entry) (d - 1) 0
 
   -- before the first digit
-  pub turning-first : i < length left → Turning words args left right labels c b i lent at 1 lent at
+  pub turning-first : i < length left → Turning words args left right labels i entry lent at 1 entry memory lent at
   turning-first h =
+      let q : suc (length right + labels .right) - 1 ≡ length right + labels .right = omega arith in
       record {
         first = omega arith;
         last = omega arith;
-        remains = λ ps s. start ps;
+        size = refl;
+        keeps = record { digits = refl; marks = refl };
+        remembers = g .remembers;
+        remains = rw (q, ← below-over (nodesFrom words args) left right (labels .left) (labels .right) i (take i entry) (pairsIn left right entry i) (marksIn left right entry) h) (remains-whole (branchEntries words args left right labels entry i) lent at (g .room));
       }
-    where
-      start : (ps : List (ℕ × ℕ)) → Remains (branchEntries words args left right labels b i ps) lent at (over 1 (suc (length right + labels .right) - 1) (λ e. digitEntries words args left right labels b i e ps)) lent at
-      start ps =
-          let q : suc (length right + labels .right) - 1 ≡ length right + labels .right = omega arith in
-          rw (q, ← below-over (nodesFrom words args) left right (labels .left) (labels .right) i (take i (b .digits)) ps (take (length right) (b .marks)) h) (remains-whole (branchEntries words args left right labels b i ps) lent at (g .room))
 
-module _ {words args left right : List ℕ} {labels : Labels} {c : Classes} {b : Branch} {i : ℕ} {lent₀ : List ℕ} {at₀ d : ℕ} {lent : List ℕ} {at : ℕ} (t : Turning words args left right labels c b i lent₀ at₀ d lent at) where
+-- the digits of the next left term have been gone through up to d
+module _ {words args left right : List ℕ} {labels : Labels} {i : ℕ} {entry₀ lent₀ : List ℕ} {at₀ d : ℕ} {entry memory lent : List ℕ} {at : ℕ} (t : Turning words args left right labels i entry₀ lent₀ at₀ d entry memory lent at) where
+  -- the branch is kept, so that the entries of a digit are the same
+  digit-kept : digitEntries words args left right labels entry i d ≡ digitEntries words args left right labels entry₀ i d
+  digit-kept = rw (t .keeps .digits, t .keeps .marks) refl
+
+  -- what is known of the branch still stands
+  pub turning-walking : {list may cs : List ℕ} {key weight unpaired : ℕ} {memory₀ : List ℕ} → Walking words args left right labels list may cs key weight unpaired i entry₀ memory₀ lent₀ at₀ → Walking words args left right labels list may cs key weight unpaired i entry memory lent at
+  turning-walking g = walking-kept g (t .size) (t .keeps) (t .remembers) (t .remains .within)
+
   module _ (h : d ≤ length right + labels .right) where
-    next-remains : (ps : List (ℕ × ℕ)) → Stands words args c ps → Remains (branchEntries words args left right labels b i ps) lent₀ at₀ (digitEntries words args left right labels b i d ps ++ over (d + 1) (suc (length right + labels .right) - (d + 1)) (λ e. digitEntries words args left right labels b i e ps)) lent at
-    next-remains ps s = rw (← over-next (λ e. digitEntries words args left right labels b i e ps) d (suc (length right + labels .right)) (omega (arith, h))) (t .remains ps s)
+    next-remains : Remains (branchEntries words args left right labels entry₀ i) lent₀ at₀ (digitEntries words args left right labels entry₀ i d ++ over (d + 1) (suc (length right + labels .right) - (d + 1)) (λ e. digitEntries words args left right labels entry₀ i e)) lent at
+    next-remains = rw (over-next (λ e. digitEntries words args left right labels entry₀ i e) d (suc (length right + labels .right)) (omega (arith, h))) at (t .remains)
 
-    -- after one digit more
-    pub turning-next : {lent′ : List ℕ} {w : Written} → Stepped words args left right labels c b i d lent at lent′ w → w .full ≡ false → Turning words args left right labels c b i lent₀ at₀ (d + 1) lent′ (w .used)
-    turning-next {lent′} {w} y f =
-        record {
-          first = omega arith;
-          last = omega (arith, h);
-          remains = λ ps s. remains-next (digitEntries words args left right labels b i d ps) (next-remains ps s) lent′ w (y .writes ps s) f;
-        }
+    module _ {entry′ memory′ lent′ : List ℕ} {w : Written} (y : Stepped words args left right labels i d entry memory lent at entry′ memory′ lent′ w) where
+      stepped : Writes (digitEntries words args left right labels entry₀ i d) lent at lent′ w
+      stepped = rw digit-kept at (y .writes)
 
-    -- where an entry does not fit
-    pub turning-full : {lent′ : List ℕ} {w : Written} → Stepped words args left right labels c b i d lent at lent′ w → w .full ≡ true → Walked words args left right labels c b i lent₀ at₀ lent′ w
-    turning-full {lent′} {w} y f = record { writes = λ ps s. remains-full (digitEntries words args left right labels b i d ps) (over (d + 1) (suc (length right + labels .right) - (d + 1)) (λ e. digitEntries words args left right labels b i e ps)) (next-remains ps s) lent′ w (y .writes ps s) f }
+      -- after one digit more
+      pub turning-next : w .missed ≡ 0 → Turning words args left right labels i entry₀ lent₀ at₀ (d + 1) entry′ memory′ lent′ (w .used)
+      turning-next f =
+          record {
+            first = omega arith;
+            last = omega (arith, h);
+            size = y .size ∙ t .size;
+            keeps = keeps-again (t .keeps) (y .keeps f);
+            remembers = y .remembers f;
+            remains = remains-next (digitEntries words args left right labels entry₀ i d) next-remains lent′ w stepped f;
+          }
+
+      -- where an entry does not fit
+      pub turning-full : (memory₀ : List ℕ) → (w .missed ≡ 0 → ⊥) → Walked words args left right labels i entry₀ memory₀ lent₀ at₀ entry′ memory′ lent′ w
+      turning-full memory₀ f =
+          record {
+            writes = remains-full (digitEntries words args left right labels entry₀ i d) (over (d + 1) (suc (length right + labels .right) - (d + 1)) (λ e. digitEntries words args left right labels entry₀ i e)) next-remains lent′ w stepped f;
+            size = y .size ∙ t .size;
+            keeps = λ z. absurd (f z);
+            remembers = λ z. absurd (f z);
+          }
 
   -- after the last digit
-  pub turning-done : length right + labels .right < d → Walked words args left right labels c b i lent₀ at₀ lent (idle at)
-  turning-done h =
+  pub turning-done : (memory₀ : List ℕ) → length right + labels .right < d → Walked words args left right labels i entry₀ memory₀ lent₀ at₀ entry memory lent (idle at)
+  turning-done memory₀ h =
       record {
-        writes = λ ps s. remains-done (rw (over-end (λ e. digitEntries words args left right labels b i e ps) d (suc (length right + labels .right)) (omega (arith, h))) at (t .remains ps s));
+        writes = remains-done (rw (over-end (λ e. digitEntries words args left right labels entry₀ i e) d (suc (length right + labels .right)) (omega (arith, h))) at (t .remains));
+        size = t .size;
+        keeps = λ z. t .keeps;
+        remembers = λ z. t .remembers;
       }
 
--- what is known of the problem stands when entries were written
-pub turning-walking : {words args left right : List ℕ} {labels : Labels} {v : Variables} {c : Classes} {b : Branch} {i : ℕ} {lent₀ : List ℕ} {at₀ d : ℕ} {lent : List ℕ} {at : ℕ} → Walking words args left right labels v c b i lent₀ at₀ → Turning words args left right labels c b i lent₀ at₀ d lent at → Walking words args left right labels v c b i lent at
-turning-walking g t =
-    record {
-      listable = g .listable;
-      lists = g .lists;
-      formed = g .formed;
-      standing = g .standing;
-      depth = g .depth;
-      digits-size = g .digits-size;
-      marks-size = g .marks-size;
-      counted = g .counted;
-      room = t .remains (g .standing .0) (g .standing .1) .within;
-    }
+-- a part that was lent from a list's start lies within the list that it comes back to
+pub part-reach : (n : ℕ) (part rest : List ℕ) → length part ≡ n - 0 → n ≤ length (part ++ rest)
+part-reach n part rest e = omega (arith, e, length-append part rest)
 
-take-replicate : (n m x : ℕ) → n ≤ m → take n (replicate m x) ≡ replicate n x
-take-replicate zero m x h = refl
-take-replicate (suc n) zero x h = absurd (omega arith)
-take-replicate (suc n) (suc m) x h = ap (x ∷_) (take-replicate n m x (omega arith))
+-- a pair is to be joined to the classes
+module _ {words args left right : List ℕ} {labels : Labels} {list may cs : List ℕ} {key weight unpaired i a b : ℕ} {entry memory lent : List ℕ} {at : ℕ} (g : Joining words args left right labels list may cs key weight unpaired i a b entry memory lent at) where
+  -- it fails or not, whichever of the two lists it comes to
+  joined-unified : outcome (nodesFrom words args) ((a, b) ∷ g .standing .pairs) ≡ unified ↔ (outcome (nodesFrom words args) ((a, b) ∷ pairsIn left right entry i) ≡ unified)
+  joined-unified =
+      let x = is-node words args a (g .first) in
+      let y = is-node words args b (g .second) in
+      same-unified (nodesFrom words args) (sections-well-formed words args (g .listable .sections)) ((a, b) ∷ g .standing .pairs) ((a, b) ∷ pairsIn left right entry i) (inside-more (nodesFrom words args) a b (g .standing .pairs) x y (g .standing .stands .inside)) (rw (g .pair) at (branch-inside (g .listable) (g .branching))) (same-more (nodesFrom words args) (a, b) (g .standing .pairs) (pairsIn left right entry i) (g .standing .unifiers))
 
--- the branch without digits
-module _ {words args left right : List ℕ} {labels : Labels} (g : Listable words args left right labels) {v : Variables} {c : Classes} (s : BeginsShared words args v c) (b : Branch) (ds : b .digits ≡ replicate maxTerms 0) (ms : b .marks ≡ replicate maxTerms 1) where
-  first-marks : take (length right) (b .marks) ≡ replicate (length right) 1
-  first-marks = rw ms (take-replicate (length right) maxTerms 1 (g .right-few))
+  -- a pair that fails has no entries below it
+  failed : (outcome (nodesFrom words args) ((a, b) ∷ g .standing .pairs) ≡ unified → ⊥) → WalkedJoined words args left right labels i a b entry memory lent at entry memory lent (idle at)
+  failed f = nothing-below (g .remembers) (g .room) (not-unified _ _ (λ z. f (joined-unified .1 z)))
 
-  pub first-walking : (lent : List ℕ) → b .unpaired ≡ length right → Walking words args left right labels v c b 0 lent 0
-  first-walking lent u =
+  -- one that does not is walked on with
+  walking-on : {cs′ : List ℕ} → Formed words args cs′ → Stands words args cs′ ((a, b) ∷ g .standing .pairs) → Walking words args left right labels list may cs′ key weight unpaired (i + 1) entry memory lent at
+  walking-on f s =
       record {
-        listable = g;
-        lists = s .lists;
-        formed = s .formed;
-        standing = (s .pairs, s .stands);
-        depth = omega arith;
-        digits-size = rw ds (length-replicate {A = ℕ} maxTerms 0);
-        marks-size = rw ms (length-replicate {A = ℕ} maxTerms 1);
-        counted = u ∙ sym (unpaired-ones (length right)) ∙ ap unpairedIn (sym first-marks);
-        room = omega arith;
+        listable = g .listable;
+        lists = g .lists;
+        partners = g .partners;
+        formed = f;
+        standing = record { pairs = (a, b) ∷ g .standing .pairs; stands = s; unifiers = λ σ. rw (g .pair) (same-more (nodesFrom words args) (a, b) (g .standing .pairs) (pairsIn left right entry i) (g .standing .unifiers) σ) };
+        branching = g .branching;
+        remembers = g .remembers;
+        room = g .room;
       }
 
-  -- writes all entries: those below pairs that every substitution unifies are those below none
-  pub first-walked : {lent : List ℕ} {lent′ : List ℕ} {w : Written} → Walked words args left right labels c b 0 lent 0 lent′ w → Writes (allEntries words args left right labels) lent 0 lent′ w
-  first-walked r =
-      let e = below-same (nodesFrom words args) (sections-well-formed words args (g .sections)) right (λ j h. is-node words args (word right j) (g .right-nodes j h)) (labels .left) (labels .right) left (λ j h. is-node words args (word left j) (g .left-nodes j h)) (s .pairs) (take (length right) (b .marks)) (s .stands .inside) (s .same) in
-      rw (← first-marks, ← e) (r .writes (s .pairs) (s .stands))
+  -- and its entries are those below it
+  walked-on : outcome (nodesFrom words args) ((a, b) ∷ g .standing .pairs) ≡ unified → {entry′ memory′ lent′ : List ℕ} {w : Written} → Walked words args left right labels (i + 1) entry memory lent at entry′ memory′ lent′ w → WalkedJoined words args left right labels i a b entry memory lent at entry′ memory′ lent′ w
+  unfolding ifUnified
+  walked-on u r = rw (joined-unified .0 u) r
 
--- and as many words are lent
-pub turning-size : {words args left right : List ℕ} {labels : Labels} {v : Variables} {c : Classes} {b : Branch} {i : ℕ} {lent₀ : List ℕ} {at₀ d : ℕ} {lent : List ℕ} {at : ℕ} → Walking words args left right labels v c b i lent₀ at₀ → Turning words args left right labels c b i lent₀ at₀ d lent at → length lent ≡ length lent₀
-turning-size g t = t .remains (g .standing .0) (g .standing .1) .size
+  -- the two nodes have one head already
+  module _ (e : classOf cs a ≡ classOf cs b) where
+    -- the classes stand for the pair as well
+    at-once : Stands words args cs ((a, b) ∷ g .standing .pairs)
+    at-once = together words args cs (g .listable .sections) (g .formed) a b (g .first) (g .second) e (g .standing .pairs) (g .standing .stands)
+
+    -- so the walk goes on with them
+    pub same-next : Walking words args left right labels list may cs key weight unpaired (i + 1) entry memory lent at
+    same-next = walking-on (g .formed) at-once
+
+    -- and the pair has the entries below it
+    pub same-joined : {entry′ memory′ lent′ : List ℕ} {w : Written} → Walked words args left right labels (i + 1) entry memory lent at entry′ memory′ lent′ w → WalkedJoined words args left right labels i a b entry memory lent at entry′ memory′ lent′ w
+    same-joined r = walked-on (formed-unified words args cs (g .listable .sections) (g .formed) ((a, b) ∷ g .standing .pairs) at-once) r
+
+  -- there are not too many classes
+  pub heads-few : length cs ≤ maxNodes
+  heads-few = omega (arith, g .formed .partition .size, g .listable .sections .limit)
+
+  -- they have room
+  pub heads-room : length cs ≡ length {A = ℕ} (take (length cs - 0) (replicate maxNodes 0))
+  heads-room = sym (part-long (replicate maxNodes 0) (length cs) heads-few)
+
+  -- and come back as many
+  pub heads-long : {n : ℕ} → n ≡ length {A = ℕ} (take (length cs - 0) (replicate maxNodes 0)) → n ≡ length cs - 0
+  heads-long e = omega (arith, e, heads-room)
+
+  -- the classes are extended
+  module _ {r : Extended} {cs′ : List ℕ} (x : Extends words args cs a b r cs′) where
+    -- the answer is what the pairs come to
+    came-to : outcome (nodesFrom words args) ((a, b) ∷ g .standing .pairs) ≡ extended r
+    came-to = sym (x .answers (g .standing .pairs) (g .standing .stands))
+
+    -- a clash
+    pub clash-joined : r ≡ Clash → WalkedJoined words args left right labels i a b entry memory lent at entry memory lent (idle at)
+    clash-joined e = failed (λ z. let y = came-to ∙ ap extended e in let o : _≡_ {A = ℕ} 0 1 = cc in omega arith)
+
+    -- a variable in a term that holds it
+    pub occurs-joined : r ≡ Occurs → WalkedJoined words args left right labels i a b entry memory lent at entry memory lent (idle at)
+    occurs-joined e = failed (λ z. let y = came-to ∙ ap extended e in let o : _≡_ {A = ℕ} 0 1 = cc in omega arith)
+
+    module _ (e : r ≡ Unified) where
+      -- the walk goes on with the extended classes
+      pub joined-next : {cs″ : List ℕ} → cs″ ≡ cs′ → Walking words args left right labels list may cs″ key weight unpaired (i + 1) entry memory lent at
+      joined-next q = walking-on (rw q (x .formed e (g .standing .pairs) (g .standing .stands))) (rw q (x .stands e (g .standing .pairs) (g .standing .stands)))
+
+      -- and the pair has the entries below it
+      pub unified-joined : {entry′ memory′ lent′ : List ℕ} {w : Written} → Walked words args left right labels (i + 1) entry memory lent at entry′ memory′ lent′ w → WalkedJoined words args left right labels i a b entry memory lent at entry′ memory′ lent′ w
+      unified-joined y = walked-on (came-to ∙ ap extended e) y

@@ -105,18 +105,46 @@ writes-room {es} {lent} {at} {lent′} {w} h r =
     let l = put-long at (flatten (fitting (length lent - at) es)) lent (omega (arith, h, f)) in
     (ap length (r .words) ∙ l, omega (arith, r .used, f, h))
 
+-- 1 where b words are too many for a, otherwise 0
+abbrev over : ℕ → ℕ → ℕ
+over a b = cond (ltb a b) 1 0
+
+-- where they are not too many, it is 0
+none-over : (a b : ℕ) → b ≤ a → 0 ≡ over a b
+none-over a b h = ap (λ (t : Bool). cond t 1 0) (sym (le-ltb a b h))
+
+-- where they are, it is 1
+one-over : (a b : ℕ) → a < b → 1 ≡ over a b
+one-over a b h = ap (λ (t : Bool). cond t 1 0) (sym (lt-ltb a b h))
+
+-- where it is 0, they are not too many
+over-none : (a b : ℕ) → over a b ≡ 0 → b ≤ a
+over-none a b q = pick (ltb a b) refl q
+  where
+    pick : (t : Bool) → ltb a b ≡ t → _≡_ {A = ℕ} (cond t 1 0) 0 → b ≤ a
+    pick true e z = absurd (omega (arith, z))
+    pick false e z = ltb-false a b e
+
+-- where it is not, they are
+over-one : (a b : ℕ) → (over a b ≡ 0 → ⊥) → a < b
+over-one a b q = pick (ltb a b) refl q
+  where
+    pick : (t : Bool) → ltb a b ≡ t → (_≡_ {A = ℕ} (cond t 1 0) 0 → ⊥) → a < b
+    pick true e n = ltb-true a b e
+    pick false e n = absurd (n refl)
+
 -- no entries are written by doing nothing
-pub writes-none : (lent : List ℕ) (at : ℕ) → at ≤ length lent → Writes [] lent at lent (record { used = at; full = false })
+pub writes-none : (lent : List ℕ) (at : ℕ) → at ≤ length lent → Writes [] lent at lent (record { used = at; missed = 0 })
 unfolding flatten fitting
 writes-none lent at h =
     record {
       words = sym (put-none at lent);
       used = omega arith;
-      full = sym (le-ltb (length lent - at) 0 (omega arith));
+      missed = none-over (length lent - at) 0 (omega arith);
     }
 
 -- an entry that fits is written
-pub entry-fits : (e lent : List ℕ) (at : ℕ) {lent′ : List ℕ} → length e ≤ length lent - at → lent′ ≡ put at e lent → Writes (e ∷ []) lent at lent′ (record { used = at + length e; full = false })
+pub entry-fits : (e lent : List ℕ) (at : ℕ) {lent′ : List ℕ} → length e ≤ length lent - at → lent′ ≡ put at e lent → Writes (e ∷ []) lent at lent′ (record { used = at + length e; missed = 0 })
 unfolding flatten
 entry-fits e lent at h q =
     let a : e ++ [] ≡ e = append-nil e in
@@ -125,22 +153,22 @@ entry-fits e lent at h q =
     record {
       words = q ∙ ap (λ (zs : List ℕ). put at zs lent) (sym f);
       used = ap (λ (zs : List ℕ). at + length zs) (sym f);
-      full = sym (le-ltb (length lent - at) (length (e ++ [])) l);
+      missed = none-over (length lent - at) (length (e ++ [])) l;
     }
 
 -- an entry that does not fit is not
-pub entry-over : (e lent : List ℕ) (at : ℕ) → length lent - at < length e → Writes (e ∷ []) lent at lent (record { used = at; full = true })
+pub entry-over : (e lent : List ℕ) (at : ℕ) → length lent - at < length e → Writes (e ∷ []) lent at lent (record { used = at; missed = 1 })
 unfolding flatten fitting
 entry-over e lent at h =
     let f : fitting (length lent - at) (e ∷ []) ≡ [] = rw (lt-leb (length e) (length lent - at) h) in
     record {
       words = sym (put-none at lent) ∙ ap (λ (zs : List (List ℕ)). put at (flatten zs) lent) (sym f);
       used = omega (arith, ap (λ (zs : List (List ℕ)). length (flatten zs)) f);
-      full = sym (lt-ltb (length lent - at) (length (e ++ [])) (rw (append-nil e) h));
+      missed = one-over (length lent - at) (length (e ++ [])) (rw (append-nil e) h);
     }
 
 -- where all that remained is written, all of the entries are
-pub remains-done : {es : List (List ℕ)} {lent₀ lent : List ℕ} {at₀ at : ℕ} → Remains es lent₀ at₀ [] lent at → Writes es lent₀ at₀ lent (record { used = at; full = false })
+pub remains-done : {es : List (List ℕ)} {lent₀ lent : List ℕ} {at₀ at : ℕ} → Remains es lent₀ at₀ [] lent at → Writes es lent₀ at₀ lent (record { used = at; missed = 0 })
 remains-done {es} {lent₀} {lent} {at₀} {at} r = r .closes lent _ (writes-none lent at (r .within))
 
 -- what is taken off on one side is put to the other
@@ -152,10 +180,10 @@ less-shift a b c h = pick (ltb (a - b) c) refl
     pick false q = sym (le-ltb a (b + c) (omega (arith, h, ltb-false (a - b) c q)))
 
 -- entries that fit, and then the rest
-writes-next : (xs rest : List (List ℕ)) (lent : List ℕ) (at : ℕ) (lent′ : List ℕ) (w : Written) → at ≤ length lent → Writes xs lent at lent′ w → w .full ≡ false → (lent″ : List ℕ) (v : Written) → Writes rest lent′ (w .used) lent″ v → Writes (xs ++ rest) lent at lent″ v
+writes-next : (xs rest : List (List ℕ)) (lent : List ℕ) (at : ℕ) (lent′ : List ℕ) (w : Written) → at ≤ length lent → Writes xs lent at lent′ w → w .missed ≡ 0 → (lent″ : List ℕ) (v : Written) → Writes rest lent′ (w .used) lent″ v → Writes (xs ++ rest) lent at lent″ v
 writes-next xs rest lent at lent′ w h r q lent″ v s =
     let room = length lent - at in
-    let fits = ltb-false room (length (flatten xs)) (sym (r .full) ∙ q) in
+    let fits = over-none room (length (flatten xs)) (sym (r .missed) ∙ q) in
     let all = fitting-all room xs fits in
     let a = fitting-after room xs rest fits in
     let whole : at + length (flatten xs) ≤ length lent = omega (arith, h, fits) in
@@ -170,24 +198,24 @@ writes-next xs rest lent at lent′ w h r q lent″ v s =
     record {
       words = s .words ∙ ap (λ (zs : List ℕ). put (w .used) zs lent′) g ∙ ap (λ (k : ℕ). put k (flatten ys) lent′) u ∙ ap (put (at + length (flatten xs)) (flatten ys)) p ∙ put-put at (flatten xs) (flatten ys) lent whole ∙ ap (λ (zs : List ℕ). put at zs lent) (sym f);
       used = omega (arith, s .used, u, ap length g, ap length f, length-append (flatten xs) (flatten ys));
-      full = s .full ∙ ap (λ (k : ℕ). ltb k (length (flatten rest))) n ∙ less-shift room (length (flatten xs)) (length (flatten rest)) fits ∙ ap (ltb room) (sym t);
+      missed = s .missed ∙ ap (λ (b : Bool). cond b 1 0) (ap (λ (k : ℕ). ltb k (length (flatten rest))) n ∙ less-shift room (length (flatten xs)) (length (flatten rest)) fits ∙ ap (ltb room) (sym t));
     }
 
 -- entries of which one does not fit: the rest changes nothing
-writes-full : (xs rest : List (List ℕ)) (lent : List ℕ) (at : ℕ) (lent′ : List ℕ) (w : Written) → Writes xs lent at lent′ w → w .full ≡ true → Writes (xs ++ rest) lent at lent′ w
+writes-full : (xs rest : List (List ℕ)) (lent : List ℕ) (at : ℕ) (lent′ : List ℕ) (w : Written) → Writes xs lent at lent′ w → (w .missed ≡ 0 → ⊥) → Writes (xs ++ rest) lent at lent′ w
 writes-full xs rest lent at lent′ w r q =
     let room = length lent - at in
-    let over = ltb-true room (length (flatten xs)) (sym (r .full) ∙ q) in
+    let over = over-one room (length (flatten xs)) (λ z. q (r .missed ∙ z)) in
     let b = sym (fitting-before room xs rest over) in
     let t : length (flatten (xs ++ rest)) ≡ length (flatten xs) + length (flatten rest) = ap length (flatten-append xs rest) ∙ length-append (flatten xs) (flatten rest) in
     record {
       words = r .words ∙ ap (λ (zs : List (List ℕ)). put at (flatten zs) lent) b;
       used = r .used ∙ ap (λ (zs : List (List ℕ)). at + length (flatten zs)) b;
-      full = q ∙ sym (lt-ltb room (length (flatten (xs ++ rest))) (omega (arith, over, t)));
+      missed = r .missed ∙ sym (one-over room (length (flatten xs)) over) ∙ one-over room (length (flatten (xs ++ rest))) (omega (arith, over, t));
     }
 
 -- where the next entries are written and fit, the rest remains
-pub remains-next : {es rest : List (List ℕ)} {lent₀ lent : List ℕ} {at₀ at : ℕ} (xs : List (List ℕ)) → Remains es lent₀ at₀ (xs ++ rest) lent at → (lent′ : List ℕ) (w : Written) → Writes xs lent at lent′ w → w .full ≡ false → Remains es lent₀ at₀ rest lent′ (w .used)
+pub remains-next : {es rest : List (List ℕ)} {lent₀ lent : List ℕ} {at₀ at : ℕ} (xs : List (List ℕ)) → Remains es lent₀ at₀ (xs ++ rest) lent at → (lent′ : List ℕ) (w : Written) → Writes xs lent at lent′ w → w .missed ≡ 0 → Remains es lent₀ at₀ rest lent′ (w .used)
 remains-next {es} {rest} {lent₀} {lent} {at₀} {at} xs r lent′ w s q =
     let m = writes-room (r .within) s in
     record {
@@ -197,5 +225,5 @@ remains-next {es} {rest} {lent₀} {lent} {at₀} {at} xs r lent′ w s q =
     }
 
 -- where one of the next entries does not fit, all is written that fits
-pub remains-full : {es : List (List ℕ)} {lent₀ lent : List ℕ} {at₀ at : ℕ} (xs rest : List (List ℕ)) → Remains es lent₀ at₀ (xs ++ rest) lent at → (lent′ : List ℕ) (w : Written) → Writes xs lent at lent′ w → w .full ≡ true → Writes es lent₀ at₀ lent′ w
+pub remains-full : {es : List (List ℕ)} {lent₀ lent : List ℕ} {at₀ at : ℕ} (xs rest : List (List ℕ)) → Remains es lent₀ at₀ (xs ++ rest) lent at → (lent′ : List ℕ) (w : Written) → Writes xs lent at lent′ w → (w .missed ≡ 0 → ⊥) → Writes es lent₀ at₀ lent′ w
 remains-full {es} {lent₀} {lent} {at₀} {at} xs rest r lent′ w s q = r .closes lent′ w (writes-full xs rest lent at lent′ w s q)

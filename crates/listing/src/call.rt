@@ -1,15 +1,22 @@
 // Listing an accepted table.
 ghost use Rattle.table.specs.Code.Accepted.{Accepted};
 ghost use Rattle.multiset_unification.specs.Computed.Listing.{completeListing};
-ghost use Rattle.listing.specs.Code.Walk.{Listable, allEntries};
+ghost use Rattle.listing.specs.Code.Branch.{Listable};
+ghost use Rattle.listing.specs.Code.Walk.{allEntries};
 ghost use Rattle.listing.specs.Code.Calling.{Answers};
-use crate::Branch;
 use crate::Labels;
+use crate::memory::SLOTS;
+use crate::partners::PAIRS;
+use crate::partners::find_partners;
 use crate::walk::walk;
 use multiset_unification::Listing;
 use table::layout;
-use table::limits::MAX_TERMS;
+use table::layout::index;
+use table::limits::MAX_NODES;
 use unify::beginning::begin_shared;
+
+// Room for an entry: n + m digits and V binding words.
+const ENTRY_WORDS: usize = 80;
 
 // Lists the sides of an accepted table, by its sections and the numbers of labels.
 fn list_sides(
@@ -23,35 +30,39 @@ fn list_sides(
     requires { ⌜ Listable (now nodes) (now arguments) (now left) (now right) labels ⌝ }
     ensures { λ r. ⌜ Answers (allEntries (now (nodes .entry)) (now (arguments .entry)) (now (left .entry)) (now (right .entry)) labels) (now (out .entry)) r (now (out .exit)) ⌝ }
 {
-    let beginning = begin_shared(nodes, arguments);
-    let variables = beginning.variables;
-    let classes = beginning.classes;
-    let words = left.len() + right.len() + variables.count;
+    let n = index(layout::node_count(nodes));
+    let mut of = [0u8; MAX_NODES];
+    let variables = begin_shared(nodes, arguments, &mut of[0..n]);
+    let list = variables.nodes;
+    let v = variables.count;
+    let words = left.len() + right.len() + v;
     if words == 0 {
         return Listing::Finished(1);
     }
-    let digits = [0u32; MAX_TERMS];
-    let marks = [1u32; MAX_TERMS];
-    let branch = Branch {
-        digits,
-        marks,
-        unpaired: right.len(),
-    };
+    let mut may = [1u8; PAIRS];
+    find_partners(nodes, arguments, left, right, labels, &of[0..n], &mut may);
+    let mut entry = [1u32; ENTRY_WORDS];
+    let mut memory = [0usize; SLOTS + SLOTS];
     let w = walk(
         nodes,
         arguments,
         left,
         right,
         labels,
-        variables,
-        classes,
-        branch,
+        &list[0..v],
+        &may,
+        &of[0..n],
         0,
+        1,
+        right.len(),
+        0,
+        &mut entry[0..words],
+        &mut memory,
         out,
         0,
     );
     let entries = w.used / words;
-    if w.full {
+    if w.missed != 0 {
         return Listing::Full(entries);
     }
     Listing::Finished(entries)

@@ -9,10 +9,15 @@ ghost use Rattle.multiset_unification.specs.Answer.{told, listed, lentAfter, en
 ghost use Rattle.multiset_unification.specs.Page14.{Page14};
 use multiset_unification::Listing;
 use table::Checked;
-use table::limits::MAX_TERMS;
 
 // Entries, written into the lent words.
 mod writing;
+
+// Binding words, kept for pairs that come again.
+mod memory;
+
+// The pairs of terms that may be paired at all.
+mod partners;
 
 // The walk over the choices, depth first over left digits.
 mod walk;
@@ -29,17 +34,10 @@ struct Labels {
     right: usize,
 }
 
-// A branch of the walk: a digit for each left term so far, a mark for each right term, 0 where it is paired, and how many are not.
-struct Branch {
-    digits: [u32; MAX_TERMS],
-    marks: [u32; MAX_TERMS],
-    unpaired: usize,
-}
-
-// How many lent words are used, and whether an entry did not fit.
+// How many lent words are used, and whether an entry did not fit: 1, otherwise 0.
 struct Written {
     used: usize,
-    full: bool,
+    missed: usize,
 }
 
 // Lists the unifiers of a table's two sides, each as an entry in the lent words.

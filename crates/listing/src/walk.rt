@@ -1,24 +1,24 @@
 // The walk over the choices: depth first over left digits, each pair on top of the pairs before it. A branch ends at its first pair that fails.
+// The branch stands in an entry: the digits of the left terms so far, and a mark for each right term, 0 where it is paired.
 ghost use mathlib.Core.Path.{_≡_};
-ghost use Prim.Native.Nat.{_+_, _-_, _<_, _≤_};
-ghost use lib.ListN.{length, set};
-ghost use Rattle.table.specs.Limits.{maxTerms, maxLabels};
-ghost use Rattle.unification.specs.Code.Sections.{Sections};
-ghost use Rattle.unify.specs.Code.Stands.{Formed, Lists};
-ghost use Rattle.listing.specs.Code.Walk.{hopeless as hopelessFor, Walking, Walked, Stepped, Strung, Filled};
-use crate::Branch;
+ghost use mathlib.Core.Logic.{_⊎_};
+ghost use Prim.Native.Nat.{_+_, _<_, _≤_};
+ghost use lib.ListN.{length};
+ghost use Rattle.listing.specs.Code.Walk.{hopeless as hopelessFor, Walking, Walked, Stepped, Joining, WalkedJoined};
 use crate::Labels;
 use crate::Written;
+use crate::memory;
+use crate::partners::stuck;
 use crate::writing;
+use table::Node;
 use table::layout;
-use unify::Classes;
+use table::limits::MAX_NODES;
+use table::limits::MAX_TERMS;
 use unify::Extended;
-use unify::Variables;
-use unify::settle::extend;
-use unify::words::bind;
+use unify::settle::extend_copy;
 
-// Room for an entry: n + m digits and V binding words.
-const ENTRY_WORDS: usize = 80;
+// What a key is multiplied by for each left digit: more than any right term's number.
+const BASE: usize = 16;
 
 // Whether a side without labels leaves terms of the other without a partner.
 fn hopeless(labels: Labels, left: usize, unpaired: usize) -> bool
@@ -27,121 +27,109 @@ fn hopeless(labels: Labels, left: usize, unpaired: usize) -> bool
     (labels.left == 0) & (left < unpaired) | (labels.right == 0) & (unpaired < left)
 }
 
-// The branch in which left term i is put in the right label that digit d counts to.
-fn placed(branch: Branch, i: usize, d: usize) -> Branch
-    requires { ⌜ (i < maxTerms) × (d < 256) ⌝ }
-    ensures { λ r. ⌜ (r .digits ≡ set (branch .digits) i d) × (r .marks ≡ branch .marks) × (r .unpaired ≡ branch .unpaired) ⌝ }
-{
-    let mut digits = branch.digits;
-    let marks = branch.marks;
-    digits[i] = d as u32;
-    Branch {
-        digits,
-        marks,
-        unpaired: branch.unpaired,
-    }
-}
-
-// The branch in which left term i is paired with the right term that digit d counts to.
-fn paired(branch: Branch, i: usize, d: usize) -> Branch
-    requires { ⌜ (i < maxTerms) × (0 < d) × (d ≤ maxTerms) × (0 < branch .unpaired) ⌝ }
-    ensures { λ r. ⌜ (r .digits ≡ set (branch .digits) i d) × (r .marks ≡ set (branch .marks) (d - 1) 0) × (r .unpaired ≡ branch .unpaired - 1) ⌝ }
-{
-    let mut digits = branch.digits;
-    let mut marks = branch.marks;
-    digits[i] = d as u32;
-    marks[d - 1] = 0;
-    Branch {
-        digits,
-        marks,
-        unpaired: branch.unpaired - 1,
-    }
-}
-
-// Fills an entry with the left digits, the marks of the right terms and the binding words.
-fn fill_entry(
-    nodes: &[u32],
-    arguments: &[u32],
-    variables: Variables,
-    classes: Classes,
-    digits: &[u32],
-    marks: &[u32],
-    entry: &mut [u32],
-)
-    requires { ⌜ Sections (now nodes) (now arguments) ⌝ }
-    requires { ⌜ Formed (now nodes) (now arguments) classes ⌝ }
-    requires { ⌜ Lists (now nodes) (now arguments) variables ⌝ }
-    requires { ⌜ length (now entry) ≡ length (now digits) + length (now marks) + variables .count ⌝ }
-    ensures { λ r. ⌜ Strung (now (nodes .entry)) (now (arguments .entry)) classes (now (digits .entry)) (now (marks .entry)) (now (entry .exit)) ⌝ }
-{
-    let n = digits.len();
-    let words = n + marks.len();
-    let end = words + variables.count;
-    writing::copy(digits, entry, 0);
-    writing::copy(marks, entry, n);
-    bind(nodes, arguments, variables, classes, &mut entry[words..end]);
-}
-
-// Fills an entry, and writes it with each string of right digits.
-fn write_filled(
-    nodes: &[u32],
-    arguments: &[u32],
-    k: usize,
-    variables: Variables,
-    classes: Classes,
-    digits: &[u32],
-    marks: &[u32],
-    entry: &mut [u32],
-    out: &mut [u32],
-    at: usize,
-) -> Written
-    requires { ⌜ Sections (now nodes) (now arguments) ⌝ }
-    requires { ⌜ Formed (now nodes) (now arguments) classes ⌝ }
-    requires { ⌜ Lists (now nodes) (now arguments) variables ⌝ }
-    requires { ⌜ length (now entry) ≡ length (now digits) + length (now marks) + variables .count ⌝ }
-    requires { ⌜ (k ≤ maxLabels) × (at ≤ length (now out)) ⌝ }
-    ensures { λ r. ⌜ Filled (now (nodes .entry)) (now (arguments .entry)) classes k (now (digits .entry)) (now (marks .entry)) (now (out .entry)) at (now (out .exit)) r ⌝ }
-{
-    fill_entry(nodes, arguments, variables, classes, digits, marks, entry);
-    let n = digits.len();
-    let words = n + marks.len();
-    writing::write_rights(k, entry, n, words, out, at)
-}
-
-// Writes the entries of a whole string of left digits: one for each string of right digits, all with the same binding words.
-fn write_string(
+// Writes the entries of a branch in which every left term has its digit, or every right term is paired: all have the same binding words.
+fn write_branch(
     nodes: &[u32],
     arguments: &[u32],
     left: &[u32],
     right: &[u32],
     labels: Labels,
-    variables: Variables,
-    classes: Classes,
-    branch: Branch,
+    list: &[u8],
+    may: &[u8],
+    of: &[u8],
+    key: usize,
+    weight: usize,
+    unpaired: usize,
+    i: usize,
+    entry: &mut [u32],
+    memory: &mut [usize],
     out: &mut [u32],
     at: usize,
 ) -> Written
-    requires { ⌜ Walking (now nodes) (now arguments) (now left) (now right) labels variables classes branch (length (now left)) (now out) at ⌝ }
-    ensures { λ r. ⌜ Walked (now (nodes .entry)) (now (arguments .entry)) (now (left .entry)) (now (right .entry)) labels classes branch (length (now (left .entry))) (now (out .entry)) at (now (out .exit)) r ⌝ }
+    requires { ⌜ Walking (now nodes) (now arguments) (now left) (now right) labels (now list) (now may) (now of) key weight unpaired i (now entry) (now memory) (now out) at ⌝ }
+    requires { ⌜ (i ≡ length (now left)) ⊎ (unpaired ≡ 0) ⌝ }
+    ensures { λ r. ⌜ Walked (now (nodes .entry)) (now (arguments .entry)) (now (left .entry)) (now (right .entry)) labels i (now (entry .entry)) (now (memory .entry)) (now (out .entry)) at (now (entry .exit)) (now (memory .exit)) (now (out .exit)) r ⌝ }
 {
-    let digits = branch.digits;
-    let marks = branch.marks;
     let n = left.len();
     let m = right.len();
-    let end = n + m + variables.count;
-    let mut entry = [0u32; ENTRY_WORDS];
-    write_filled(
+    memory::put_words(
         nodes,
         arguments,
-        labels.left,
-        variables,
-        classes,
-        &digits[0..n],
-        &marks[0..m],
-        &mut entry[0..end],
+        left,
+        right,
+        list,
+        of,
+        key,
+        i,
+        entry,
+        memory,
         out,
         at,
-    )
+    );
+    if i == n {
+        let w = writing::write_rights(labels.left, entry, n, n + m, out, at);
+        memory::note_place(memory, key, at, w.used);
+        return w;
+    }
+    let w = writing::write_labels(m, labels.right, entry, i, n, out, at);
+    memory::note_place(memory, key, at, w.used);
+    w
+}
+
+// Writes the entries of a branch whose next pair, a and b, is joined on top of the classes so far.
+fn walk_joined(
+    nodes: &[u32],
+    arguments: &[u32],
+    left: &[u32],
+    right: &[u32],
+    labels: Labels,
+    list: &[u8],
+    may: &[u8],
+    of: &[u8],
+    key: usize,
+    weight: usize,
+    unpaired: usize,
+    i: usize,
+    a: Node,
+    b: Node,
+    entry: &mut [u32],
+    memory: &mut [usize],
+    out: &mut [u32],
+    at: usize,
+) -> Written
+    requires { ⌜ Joining (now nodes) (now arguments) (now left) (now right) labels (now list) (now may) (now of) key weight unpaired i (a .0) (b .0) (now entry) (now memory) (now out) at ⌝ }
+    ensures { λ r. ⌜ WalkedJoined (now (nodes .entry)) (now (arguments .entry)) (now (left .entry)) (now (right .entry)) labels i (a .0) (b .0) (now (entry .entry)) (now (memory .entry)) (now (out .entry)) at (now (entry .exit)) (now (memory .exit)) (now (out .exit)) r ⌝ }
+{
+    let n = of.len();
+    let mut heads = [0u8; MAX_NODES];
+    match extend_copy(nodes, arguments, of, &mut heads[0..n], a, b) {
+        Extended::Clash => Written {
+            used: at,
+            missed: 0,
+        },
+        Extended::Occurs => Written {
+            used: at,
+            missed: 0,
+        },
+        Extended::Unified => walk(
+            nodes,
+            arguments,
+            left,
+            right,
+            labels,
+            list,
+            may,
+            &heads[0..n],
+            key,
+            weight,
+            unpaired,
+            i + 1,
+            entry,
+            memory,
+            out,
+            at,
+        ),
+    }
 }
 
 // Writes the entries of a branch whose next left term has digit d.
@@ -151,71 +139,100 @@ fn step(
     left: &[u32],
     right: &[u32],
     labels: Labels,
-    variables: Variables,
-    classes: Classes,
-    branch: Branch,
+    list: &[u8],
+    may: &[u8],
+    of: &[u8],
+    key: usize,
+    weight: usize,
+    unpaired: usize,
     i: usize,
     d: usize,
+    entry: &mut [u32],
+    memory: &mut [usize],
     out: &mut [u32],
     at: usize,
 ) -> Written
-    requires { ⌜ Walking (now nodes) (now arguments) (now left) (now right) labels variables classes branch i (now out) at ⌝ }
+    requires { ⌜ Walking (now nodes) (now arguments) (now left) (now right) labels (now list) (now may) (now of) key weight unpaired i (now entry) (now memory) (now out) at ⌝ }
     requires { ⌜ (i < length (now left)) × (0 < d) × (d ≤ length (now right) + labels .right) ⌝ }
-    ensures { λ r. ⌜ Stepped (now (nodes .entry)) (now (arguments .entry)) (now (left .entry)) (now (right .entry)) labels classes branch i d (now (out .entry)) at (now (out .exit)) r ⌝ }
+    ensures { λ r. ⌜ Stepped (now (nodes .entry)) (now (arguments .entry)) (now (left .entry)) (now (right .entry)) labels i d (now (entry .entry)) (now (memory .entry)) (now (out .entry)) at (now (entry .exit)) (now (memory .exit)) (now (out .exit)) r ⌝ }
 {
     if right.len() < d {
-        let next = placed(branch, i, d);
+        entry[i] = d as u32;
         return walk(
             nodes,
             arguments,
             left,
             right,
             labels,
-            variables,
-            classes,
-            next,
+            list,
+            may,
+            of,
+            key,
+            weight * BASE,
+            unpaired,
             i + 1,
+            entry,
+            memory,
             out,
             at,
         );
     }
-    if branch.marks[d - 1] == 0 {
+    let p = left.len() + d - 1;
+    let mark = entry[p];
+    if (mark == 0) | (may[MAX_TERMS * i + d - 1] == 0) {
         return Written {
             used: at,
-            full: false,
+            missed: 0,
         };
     }
     let a = layout::node_at(left, i);
     let b = layout::node_at(right, d - 1);
-    let extension = extend(nodes, arguments, classes, a, b);
-    let answer = extension.answer;
-    let extended = extension.classes;
-    match answer {
-        Extended::Clash => Written {
-            used: at,
-            full: false,
-        },
-        Extended::Occurs => Written {
-            used: at,
-            full: false,
-        },
-        Extended::Unified => {
-            let next = paired(branch, i, d);
-            walk(
-                nodes,
-                arguments,
-                left,
-                right,
-                labels,
-                variables,
-                extended,
-                next,
-                i + 1,
-                out,
-                at,
-            )
-        }
+    entry[i] = d as u32;
+    entry[p] = 0;
+    if of[a.0 as usize] == of[b.0 as usize] {
+        let w = walk(
+            nodes,
+            arguments,
+            left,
+            right,
+            labels,
+            list,
+            may,
+            of,
+            key + d * weight,
+            weight * BASE,
+            unpaired - 1,
+            i + 1,
+            entry,
+            memory,
+            out,
+            at,
+        );
+        entry[p] = mark;
+        return w;
     }
+    let w = walk_joined(
+        nodes,
+        arguments,
+        left,
+        right,
+        labels,
+        list,
+        may,
+        of,
+        key + d * weight,
+        weight * BASE,
+        unpaired - 1,
+        i,
+        a,
+        b,
+        entry,
+        memory,
+        out,
+        at,
+    );
+    entry[p] = mark;
+    w
 }
 
 // Writes the entries below a branch in which the first i left terms have their digits.
@@ -225,37 +242,57 @@ pub fn walk(
     left: &[u32],
     right: &[u32],
     labels: Labels,
-    variables: Variables,
-    classes: Classes,
-    branch: Branch,
+    list: &[u8],
+    may: &[u8],
+    of: &[u8],
+    key: usize,
+    weight: usize,
+    unpaired: usize,
     i: usize,
+    entry: &mut [u32],
+    memory: &mut [usize],
     out: &mut [u32],
     at: usize,
 ) -> Written
-    requires { ⌜ Walking (now nodes) (now arguments) (now left) (now right) labels variables classes branch i (now out) at ⌝ }
-    ensures { λ r. ⌜ Walked (now (nodes .entry)) (now (arguments .entry)) (now (left .entry)) (now (right .entry)) labels classes branch i (now (out .entry)) at (now (out .exit)) r ⌝ }
+    requires { ⌜ Walking (now nodes) (now arguments) (now left) (now right) labels (now list) (now may) (now of) key weight unpaired i (now entry) (now memory) (now out) at ⌝ }
+    ensures { λ r. ⌜ Walked (now (nodes .entry)) (now (arguments .entry)) (now (left .entry)) (now (right .entry)) labels i (now (entry .entry)) (now (memory .entry)) (now (out .entry)) at (now (entry .exit)) (now (memory .exit)) (now (out .exit)) r ⌝ }
 {
-    if hopeless(labels, left.len() - i, branch.unpaired) {
+    let n = left.len();
+    let m = right.len();
+    if hopeless(labels, n - i, unpaired) {
         return Written {
             used: at,
-            full: false,
+            missed: 0,
         };
     }
-    if i == left.len() {
-        return write_string(
+    if (i == n) | (unpaired == 0) {
+        return write_branch(
             nodes,
             arguments,
             left,
             right,
             labels,
-            variables,
-            classes,
-            branch,
+            list,
+            may,
+            of,
+            key,
+            weight,
+            unpaired,
+            i,
+            entry,
+            memory,
             out,
             at,
         );
     }
-    let last = right.len() + labels.right;
+    let end = n + m;
+    if stuck(labels, may, i, n, &entry[n..end]) {
+        return Written {
+            used: at,
+            missed: 0,
+        };
+    }
+    let last = m + labels.right;
     let mut used = at;
     let mut d: usize = 1;
     while d <= last {
@@ -265,19 +302,24 @@ pub fn walk(
             left,
             right,
             labels,
-            variables,
-            classes,
-            branch,
+            list,
+            may,
+            of,
+            key,
+            weight,
+            unpaired,
             i,
             d,
+            entry,
+            memory,
             out,
             used,
         );
-        if w.full {
+        if w.missed != 0 {
             return w;
         }
         used = w.used;
         d += 1;
     }
-    Written { used, full: false }
+    Written { used, missed: 0 }
 }

@@ -3,7 +3,7 @@ ghost use mathlib.Core.Path.{_≡_};
 ghost use Rattle.table.specs.Code.Accepted.{Accepted};
 ghost use Rattle.multiset_unification.specs.Answer.{entryWords};
 use table::layout;
-use unify::beginning::begin;
+use unify::beginning::variables;
 
 // How many words an entry of an accepted table has.
 pub fn accepted_words(table: &[u32]) -> usize
@@ -14,7 +14,6 @@ pub fn accepted_words(table: &[u32]) -> usize
     let arguments = layout::section(table, layout::ARGUMENTS);
     let left = layout::section(table, layout::LEFT_TERMS);
     let right = layout::section(table, layout::RIGHT_TERMS);
-    let beginning = begin(nodes, arguments);
-    let variables = beginning.variables;
-    left.len() + right.len() + variables.count
+    let present = variables(nodes, arguments);
+    left.len() + right.len() + present.count
 }

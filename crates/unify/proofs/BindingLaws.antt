@@ -1,15 +1,17 @@
 -- The words that are found by names are the binding words: the least application with a name, or the least node of the lowest
 -- variable with it, as the variables present are listed in rising order. Assumes nothing.
-use Prim.Native.Nat.{ℕ, zero, suc, _<_, _≤_}
+use Prim.Native.Nat.{ℕ, suc, _-_, _<_, _≤_}
 use mathlib.Core.List.{List, [], _∷_, _++_, map, List·Memᴰ, map-map}
 use mathlib.Core.Path.{_≡_, refl, sym, ap, _∙_}
 use native.Mathlib.Decide.{ℕ-discrete}
+use native.Mathlib.Nat.{sub-zero}
 use native.Mathlib.Omega.{arith}
-use lib.ListN.{length, drop}
-use lib.Seq.{take-length}
+use lib.ListN.{length, take, drop, replicate, getD-replicate}
+use lib.Seq.{take-append-le, getD-take}
+use Rattle.table.specs.Limits.{maxNodes}
 use Rattle.table.specs.Layout.{word, kindOf, nameOf, nodeCount}
 use Rattle.unification.specs.Node.{Node, variable, application, nodeAt, Present}
-use Rattle.unification.specs.Words.{Rising, before, Least, Matched}
+use Rattle.unification.specs.Words.{Least, Matched}
 use Rattle.unification.specs.Computed.Classes.{classOf}
 use Rattle.unification.specs.Computed.Variables.{variablesOf}
 use Rattle.unification.specs.Computed.Solution.{nodeOf}
@@ -24,32 +26,17 @@ use Rattle.unification.proofs.VariableLaws.{variables-rise, variables-present, 
 use Rattle.unification.proofs.FirstLaws.{node-of}
 use Rattle.unification.proofs.SectionLaws.{run, nodes-long, application-from, from-application, sections-well-formed, counted, is-node}
 use Rattle.unification.proofs.ValuedLaws.{names-decide}
-use Rattle.unification.proofs.ListLaws.{taken, placed, map-at}
-use Rattle.unify.specs.declared.Classes.{Classes}
-use Rattle.unify.specs.declared.Variables.{Variables}
-use Rattle.unify.specs.Code.Stands.{headsOf, Lists, Leaves}
+use Rattle.unification.proofs.ListLaws.{placed, map-at, first-long}
+use Rattle.unify.specs.Code.Stands.{Leaves}
 use Rattle.unify.specs.Code.Order.{Ordered}
+use Rattle.unify.specs.Code.Ordering.{Starting}
 use Rattle.unify.specs.Code.Kept.{Writes}
 use Rattle.unify.specs.Code.Present.{leastNodes}
 use Rattle.unify.specs.Code.Named.{valueName, Named}
-use Rattle.unify.specs.Code.Binding.{HeadNames, IsFree, nameAt, ApplicationsFrom, FreeFrom, readAt, AreNodes, WordsFound, Binds}
-use Rattle.unify.proofs.OrderedLaws.{placeIn, ordered-enough, ordered-solved}
+use Rattle.unify.specs.Code.Binding.{HeadNames, IsFree, nameAt, ApplicationsFrom, FreeFrom, readAt, AreNodes, WordsFound}
+use Rattle.unify.proofs.OrderedLaws.{rank, ordered-enough, ordered-solved}
 use Rattle.unify.proofs.NamedLaws.{variable-name, named-valued}
-use Rattle.unify.proofs.LeastLaws.{least-long}
-
--- what is in a list stands at some place
-member-place : (xs : List ℕ) (x : ℕ) → List·Memᴰ x xs → (k : ℕ) × (k < length xs) × (x ≡ word xs k)
-member-place xs x m = taken (length xs) xs x (rw (take-length xs) m)
-
--- a rising list rises from place to place
-rising-places : (xs : List ℕ) → Rising _<_ xs → (j k : ℕ) → j ≤ k → k < length xs → word xs j ≤ word xs k
-rising-places [] r j k l h = absurd (omega arith)
-rising-places (x ∷ xs) r zero zero l h = omega arith
-rising-places (x ∷ xs) (before b r) zero (suc k) l h =
-    let q = b (word xs k) (placed xs k (omega arith)) in
-    omega (arith, q)
-rising-places (x ∷ xs) r (suc j) zero l h = absurd (omega arith)
-rising-places (x ∷ xs) (before b r) (suc j) (suc k) l h = rising-places xs r j k (omega arith) (omega arith)
+use Rattle.unify.proofs.LeastLaws.{member-place, rising-places, least-long}
 
 module _ (words args list : List ℕ) (e : list ≡ leastNodes (nodesFrom words args)) where
   -- The nodes of the two sections.
@@ -149,10 +136,13 @@ module _ (words args list : List ℕ) (e : list ≡ leastNodes (nodesFrom words 
           l)
         where
           lowest : (y : ℕ) → (j : ℕ) × (j < length list) × (y ≡ word (variablesOf ns) j) × (nameAt cs names list j ≡ valueName cs names (nodeOf ns x)) → word (variablesOf ns) k ≤ y
-          lowest y (j, h, e, n) =
-              let b = r .least j (omega arith, h, place-free j h n, n) in
-              let t = rising-places (variablesOf ns) (variables-rise ns) k j b (rw list-long at h) in
-              omega (arith, t)
+          lowest y (j, h, e, n) = pick (r .least j (omega arith, h, place-free j h n, n)) (ℕ-discrete k j)
+            where
+              pick : k ≤ j → Dec (k ≡ j) → word (variablesOf ns) k ≤ y
+              pick b (yes z) = let q = ap (word (variablesOf ns)) z in omega (arith, q, e)
+              pick b (no z) =
+                  let t = rising-places (variablesOf ns) (variables-rise ns) k j (omega (arith, b, z)) (rw list-long at h) in
+                  omega (arith, t, e)
 
       named-free : IsFound x
       named-free =
@@ -184,23 +174,32 @@ pub heads-named : (words args cs names : List ℕ) → Named words args cs names
 heads-named words args cs names m s p l = record { readable = record { sections = s; partition = p; long = l }; named = m }
 
 -- the words found are the binding words
-pub found-bind : (words args cs order names list out out′ : List ℕ) → WordsFound words cs names list out out′ → HeadNames words args cs names → Ordered words args cs order → list ≡ leastNodes (nodesFrom words args) → Binds (nodesFrom words args) cs out out′
-found-bind words args cs order names list out out′ f m o e ps h c =
+pub found-leaves : (words args cs order names list out out′ : List ℕ) → WordsFound words cs names list out out′ → HeadNames words args cs names → Ordered words args cs order → list ≡ leastNodes (nodesFrom words args) → Leaves words args cs out out′
+found-leaves words args cs order names list out out′ f m o e ps t =
     let s = m .readable .sections in
-    let d : wordsOf (nodesFrom words args) ps ≡ readAt cs names (f .all) list = names-decide (nodesFrom words args) (sections-well-formed words args s) ps h (classOf cs) (placeIn order) (ordered-solved words args s cs ps h c order o) (length order) (ordered-enough words args s cs ps h c order o) (valueName cs names) (named-valued words args cs names s (m .readable .partition) (m .named)) (readAt cs names (f .all) list) (named-read words args list e cs names m ps c (f .applications) (f .all) (f .applied) (f .free)) in
-    f .words-read ∙ ap (λ (l : List ℕ). l ++ drop (length list) out) (sym d) ∙ ap (λ (l : List ℕ). wordsOf (nodesFrom words args) ps ++ drop (length l) out) e
+    let h = t .inside in
+    let c = t .closed in
+    let d : wordsOf (nodesFrom words args) ps ≡ readAt cs names (f .all) list = names-decide (nodesFrom words args) (sections-well-formed words args s) ps h (classOf cs) (rank words order) (ordered-solved words args s cs ps h c order o) (suc (length order)) (ordered-enough words args s cs ps h c order o) (valueName cs names) (named-valued words args cs names s (m .readable .partition) (m .named)) (readAt cs names (f .all) list) (named-read words args list e cs names m ps c (f .applications) (f .all) (f .applied) (f .free)) in
+    f .words-read ∙ ap (λ (l : List ℕ). l ++ drop (length list) out) (sym d) ∙ ap (λ (n : ℕ). wordsOf (nodesFrom words args) ps ++ drop n out) (ap length e ∙ least-long words args)
 
--- the words of the classes' heads are those of the classes
-pub leaves : (words args : List ℕ) (c : Classes) (heads out out′ : List ℕ) → heads ≡ headsOf words c → Binds (nodesFrom words args) heads out out′ → Leaves words args c out out′
-leaves words args c heads out out′ e b ps s =
-    let d : Closed (nodesFrom words args) ps (classOf heads) = rw e (s .closed) in
-    rw (← least-long words args) (b ps (s .inside) d)
+-- the search for an order starts with no node placed
+pub nothing-placed : (n m : ℕ) → n ≡ m → n ≤ maxNodes → Starting m (take (n - 0) (replicate maxNodes 0)) (take (n - 0) (replicate maxNodes 0))
+nothing-placed n m e l =
+    record {
+      marks-size = first-long n l ∙ e;
+      order-size = first-long n l ∙ e;
+      new = λ k h. getD-take (n - 0) (replicate maxNodes 0) k 0 (omega arith) ∙ getD-replicate {A = ℕ} maxNodes k 0 0 (omega arith);
+    }
+
+-- the order is the first part of a longer list
+pub ordered-part : (words args cs xs ys : List ℕ) (k : ℕ) → k ≤ length xs → Ordered words args cs (take k xs) → Ordered words args cs (take (k - 0) (xs ++ ys))
+ordered-part words args cs xs ys k h o = rw (sub-zero k, take-append-le k xs ys h) o
 
 -- where no variable is present there are no words, and nothing is written
-pub leaves-nothing : (words args : List ℕ) (v : Variables) (c : Classes) (out : List ℕ) → Lists words args v → v .count ≡ 0 → Leaves words args c out out
+pub leaves-nothing : (words args cs list out : List ℕ) → list ≡ leastNodes (nodesFrom words args) → length list ≡ 0 → Leaves words args cs out out
 unfolding wordsOf bindingWords
-leaves-nothing words args v c out l z ps s =
-    pick (variablesOf (nodesFrom words args)) (sym (l .counted) ∙ z)
+leaves-nothing words args cs list out e z ps s =
+    pick (variablesOf (nodesFrom words args)) (sym (ap length e ∙ least-long words args) ∙ z)
   where
     pick : (xs : List ℕ) → length xs ≡ 0 → out ≡ map (wordOf (nodesFrom words args) (unifier (nodesFrom words args) ps)) xs ++ drop (length xs) out
     pick [] e = refl

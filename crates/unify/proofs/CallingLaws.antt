@@ -1,11 +1,12 @@
 -- What a call answers, by its parts: a refused table by its refusal, an accepted one by its nodes. Assumes nothing.
-use Prim.Native.Nat.{ℕ, _<_, _≤_}
+use Prim.Native.Nat.{ℕ, _-_, _<_, _≤_}
 use mathlib.Core.Bool.{Bool, true, false, _||_}
-use mathlib.Core.List.{List, [], _∷_}
-use mathlib.Core.Logic.{_⊎_, inl, inr}
+use mathlib.Core.List.{List, [], _∷_, List·Memᴰ, List·Memᴰ·head, List·Memᴰ·cases-cons, List·Memᴰ·eq-of-singleton}
+use mathlib.Core.Logic.{_⊎_, inl, inr, _↔_}
 use mathlib.Core.Path.{_≡_, refl, sym, ap, _∙_}
+use native.Mathlib.Nat.{sub-zero}
 use native.Mathlib.Omega.{arith}
-use borrow.Author.Tests.{leb-false, ltb-false, lt-ltb, le-ltb}
+use borrow.Author.Tests.{leb-false, ltb-false, lt-leb, lt-ltb, le-ltb}
 use lib.Dec.{leb, ltb}
 use lib.ListN.{length, take}
 use Rattle.table.specs.declared.Refusal.{Refusal}
@@ -15,27 +16,32 @@ use Rattle.table.specs.Layout.{nodeCount}
 use Rattle.table.specs.Answer.{numberOf}
 use Rattle.table.specs.Refusal.{conditions, refusal}
 use Rattle.table.specs.Code.Accepted.{Accepted}
-use Rattle.table.proofs.BoolLaws.{or-false-left, or-false-right}
+use Rattle.table.proofs.BoolLaws.{or-false-left, or-false-right, or-both-false}
 use Rattle.table.proofs.RefusalLaws.{First, here, later, first-before, refused}
 use Rattle.table.proofs.AcceptedLaws.{accepted, first-after}
 use Rattle.table.proofs.AnswerLaws.{number-within}
 use Rattle.terms.specs.Substitution.{Substitution}
 use Rattle.unification.specs.declared.Unification.{Unification}
-use Rattle.unification.specs.Node.{nodesIn}
-use Rattle.unification.specs.Unifier.{value, MostGeneral}
+use Rattle.unification.specs.Node.{Node, nodesIn}
+use Rattle.unification.specs.Unifier.{value, Unifies, MostGeneral}
 use Rattle.unification.specs.Words.{Reads}
-use Rattle.unification.specs.Outcome.{Outcome, unified}
 use Rattle.unification.specs.Computed.Variables.{variablesOf}
 use Rattle.unification.specs.Computed.Unifying.{outcome, unifier, wordsOf}
 use Rattle.unification.specs.Answer as answer
 use Rattle.unification.specs.Answer.{told, variableCount, unifyConditions, ended, unification, wordsAfter, lentAfter}
-use Rattle.unification.specs.Code.Sections.{nodesFrom}
-use Rattle.unification.proofs.SectionLaws.{nodes-long}
+use Rattle.unification.specs.Code.Given.{Inside}
+use Rattle.unification.specs.Code.Sections.{nodesFrom, Sections}
+use Rattle.unification.proofs.SectionLaws.{nodes-long, is-node, sections-well-formed}
+use Rattle.unification.proofs.OutcomeLaws.{outcome-unified}
+use Rattle.unification.proofs.PairLaws.{same-unifiers}
 use Rattle.unification.proofs.AnswerLaws.{words-counted, refused-exactly, answered-exactly, unified-readable, unified-reading, clash-fails, occurs-fails}
-use Rattle.unify.specs.declared.Classes.{Classes}
 use Rattle.unify.specs.declared.Variables.{Variables}
-use Rattle.unify.specs.Code.Stands.{Lists, Stands, Leaves}
+use Rattle.unify.specs.declared.Extended.{Extended}
+use Rattle.unify.specs.Code.Present.{leastNodes}
+use Rattle.unify.specs.Code.Stands.{Stands, extended, Extends, Lists, Leaves, BeginsShared}
 use Rattle.unify.specs.Code.Calling.{called, Answers}
+use Rattle.unify.proofs.LeastLaws.{least-long}
+use Rattle.unify.proofs.TogetherLaws.{outcome-together}
 
 module _ (t : List ℕ) (a b : ℕ) where
   -- a table that is refused gets its refusal
@@ -74,50 +80,101 @@ module _ (t : List ℕ) (a b : ℕ) where
     unfolding lentAfter
     accepted-words lent = rw (accepted-table (length lent))
 
--- A call with an accepted table, by its parts: n nodes, two numbers, the lent words.
-module _ (words args : List ℕ) (a b n : ℕ) (e : n ≡ nodeCount words) (lent : List ℕ) where
-  nodes : length (nodesFrom words args) ≡ n
-  nodes = nodes-long words args ∙ sym e
-
+-- A number is no node, or both are: n is the number of nodes.
+module _ (words args : List ℕ) (a b n : ℕ) (e : n ≡ nodeCount words) where
   -- a number is no node
-  pub answers-node : (leb n a || leb n b) ≡ true → Answers (nodesFrom words args) a b lent (Unification.Refused Refusal.NotANode) lent
+  pub answers-node : (lent : List ℕ) → (leb n a || leb n b) ≡ true → Answers (nodesFrom words args) a b lent (Unification.Refused Refusal.NotANode) lent
   unfolding called wordsAfter
-  answers-node g =
-      let h : (leb (length (nodesFrom words args)) a || leb (length (nodesFrom words args)) b) ≡ true = rw nodes g in
+  answers-node lent g =
+      let h : (leb (length (nodesFrom words args)) a || leb (length (nodesFrom words args)) b) ≡ true = rw (nodes-long words args ∙ sym e) g in
       record { answer = rw h; words = rw h }
 
-  module _ (g : (leb n a || leb n b) ≡ false) where
-    -- both are
-    pub nodes-given : (a < nodeCount words) × (b < nodeCount words)
-    nodes-given =
-        let p = leb-false n a (or-false-left (leb n a) (leb n b) g) in
-        let q = leb-false n b (or-false-right (leb n a) (leb n b) g) in
-        (omega (arith, p), omega (arith, q))
+  -- both are
+  pub nodes-given : (leb n a || leb n b) ≡ false → (a < nodeCount words) × (b < nodeCount words)
+  nodes-given g =
+      let p = leb-false n a (or-false-left (leb n a) (leb n b) g) in
+      let q = leb-false n b (or-false-right (leb n a) (leb n b) g) in
+      (omega (arith, p), omega (arith, q))
 
-    both : (leb (length (nodesFrom words args)) a || leb (length (nodesFrom words args)) b) ≡ false
-    both = rw nodes g
+-- Two nodes, the lent words, and what unifying begins with.
+module _ (words args : List ℕ) (s : Sections words args) (a b : ℕ) (h : (a < nodeCount words) × (b < nodeCount words)) (lent : List ℕ) (v : Variables) (cs : List ℕ) (g : BeginsShared words args v cs) where
+  abbrev ns : List Node
+  ns = nodesFrom words args
 
-    module _ (v : Variables) (l : Lists words args v) where
-      -- too few words are lent
-      pub answers-few : length lent < v .count → Answers (nodesFrom words args) a b lent (Unification.Refused Refusal.TooFewLent) lent
-      unfolding called wordsAfter
-      answers-few h =
-          let d = l .counted in
-          let z : ltb (length lent) (length (variablesOf (nodesFrom words args))) ≡ true = lt-ltb (length lent) (length (variablesOf (nodesFrom words args))) (omega (arith, d)) in
-          record { answer = rw (both, z); words = rw (both, z) }
+  both : (leb (length ns) a || leb (length ns) b) ≡ false
+  both =
+      or-both-false (leb (length ns) a) (leb (length ns) b) (lt-leb (length ns) a (is-node words args a (h .0))) (lt-leb (length ns) b (is-node words args b (h .1)))
 
-      -- enough are: the answer is what unifying the two nodes comes to
-      pub answers-ended : v .count ≤ length lent → (r : Unification) (o : Outcome) (lent′ : List ℕ) → told r ≡ ended o → o ≡ outcome (nodesFrom words args) ((a, b) ∷ []) → lent′ ≡ wordsAfter (ended o) (wordsOf (nodesFrom words args) ((a, b) ∷ [])) lent → Answers (nodesFrom words args) a b lent r lent′
-      unfolding called
-      answers-ended h r o lent′ t q w =
-          let d = l .counted in
-          let z : ltb (length lent) (length (variablesOf (nodesFrom words args))) ≡ false = le-ltb (length lent) (length (variablesOf (nodesFrom words args))) (omega (arith, d)) in
-          record { answer = rw (both, z, ← q) t; words = rw (both, z, ← q) w }
+  -- too few words are lent
+  pub answers-few : length lent < v .count → Answers ns a b lent (Unification.Refused Refusal.TooFewLent) lent
+  unfolding called wordsAfter
+  answers-few l =
+      let d = g .lists .counted in
+      let z : ltb (length lent) (length (variablesOf ns)) ≡ true = lt-ltb (length lent) (length (variablesOf ns)) (omega (arith, d)) in
+      record { answer = rw (both, z); words = rw (both, z) }
 
--- the binding words of classes that stand for the pair are left where it is unified
-pub unified-left : (words args lent lent′ : List ℕ) (c : Classes) (ps : List (ℕ × ℕ)) → Stands words args c ps → Leaves words args c lent lent′ → lent′ ≡ wordsAfter (ended unified) (wordsOf (nodesFrom words args) ps) lent
-unfolding wordsAfter
-unified-left words args lent lent′ c ps s l = rw (words-counted (nodesFrom words args) ps) (l ps s)
+  -- the pair alone has the unifiers of the pair with those of one term
+  pair-alone : (σ : Substitution) → Unifies ns ((a, b) ∷ g .pairs) σ ↔ Unifies ns ((a, b) ∷ []) σ
+  pair-alone σ = (
+    (λ u x y m. u x y (List·Memᴰ·head (List·Memᴰ·eq-of-singleton m))),
+    (λ u x y m. either x y u (List·Memᴰ·cases-cons m)),
+  )
+    where
+      either : (x y : ℕ) → Unifies ns ((a, b) ∷ []) σ → (_≡_ {A = ℕ × ℕ} (x, y) (a, b)) ⊎ List·Memᴰ (x, y) (g .pairs) → value ns σ x ≡ value ns σ y
+      either x y u (inl e) = u x y (List·Memᴰ·head e)
+      either x y u (inr m) = g .same σ x y m
+
+  -- Enough words are lent, and the classes are extended by the pair.
+  module _ (l : v .count ≤ length lent) (r : Extended) (cs′ : List ℕ) (x : Extends words args cs a b r cs′) where
+    -- what unifying the two nodes comes to
+    comes : extended r ≡ outcome ns ((a, b) ∷ [])
+    comes =
+        x .answers (g .pairs) (g .stands) ∙ outcome-together ns (sections-well-formed words args s) a b (is-node words args a (h .0)) (is-node words args b (h .1)) (g .pairs) (g .stands .inside) (g .same)
+
+    -- it is the answer
+    answers-ended : (u : Unification) (lent′ : List ℕ) → told u ≡ ended (extended r) → lent′ ≡ wordsAfter (ended (extended r)) (wordsOf ns ((a, b) ∷ [])) lent → Answers ns a b lent u lent′
+    unfolding called
+    answers-ended u lent′ t w =
+        let d = g .lists .counted in
+        let z : ltb (length lent) (length (variablesOf ns)) ≡ false = le-ltb (length lent) (length (variablesOf ns)) (omega (arith, d)) in
+        record { answer = rw (both, z, ← comes) t; words = rw (both, z, ← comes) w }
+
+    -- a clash
+    pub answers-clash : r ≡ Extended.Clash → Answers ns a b lent Unification.Clash lent
+    unfolding wordsAfter
+    answers-clash e = answers-ended Unification.Clash lent (rw e) (rw e)
+
+    -- a class that leads to itself
+    pub answers-occurs : r ≡ Extended.Occurs → Answers ns a b lent Unification.Occurs lent
+    unfolding wordsAfter
+    answers-occurs e = answers-ended Unification.Occurs lent (rw e) (rw e)
+
+    module _ (e : r ≡ Extended.Unified) where
+      unified-stands : Stands words args cs′ ((a, b) ∷ g .pairs)
+      unified-stands = x .stands e (g .pairs) (g .stands)
+
+      one-inside : Inside ns ((a, b) ∷ [])
+      one-inside y z m = unified-stands .inside y z (List·Memᴰ·head (List·Memᴰ·eq-of-singleton m))
+
+      -- their words are those of the pair
+      one-words : wordsOf ns ((a, b) ∷ g .pairs) ≡ wordsOf ns ((a, b) ∷ [])
+      one-words =
+          same-unifiers ns (sections-well-formed words args s) ((a, b) ∷ g .pairs) ((a, b) ∷ []) (unified-stands .inside) one-inside pair-alone (outcome-unified ns (sections-well-formed words args s) ((a, b) ∷ g .pairs) (unified-stands .inside) .0 (sym (x .answers (g .pairs) (g .stands)) ∙ ap extended e))
+
+      -- unified: the binding words are left
+      pub answers-unified : (lent′ : List ℕ) → Leaves words args cs′ lent lent′ → Answers ns a b lent Unification.Unified lent′
+      unfolding wordsAfter
+      answers-unified lent′ w =
+          answers-ended Unification.Unified lent′ (rw e)
+          (rw (e, ← one-words, words-counted ns ((a, b) ∷ g .pairs)) (w ((a, b) ∷ g .pairs) unified-stands))
+
+-- the least nodes of the variables present, for which enough words are lent
+pub list-given : (words args : List ℕ) (v : Variables) (n : ℕ) → Lists words args v → v .count ≤ n → (take (v .count - 0) (v .nodes) ≡ leastNodes (nodesFrom words args)) × (length (take (v .count - 0) (v .nodes)) ≤ n)
+list-given words args v n l h =
+    let e : take (v .count - 0) (v .nodes) ≡ leastNodes (nodesFrom words args) = ap (λ (k : ℕ). take k (v .nodes)) (sub-zero (v .count)) ∙ l .nodes in
+    let d = ap length e ∙ least-long words args in
+    let c = l .counted in
+    (e, omega (arith, d, c))
 
 -- All that is promised of a call.
 abbrev pub Promised : List ℕ → ℕ → ℕ → List ℕ → Unification → List ℕ → Type 0

@@ -13,7 +13,7 @@ use Rattle.unification.specs.Code.Given.{WellFormed, Inside}
 use Rattle.unification.specs.Code.Heads.{Partition, Unites}
 use Rattle.unification.specs.Code.Solved.{HeadFits, Closed}
 use Rattle.unification.proofs.ListLaws.{zip-left, zip-right, zip-through}
-use Rattle.unification.proofs.JoinedLaws.{Among, more-joined, classes-stay}
+use Rattle.unification.proofs.JoinedLaws.{more-joined, classes-stay}
 use Rattle.unification.proofs.CountLaws.{join-length, join-second, join-other, join-first, join-stays, unites-front}
 use Rattle.unify.specs.Code.Closing.{Coarser, Linked, HeadLinks, Closing}
 
@@ -41,11 +41,6 @@ retold ns ps cs todo todo′ k w c =
           let x = c .applications i f us p d in
           record { arguments = x .arguments; applied = x .applied; as-long = x .as-long; linked = λ a b m. linked-on cs cs todo todo′ refl (λ i j p q e. e) k a b (x .linked a b m) };
     }
-
--- the same pairs in another order
-pub reordered : (ns : List Node) (ps : List (ℕ × ℕ)) (cs : List ℕ) (todo todo′ : List (ℕ × ℕ)) → Among todo todo′ → Among todo′ todo → Closing ns ps cs todo → Closing ns ps cs todo′
-reordered ns ps cs todo todo′ x y c =
-    retold ns ps cs todo todo′ (λ ds h u a b m. u a b (x (a, b) m)) (λ a b m. c .wanted a b (y (a, b) m)) c
 
 -- a pair of one class is done
 pub already : (ns : List Node) (ps : List (ℕ × ℕ)) (cs : List ℕ) (a b : ℕ) (todo : List (ℕ × ℕ)) → a < length cs → b < length cs → classOf cs a ≡ classOf cs b → Closing ns ps cs ((a, b) ∷ todo) → Closing ns ps cs todo

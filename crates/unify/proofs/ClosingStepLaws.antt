@@ -1,28 +1,26 @@
--- What each way out of joining two nodes comes to, and how such steps add up. Assumes nothing.
+-- What each way out of joining two nodes comes to, and how joining their heads' arguments one after the other adds up. Assumes nothing.
 use Prim.Native.Nat.{ℕ, _+_, _<_, _≤_}
 use mathlib.Core.Bool.{Bool, true, false, false≢true}
-use mathlib.Core.List.{List, [], _∷_, _++_, map, List·Memᴰ, List·Memᴰ·head, List·Memᴰ·tail, Memᴰ·append-left, Memᴰ·append-right, List·Memᴰ·append-cases, zip, append-assoc}
+use mathlib.Core.List.{List, _∷_, _++_, map, List·Memᴰ, List·Memᴰ·head, List·Memᴰ·tail, Memᴰ·append-left, Memᴰ·append-right, List·Memᴰ·append-cases, zip, append-assoc}
 use mathlib.Core.Logic.{_⊎_, inl, inr}
 use mathlib.Core.Path.{_≡_, refl, sym, ap, _∙_}
 use native.Mathlib.Numerals.{add-one}
+use native.Mathlib.Decide.{ℕ-discrete}
 use native.Mathlib.Omega.{arith}
 use borrow.Author.Tests.{eq-eqb, eqb-true}
-use borrow.Author.Count.{below-more}
 use lib.Dec.{eqb}
-use lib.ListN.{length, set, length-set}
-use lib.Seq.{getD-set-same, getD-set-other}
-use Rattle.table.specs.Layout.{word, kindOf, nameOf, countOf, nodeCount, argumentOf}
+use lib.ListN.{length}
+use Rattle.table.specs.Layout.{kindOf, nameOf, countOf, nodeCount, argumentOf}
 use Rattle.unification.specs.Node.{Node, application, nodeAt, tabulate}
 use Rattle.unification.specs.Closure.{OneSymbol, Joined, arguments, back, on, Clash}
 use Rattle.unification.specs.Computed.Classes.{classOf, renamed, join}
-use Rattle.unification.specs.Code.Heads.{roots}
+use Rattle.unification.specs.Code.Heads.{Partition, roots}
 use Rattle.unification.specs.Code.Sections.{nodesFrom, Sections, symbolTest}
-use Rattle.unification.proofs.JoinedLaws.{Among}
-use Rattle.unification.proofs.CountLaws.{join-length, join-keeps, join-lowers, unites-front, in-list}
-use Rattle.unification.proofs.SectionLaws.{symbols-differ, run, run-long, nodes-long, variable-from, application-from, from-application, symbol-test, is-node}
-use Rattle.unify.specs.Code.Closing.{Closing, argumentPair, argumentPairs, waiting, Paired, Log, Works}
-use Rattle.unify.proofs.ClosingLaws.{Wanted, HeadsMeet, retold, reordered, already, heads-clash, united, classes-joined, variable-meets}
-use Rattle.unify.proofs.ClosingLogLaws.{among-both, among-swap, tabulate-among, zip-pairs, pairs-zip, waiting-from, waiting-has, waiting-none, waiting-longer, longer-waiting, extends-on, extends-none, log-places}
+use Rattle.unification.proofs.ListLaws.{tabulate-member, tabulate-from}
+use Rattle.unification.proofs.CountLaws.{join-length, join-keeps, join-lowers, join-second, join-other, unites-front, in-list}
+use Rattle.unification.proofs.SectionLaws.{symbols-differ, run, run-long, nodes-long, variable-from, application-from, from-application, symbol-test, is-node, pair-place}
+use Rattle.unify.specs.Code.Closing.{Closing, argumentPair, argumentPairs, Joins}
+use Rattle.unify.proofs.ClosingLaws.{Wanted, HeadsMeet, retold, already, heads-clash, united, classes-joined, variable-meets}
 
 -- what the test of a head for a variable tells
 pub kind-variable : (words : List ℕ) (x y : ℕ) (r : Bool) → x ≡ y → r ≡ eqb (kindOf words x) 0 → r ≡ true → kindOf words y ≡ 0
@@ -38,79 +36,50 @@ kind-application words x y r e t q z =
 pub symbols-tested : (words : List ℕ) (x y g h : ℕ) (r t : Bool) → x ≡ g → y ≡ h → r ≡ symbolTest words x y → r ≡ t → symbolTest words g h ≡ t
 symbols-tested words x y g h r t d e q z = ap (λ (k : ℕ). symbolTest words k h) (sym d) ∙ ap (symbolTest words x) (sym e) ∙ sym q ∙ z
 
--- Steps that leave the log as it is.
-module _ (words args cs fs ss : List ℕ) (top : ℕ) (new : List (ℕ × ℕ)) (cs′ : List ℕ) (l : Log words cs′ fs ss top) where
-  step-clash : ((ps todo : List (ℕ × ℕ)) → Closing (nodesFrom words args) ps cs (new ++ todo) → Clash (nodesFrom words args) ps) → Works words args cs fs ss top new false top cs′ fs ss
-  step-clash f =
-      record {
-        log = l;
-        extends = extends-none top fs ss;
-        closes = λ e. absurd (false≢true e);
-        clashes = λ e. f;
-      }
+-- an argument of a head, by the head's number
+pub argument-of : (words args : List ℕ) (j : ℕ) {g h x : ℕ} → x ≡ argumentOf words args g j → g ≡ h → x ≡ argumentOf words args h j
+argument-of words args j e d = e ∙ ap (λ (k : ℕ). argumentOf words args k j) d
 
-  step-done : ((ps todo : List (ℕ × ℕ)) → Closing (nodesFrom words args) ps cs (new ++ todo) → Closing (nodesFrom words args) ps cs′ todo) → Works words args cs fs ss top new true top cs′ fs ss
-  step-done f =
-      record {
-        log = l;
-        extends = extends-none top fs ss;
-        closes = λ e ps todo c. rw (waiting-none words args fs ss top top (omega arith)) (f ps todo c);
-        clashes = λ e. absurd (false≢true (sym e));
-      }
+module _ (words args : List ℕ) (s : Sections words args) (g h : ℕ) (hg : g < nodeCount words) (hh : h < nodeCount words) (e : countOf words g ≡ countOf words h) where
+  placed-pair : (j : ℕ) → j < countOf words g → (a b : ℕ) → a ≡ argumentOf words args g j → b ≡ argumentOf words args h j → List·Memᴰ (a, b) (argumentPairs words args g h)
+  unfolding argumentPairs argumentPair
+  placed-pair j l a b x y = rw (x, y) (tabulate-member (countOf words g) (argumentPair words args g h) j l)
 
--- no pair, no step
-works-none : (words args cs fs ss : List ℕ) (top : ℕ) → Log words cs fs ss top → Works words args cs fs ss top [] true top cs fs ss
-works-none words args cs fs ss top l = step-done words args cs fs ss top [] cs l (λ ps todo c. c)
+  -- the pairs of arguments are those of the two lists of arguments
+  zip-pairs : (a b : ℕ) → List·Memᴰ (a, b) (zip (run words args g) (run words args h)) → List·Memᴰ (a, b) (argumentPairs words args g h)
+  zip-pairs a b m =
+      let r = pair-place words args s g h hg hh a b .0 m in
+      placed-pair (r .0) (r .1) a b (r .3) (r .4)
 
--- One step after another.
-module _ (words args cs fs ss : List ℕ) (top : ℕ) (new : List (ℕ × ℕ)) (top′ : ℕ) (cs′ fs′ ss′ : List ℕ) (more : List (ℕ × ℕ)) (fine : Bool) (top″ : ℕ) (cs″ fs″ ss″ : List ℕ) (v : Works words args cs fs ss top new true top′ cs′ fs′ ss′) (w : Works words args cs′ fs′ ss′ top′ more fine top″ cs″ fs″ ss″) where
-  abbrev both-nodes : List Node
-  both-nodes = nodesFrom words args
+  -- and the other way round
+  pairs-zip : (a b : ℕ) → List·Memᴰ (a, b) (argumentPairs words args g h) → List·Memᴰ (a, b) (zip (run words args g) (run words args h))
+  unfolding argumentPairs argumentPair
+  pairs-zip a b m =
+      let r = tabulate-from (countOf words g) (argumentPair words args g h) (a, b) m in
+      let l : r .0 < countOf words h = rw (← e) (r .1) in
+      pair-place words args s g h hg hh a b .1
+      (r .0, r .1, l, ap (λ (p : ℕ × ℕ). p .0) (r .2), ap (λ (p : ℕ × ℕ). p .1) (r .2))
 
-  abbrev old : List (ℕ × ℕ)
-  old = waiting words args fs′ ss′ top top′
+-- Classes cs′ come of classes cs when some pairs are joined, and whatever the closure then joins.
+pub record Advances (words args cs : List ℕ) (new : List (ℕ × ℕ)) (cs′ : List ℕ) : Type 0 where
+  pub partition : Partition (nodeCount words) cs′
+  pub fewer : roots (nodeCount words) cs′ ≤ roots (nodeCount words) cs
+  pub heads : (i : ℕ) → i < nodeCount words → classOf cs (classOf cs′ i) ≡ classOf cs′ i
+  pub closes : (ps todo : List (ℕ × ℕ)) → Closing (nodesFrom words args) ps cs (new ++ todo) → Closing (nodesFrom words args) ps cs′ todo
 
-  abbrev newer : List (ℕ × ℕ)
-  newer = waiting words args fs″ ss″ top′ top″
+-- heads that were heads before, and before that
+heads-on : (n : ℕ) (cs cs′ cs″ : List ℕ) → Partition n cs″ → ((i : ℕ) → i < n → classOf cs (classOf cs′ i) ≡ classOf cs′ i) → ((i : ℕ) → i < n → classOf cs′ (classOf cs″ i) ≡ classOf cs″ i) → (i : ℕ) → i < n → classOf cs (classOf cs″ i) ≡ classOf cs″ i
+heads-on n cs cs′ cs″ p f g i h =
+    let e : classOf cs′ (classOf cs″ i) ≡ classOf cs″ i = g i h in
+    ap (classOf cs) (sym e) ∙ f (classOf cs″ i) (p .below i h) ∙ e
 
-  abbrev all : List (ℕ × ℕ)
-  all = waiting words args fs″ ss″ top top″
-
-  between : (ps todo : List (ℕ × ℕ)) → Closing both-nodes ps cs (new ++ more ++ todo) → Closing both-nodes ps cs′ (more ++ (old ++ todo))
-  between ps todo c =
-      reordered both-nodes ps cs′ (old ++ (more ++ todo)) (more ++ (old ++ todo)) (among-swap old more todo) (among-swap more old todo)
-      (v .closes refl ps (more ++ todo) (rw (append-assoc new more todo) at c))
-
-  after : (ps todo : List (ℕ × ℕ)) → Closing both-nodes ps cs″ (newer ++ (old ++ todo)) → Closing both-nodes ps cs″ (all ++ todo)
-  after ps todo c =
-      reordered both-nodes ps cs″ (newer ++ old ++ todo) (all ++ todo)
-      (among-both (newer ++ old) todo (all ++ todo) (λ p m. Memᴰ·append-left todo (longer-waiting words args fs′ ss′ top′ fs″ ss″ top″ (w .extends) top (v .extends .longer) p m)) (λ p m. Memᴰ·append-right all m))
-      (among-both all todo (newer ++ old ++ todo) (λ p m. Memᴰ·append-left todo (waiting-longer words args fs′ ss′ top′ fs″ ss″ top″ (w .extends) top p m)) (λ p m. Memᴰ·append-right (newer ++ old) m))
-      (rw (append-assoc newer old todo) c)
-
-  -- the pairs of both are joined
-  works-then : Works words args cs fs ss top (new ++ more) fine top″ cs″ fs″ ss″
-  works-then =
-      record {
-        log = w .log;
-        extends = extends-on top fs ss top′ fs′ ss′ top″ fs″ ss″ (v .extends) (w .extends);
-        closes = λ e ps todo c. after ps todo (w .closes e ps (old ++ todo) (between ps todo c));
-        clashes = λ e ps todo c. w .clashes e ps (old ++ todo) (between ps todo c);
-      }
-
--- a clash of some pairs is one of all
-works-stopped : (words args cs fs ss : List ℕ) (top : ℕ) (new more : List (ℕ × ℕ)) (fine : Bool) (top′ : ℕ) (cs′ fs′ ss′ : List ℕ) → Among new more → fine ≡ false → Works words args cs fs ss top new fine top′ cs′ fs′ ss′ → Works words args cs fs ss top more fine top′ cs′ fs′ ss′
-works-stopped words args cs fs ss top new more fine top′ cs′ fs′ ss′ h q w =
-    record {
-      log = w .log;
-      extends = w .extends;
-      closes = λ e. absurd (false≢true (sym q ∙ e));
-      clashes = λ e ps todo c. w .clashes e ps (more ++ todo) (retold (nodesFrom words args) ps cs (more ++ todo) (new ++ (more ++ todo)) (λ ds v u a b m. u a b (Memᴰ·append-right new m)) (wanted-all ps todo c) c);
-    }
+-- a head that is left was a head before
+join-heads : {n : ℕ} {cs : List ℕ} → Partition n cs → (x y : ℕ) → x < n → (i : ℕ) → i < n → classOf cs (classOf (join cs (x, y)) i) ≡ classOf (join cs (x, y)) i
+join-heads {n} {cs} p x y hx i h = go (ℕ-discrete (classOf cs i) (classOf cs y))
   where
-    wanted-all : (ps todo : List (ℕ × ℕ)) → Closing (nodesFrom words args) ps cs (more ++ todo) → Wanted (nodesFrom words args) ps (new ++ (more ++ todo))
-    wanted-all ps todo c a b m =
-        c .wanted a b (among-both new (more ++ todo) (more ++ todo) (λ p q. Memᴰ·append-left todo (h p q)) (λ p q. q) (a, b) m)
+    go : Dec (classOf cs i ≡ classOf cs y) → classOf cs (classOf (join cs (x, y)) i) ≡ classOf (join cs (x, y)) i
+    go (yes z) = rw (join-second cs x y i (in-list p i h) z) (p .own x hx)
+    go (no z) = rw (join-other cs x y i (in-list p i h) z) (p .own i h)
 
 -- The arguments of nodes g and h, joined one after the other.
 module _ (words args : List ℕ) (g h : ℕ) where
@@ -118,218 +87,241 @@ module _ (words args : List ℕ) (g h : ℕ) where
   abbrev pub firstPairs : ℕ → List (ℕ × ℕ)
   firstPairs j = tabulate j (argumentPair words args g h)
 
-  module _ (cs fs ss : List ℕ) (top : ℕ) where
+  module _ (cs : List ℕ) where
     -- no pair is joined yet
-    pub arguments-none : Log words cs fs ss top → Works words args cs fs ss top (firstPairs 0) true top cs fs ss
+    arguments-none : Partition (nodeCount words) cs → Advances words args cs (firstPairs 0) cs
     unfolding tabulate
-    arguments-none l = works-none words args cs fs ss top l
+    arguments-none p = record { partition = p; fewer = omega arith; heads = p .own; closes = λ ps todo c. c }
 
-    -- one pair more
-    pub arguments-next : (j top′ : ℕ) (cs′ fs′ ss′ : List ℕ) (a b : ℕ) (fine : Bool) (top″ : ℕ) (cs″ fs″ ss″ : List ℕ) → a ≡ argumentOf words args g j → b ≡ argumentOf words args h j → Works words args cs fs ss top (firstPairs j) true top′ cs′ fs′ ss′ → Works words args cs′ fs′ ss′ top′ ((a, b) ∷ []) fine top″ cs″ fs″ ss″ → Works words args cs fs ss top (firstPairs (j + 1)) fine top″ cs″ fs″ ss″
-    unfolding tabulate argumentPair
-    arguments-next j top′ cs′ fs′ ss′ a b fine top″ cs″ fs″ ss″ d e v w =
-        rw (add-one j)
-        (works-then words args cs fs ss top (firstPairs j) top′ cs′ fs′ ss′ ((argumentOf words args g j, argumentOf words args h j) ∷ []) fine top″ cs″ fs″ ss″ v (rw (d, e) at w))
+    module _ (j : ℕ) (cs′ : List ℕ) (v : Advances words args cs (firstPairs j) cs′) (a b : ℕ) (fine : Bool) (cs″ : List ℕ) (d : a ≡ argumentOf words args g j) (e : b ≡ argumentOf words args h j) (w : Joins words args cs′ a b fine cs″) where
+      -- the pair that comes next
+      next-waits : (ps todo : List (ℕ × ℕ)) → Closing (nodesFrom words args) ps cs (firstPairs (j + 1) ++ todo) → Closing (nodesFrom words args) ps cs′ ((a, b) ∷ todo)
+      unfolding tabulate argumentPair
+      next-waits ps todo c = v .closes ps ((a, b) ∷ todo) (rw (d, e) (rw (append-assoc (firstPairs j)) at (rw (add-one j) at c)))
 
-    -- a pair clashes
-    pub arguments-stopped : (j : ℕ) → j < countOf words g → (fine : Bool) (top′ : ℕ) (cs′ fs′ ss′ : List ℕ) → fine ≡ false → Works words args cs fs ss top (firstPairs (j + 1)) fine top′ cs′ fs′ ss′ → Works words args cs fs ss top (argumentPairs words args g h) fine top′ cs′ fs′ ss′
-    unfolding argumentPairs
-    arguments-stopped j l fine top′ cs′ fs′ ss′ e w =
-        works-stopped words args cs fs ss top (firstPairs (j + 1)) (firstPairs (countOf words g)) fine top′ cs′ fs′ ss′
-        (tabulate-among (j + 1) (countOf words g) (argumentPair words args g h) (omega arith))
-        e w
+      -- one pair more
+      pub arguments-next : fine ≡ true → Advances words args cs (firstPairs (j + 1)) cs″
+      arguments-next t =
+          let p = v .fewer in
+          let q = w .fewer in
+          record {
+            partition = w .partition;
+            fewer = omega (arith, p, q);
+            heads = heads-on (nodeCount words) cs cs′ cs″ (w .partition) (v .heads) (w .heads);
+            closes = λ ps todo c. w .closes t ps todo (next-waits ps todo c);
+          }
 
-    -- all pairs
-    pub arguments-end : (j : ℕ) → j ≤ countOf words g → countOf words g ≤ j → (top′ : ℕ) (cs′ fs′ ss′ : List ℕ) → Works words args cs fs ss top (firstPairs j) true top′ cs′ fs′ ss′ → Works words args cs fs ss top (argumentPairs words args g h) true top′ cs′ fs′ ss′
-    unfolding argumentPairs
-    arguments-end j k l top′ cs′ fs′ ss′ w = let e : j ≡ countOf words g = omega arith in rw (← e) w
+      -- a pair clashes
+      arguments-clash : fine ≡ false → (ps todo : List (ℕ × ℕ)) → j < countOf words g → Closing (nodesFrom words args) ps cs (argumentPairs words args g h ++ todo) → Clash (nodesFrom words args) ps
+      unfolding argumentPairs
+      arguments-clash t ps todo l c =
+          w .clashes t ps (argumentPairs words args g h ++ todo)
+          (next-waits ps (argumentPairs words args g h ++ todo)
+          (retold (nodesFrom words args) ps cs (argumentPairs words args g h ++ todo) (firstPairs (j + 1) ++ (argumentPairs words args g h ++ todo)) (λ ds u v x y m. v x y (Memᴰ·append-right (firstPairs (j + 1)) m)) wanted-all c))
+        where
+          first-among : (p : ℕ × ℕ) → List·Memᴰ p (firstPairs (j + 1)) → List·Memᴰ p (argumentPairs words args g h)
+          first-among p m =
+              let r = tabulate-from (j + 1) (argumentPair words args g h) p m in
+              rw (r .2) (tabulate-member (countOf words g) (argumentPair words args g h) (r .0) (let k = r .1 in omega (arith, k)))
 
-module _ (words args : List ℕ) (s : Sections words args) (cs fs ss : List ℕ) (top : ℕ) (l : Log words cs fs ss top) where
+          wanted-all : Wanted (nodesFrom words args) ps (firstPairs (j + 1) ++ (argumentPairs words args g h ++ todo))
+          wanted-all x y m = go (List·Memᴰ·append-cases (firstPairs (j + 1)) m)
+            where
+              go : List·Memᴰ (x, y) (firstPairs (j + 1)) ⊎ List·Memᴰ (x, y) (argumentPairs words args g h ++ todo) → Joined (nodesFrom words args) ps x y
+              go (inl q) = c .wanted x y (Memᴰ·append-left todo (first-among (x, y) q))
+              go (inr q) = c .wanted x y q
+
+module _ (words args : List ℕ) (s : Sections words args) (cs : List ℕ) (partition : Partition (nodeCount words) cs) where
   abbrev ns : List Node
   ns = nodesFrom words args
 
   same-long : length cs ≡ length ns
-  same-long = l .partition .size ∙ sym (nodes-long words args)
-
-  fewer : (x y : ℕ) → x < nodeCount words → y < nodeCount words → (classOf cs x ≡ classOf cs y → ⊥) → roots (nodeCount words) (join cs (x, y)) < roots (nodeCount words) cs
-  fewer x y hx hy d = join-lowers (nodeCount words) cs x y hx hy (l .partition) d
-
-  log-joined : (x y : ℕ) → x < nodeCount words → y < nodeCount words → (classOf cs x ≡ classOf cs y → ⊥) → Log words (join cs (x, y)) fs ss top
-  log-joined x y hx hy d =
-      let r = l .room in
-      let f = fewer x y hx hy d in
-      record {
-        partition = join-keeps (nodeCount words) cs x y hx hy (l .partition);
-        room = omega (arith, r, f);
-        firsts-long = l .firsts-long;
-        seconds-long = l .seconds-long;
-        entries = l .entries;
-      }
+  same-long = partition .size ∙ sym (nodes-long words args)
 
   -- the pair of nodes that are joined is done
   pair-done : (x y : ℕ) → x < nodeCount words → y < nodeCount words → (ds : List ℕ) → ((i j : ℕ) → i < length (join cs (x, y)) → j < length (join cs (x, y)) → classOf (join cs (x, y)) i ≡ classOf (join cs (x, y)) j → classOf ds i ≡ classOf ds j) → classOf ds x ≡ classOf ds y
   pair-done x y hx hy ds v =
-      v x y (rw (join-length cs (x, y)) (in-list (l .partition) x hx)) (rw (join-length cs (x, y)) (in-list (l .partition) y hy))
-      (united cs x y (in-list (l .partition) x hx) (in-list (l .partition) y hy))
+      v x y (rw (join-length cs (x, y)) (in-list partition x hx)) (rw (join-length cs (x, y)) (in-list partition y hy))
+      (united cs x y (in-list partition x hx) (in-list partition y hy))
 
   -- the class of y, whose head is a variable, becomes a part of the class of x; the pair is of the two, in either order
-  join-into : (x y : ℕ) → x < nodeCount words → y < nodeCount words → (classOf cs x ≡ classOf cs y → ⊥) → kindOf words (classOf cs y) ≡ 0 → (a b : ℕ) → ((ps : List (ℕ × ℕ)) → Joined ns ps a b → Joined ns ps x y) → ((ds : List ℕ) → classOf ds x ≡ classOf ds y → classOf ds a ≡ classOf ds b) → Works words args cs fs ss top ((a, b) ∷ []) true top (join cs (x, y)) fs ss
+  join-into : (x y : ℕ) → x < nodeCount words → y < nodeCount words → (classOf cs x ≡ classOf cs y → ⊥) → kindOf words (classOf cs y) ≡ 0 → (a b : ℕ) → ((ps : List (ℕ × ℕ)) → Joined ns ps a b → Joined ns ps x y) → ((ds : List ℕ) → classOf ds x ≡ classOf ds y → classOf ds a ≡ classOf ds b) → Joins words args cs a b true (join cs (x, y))
   join-into x y hx hy d k a b turn turned =
-      step-done words args cs fs ss top ((a, b) ∷ []) (join cs (x, y)) (log-joined x y hx hy d)
-      (λ ps todo c.
-      classes-joined ns ps cs x y ((a, b) ∷ todo) todo same-long (is-node words args x hx) (is-node words args y hy) (turn ps (c .wanted a b (List·Memᴰ·head refl)))
-      (variable-meets ns cs x y (nameOf words (classOf cs y)) todo (variable-from words args (classOf cs y) (l .partition .below y hy) k))
-      (λ ds v u. unites-front ds a b todo (turned ds (pair-done x y hx hy ds v)) u)
-      (λ i j m. c .wanted i j (List·Memᴰ·tail m))
-      c)
+      let f = join-lowers (nodeCount words) cs x y hx hy partition d in
+      record {
+        partition = join-keeps (nodeCount words) cs x y hx hy partition;
+        fewer = omega (arith, f);
+        heads = join-heads partition x y hx;
+        closes = λ e ps todo c.
+            classes-joined ns ps cs x y ((a, b) ∷ todo) todo same-long (is-node words args x hx) (is-node words args y hy) (turn ps (c .wanted a b (List·Memᴰ·head refl)))
+            (variable-meets ns cs x y (nameOf words (classOf cs y)) todo (variable-from words args (classOf cs y) (partition .below y hy) k))
+            (λ ds v u. unites-front ds a b todo (turned ds (pair-done x y hx hy ds v)) u)
+            (λ i j m. c .wanted i j (List·Memᴰ·tail m))
+            c;
+        clashes = λ e. absurd (false≢true (sym e));
+      }
 
   module _ (a b : ℕ) (ha : a < nodeCount words) (hb : b < nodeCount words) where
     -- the two nodes are of one class
-    pub join-already : classOf cs a ≡ classOf cs b → Works words args cs fs ss top ((a, b) ∷ []) true top cs fs ss
+    pub join-already : classOf cs a ≡ classOf cs b → Joins words args cs a b true cs
     join-already e =
-        step-done words args cs fs ss top ((a, b) ∷ []) cs l
-        (λ ps todo c. already ns ps cs a b todo (in-list (l .partition) a ha) (in-list (l .partition) b hb) e c)
+        record {
+          partition = partition;
+          fewer = omega arith;
+          heads = partition .own;
+          closes = λ t ps todo c. already ns ps cs a b todo (in-list partition a ha) (in-list partition b hb) e c;
+          clashes = λ t. absurd (false≢true (sym t));
+        }
 
     -- the first head is a variable
-    pub join-variable : (classOf cs a ≡ classOf cs b → ⊥) → kindOf words (classOf cs a) ≡ 0 → (cs′ : List ℕ) → cs′ ≡ map (renamed (classOf cs a) (classOf cs b)) cs → Works words args cs fs ss top ((a, b) ∷ []) true top cs′ fs ss
+    pub join-variable : (classOf cs a ≡ classOf cs b → ⊥) → kindOf words (classOf cs a) ≡ 0 → (cs′ : List ℕ) → cs′ ≡ map (renamed (classOf cs a) (classOf cs b)) cs → Joins words args cs a b true cs′
     unfolding join
     join-variable d k cs′ e =
         rw e (join-into b a hb ha (λ z. d (sym z)) k a b (λ ps q. back q) (λ ds q. sym q))
 
     -- the second is
-    pub join-variable-second : (classOf cs a ≡ classOf cs b → ⊥) → kindOf words (classOf cs b) ≡ 0 → (cs′ : List ℕ) → cs′ ≡ map (renamed (classOf cs b) (classOf cs a)) cs → Works words args cs fs ss top ((a, b) ∷ []) true top cs′ fs ss
+    pub join-variable-second : (classOf cs a ≡ classOf cs b → ⊥) → kindOf words (classOf cs b) ≡ 0 → (cs′ : List ℕ) → cs′ ≡ map (renamed (classOf cs b) (classOf cs a)) cs → Joins words args cs a b true cs′
     unfolding join
     join-variable-second d k cs′ e = rw e (join-into a b ha hb d k a b (λ ps q. q) (λ ds q. q))
 
     -- Both are applications.
     module _ (ka : kindOf words (classOf cs a) ≡ 0 → ⊥) (kb : kindOf words (classOf cs b) ≡ 0 → ⊥) where
-      head-inside : classOf cs a < nodeCount words
-      head-inside = l .partition .below a ha
+      first-inside : classOf cs a < nodeCount words
+      first-inside = partition .below a ha
 
-      other-inside : classOf cs b < nodeCount words
-      other-inside = l .partition .below b hb
+      second-inside : classOf cs b < nodeCount words
+      second-inside = partition .below b hb
 
-      head-applied : nodeAt ns (classOf cs a) ≡ application (nameOf words (classOf cs a)) (run words args (classOf cs a))
-      head-applied = application-from words args (classOf cs a) head-inside ka
+      first-applied : nodeAt ns (classOf cs a) ≡ application (nameOf words (classOf cs a)) (run words args (classOf cs a))
+      first-applied = application-from words args (classOf cs a) first-inside ka
 
-      other-applied : nodeAt ns (classOf cs b) ≡ application (nameOf words (classOf cs b)) (run words args (classOf cs b))
-      other-applied = application-from words args (classOf cs b) other-inside kb
+      second-applied : nodeAt ns (classOf cs b) ≡ application (nameOf words (classOf cs b)) (run words args (classOf cs b))
+      second-applied = application-from words args (classOf cs b) second-inside kb
 
       -- of different symbols
-      pub join-clash : symbolTest words (classOf cs b) (classOf cs a) ≡ false → Works words args cs fs ss top ((a, b) ∷ []) false top cs fs ss
+      pub join-clash : symbolTest words (classOf cs a) (classOf cs b) ≡ false → Joins words args cs a b false cs
       join-clash e =
-          step-clash words args cs fs ss top ((a, b) ∷ []) cs l
-          (λ ps todo c. heads-clash ns ps cs a b todo (is-node words args a ha) (is-node words args b hb) _ _ _ _ head-applied other-applied (λ o. symbols-differ words args s (classOf cs b) (classOf cs a) other-inside head-inside e (sym (o .0), sym (o .1))) c)
+          record {
+            partition = partition;
+            fewer = omega arith;
+            heads = partition .own;
+            closes = λ t. absurd (false≢true t);
+            clashes = λ t ps todo c. heads-clash ns ps cs a b todo (is-node words args a ha) (is-node words args b hb) _ _ _ _ first-applied second-applied (symbols-differ words args s (classOf cs a) (classOf cs b) first-inside second-inside e) c;
+          }
 
-      -- of one symbol
-      module _ (d : classOf cs a ≡ classOf cs b → ⊥) (tested : symbolTest words (classOf cs b) (classOf cs a) ≡ true) where
-        name : nameOf words (classOf cs b) ≡ nameOf words (classOf cs a)
-        name = symbol-test words (classOf cs b) (classOf cs a) .0 tested .0
+-- Nodes a and b of different classes, whose heads are applications of one symbol.
+pub record Meeting (words args cs : List ℕ) (a b : ℕ) : Type 0 where
+  pub sections : Sections words args
+  pub partition : Partition (nodeCount words) cs
+  pub first : a < nodeCount words
+  pub second : b < nodeCount words
+  pub first-applied : kindOf words (classOf cs a) ≡ 0 → ⊥
+  pub second-applied : kindOf words (classOf cs b) ≡ 0 → ⊥
+  pub apart : classOf cs a ≡ classOf cs b → ⊥
+  pub one-symbol : symbolTest words (classOf cs a) (classOf cs b) ≡ true
 
-        count : countOf words (classOf cs b) ≡ countOf words (classOf cs a)
-        count = symbol-test words (classOf cs b) (classOf cs a) .0 tested .1
+module _ {words args cs : List ℕ} {a b : ℕ} (m : Meeting words args cs a b) where
+  abbrev nodes : List Node
+  nodes = nodesFrom words args
 
-        abbrev cs′ : List ℕ
-        cs′ = join cs (a, b)
+  -- the heads are nodes
+  pub meeting-inside : (classOf cs a < nodeCount words) × (classOf cs b < nodeCount words)
+  meeting-inside = (m .partition .below a (m .first), m .partition .below b (m .second))
 
-        abbrev fs′ : List ℕ
-        fs′ = set fs top (classOf cs b)
+  first-node : nodeAt nodes (classOf cs a) ≡ application (nameOf words (classOf cs a)) (run words args (classOf cs a))
+  first-node = application-from words args (classOf cs a) (meeting-inside .0) (m .first-applied)
 
-        abbrev ss′ : List ℕ
-        ss′ = set ss top (classOf cs a)
+  second-node : nodeAt nodes (classOf cs b) ≡ application (nameOf words (classOf cs b)) (run words args (classOf cs b))
+  second-node = application-from words args (classOf cs b) (meeting-inside .1) (m .second-applied)
 
-        one-symbol : OneSymbol (nameOf words (classOf cs b)) (run words args (classOf cs b)) (nameOf words (classOf cs a)) (run words args (classOf cs a))
-        one-symbol = (name, run-long words args s (classOf cs b) other-inside ∙ count ∙ sym (run-long words args s (classOf cs a) head-inside))
+  name : nameOf words (classOf cs a) ≡ nameOf words (classOf cs b)
+  name = symbol-test words (classOf cs a) (classOf cs b) .0 (m .one-symbol) .0
 
-        top-inside : top < nodeCount words
-        top-inside =
-            let r = l .room in
-            let f = fewer a b ha hb d in
-            omega (arith, r, f)
+  -- they have as many arguments
+  pub one-count : countOf words (classOf cs a) ≡ countOf words (classOf cs b)
+  one-count = symbol-test words (classOf cs a) (classOf cs b) .0 (m .one-symbol) .1
 
-        -- the log has room for one more
-        pub log-room : (top < length fs) × (top < length ss)
-        log-room = log-places words args cs fs ss top top s l top-inside
+  abbrev new : List (ℕ × ℕ)
+  new = argumentPairs words args (classOf cs a) (classOf cs b)
 
-        first-here : word fs′ top ≡ classOf cs b
-        first-here = getD-set-same fs top (classOf cs b) 0 (log-room .0)
+  same-symbol : OneSymbol (nameOf words (classOf cs a)) (run words args (classOf cs a)) (nameOf words (classOf cs b)) (run words args (classOf cs b))
+  same-symbol = (name, run-long words args (m .sections) (classOf cs a) (meeting-inside .0) ∙ one-count ∙ sym (run-long words args (m .sections) (classOf cs b) (meeting-inside .1)))
 
-        second-here : word ss′ top ≡ classOf cs a
-        second-here = getD-set-same ss top (classOf cs a) 0 (log-room .1)
+  heads-meet : (todo : List (ℕ × ℕ)) → HeadsMeet nodes cs b a (new ++ todo)
+  heads-meet todo f us e =
+      let r = from-application words args (classOf cs a) (meeting-inside .0) f us e in (
+        run words args (classOf cs b),
+        second-node ∙ ap (λ (x : ℕ). application x (run words args (classOf cs b))) (sym name ∙ sym (r .1)),
+        ap length (r .2) ∙ same-symbol .1,
+        λ x y k ds v u. u x y (Memᴰ·append-left todo (zip-pairs words args (m .sections) (classOf cs a) (classOf cs b) (meeting-inside .0) (meeting-inside .1) one-count x y (rw (r .2) at k))),
+      )
 
-        first-before : (k : ℕ) → k < top → word fs′ k ≡ word fs k
-        first-before k h = getD-set-other fs top k (classOf cs b) 0 (λ z. omega (arith, h, z))
+  module _ (ps todo : List (ℕ × ℕ)) (c : Closing nodes ps cs ((a, b) ∷ todo)) where
+    pair-joined : Joined nodes ps a b
+    pair-joined = c .wanted a b (List·Memᴰ·head refl)
 
-        second-before : (k : ℕ) → k < top → word ss′ k ≡ word ss k
-        second-before k h = getD-set-other ss top k (classOf cs a) 0 (λ z. omega (arith, h, z))
+    heads-joined : Joined nodes ps (classOf cs a) (classOf cs b)
+    heads-joined = on (on (back (c .joined a (is-node words args a (m .first)))) pair-joined) (c .joined b (is-node words args b (m .second)))
 
-        log-longer : Log words cs′ fs′ ss′ (top + 1)
-        log-longer =
-            let r = l .room in
-            let f = fewer a b ha hb d in
-            let x = l .firsts-long in
-            let y = l .seconds-long in
-            let m = length-set fs top (classOf cs b) in
-            let n = length-set ss top (classOf cs a) in
-            record {
-              partition = join-keeps (nodeCount words) cs a b ha hb (l .partition);
-              room = omega (arith, r, f);
-              firsts-long = omega (arith, x, m);
-              seconds-long = omega (arith, y, n);
-              entries = below-more (λ k. Paired words (word fs′ k) (word ss′ k)) top (λ k q. rw (first-before k q, second-before k q) (l .entries k q)) (rw (first-here, second-here) (record { first = other-inside; second = head-inside; count = count }));
-            }
+    wanted-after : Wanted nodes ps (new ++ todo)
+    wanted-after x y k = go (List·Memᴰ·append-cases new k)
+      where
+        go : List·Memᴰ (x, y) new ⊎ List·Memᴰ (x, y) todo → Joined nodes ps x y
+        go (inl q) = arguments first-node second-node same-symbol heads-joined (pairs-zip words args (m .sections) (classOf cs a) (classOf cs b) (meeting-inside .0) (meeting-inside .1) one-count x y q)
+        go (inr q) = c .wanted x y (List·Memᴰ·tail q)
 
-        -- the new entry stands for the pairs of the heads' arguments
-        new-has : (x y : ℕ) → List·Memᴰ (x, y) (zip (run words args (classOf cs b)) (run words args (classOf cs a))) → List·Memᴰ (x, y) (waiting words args fs′ ss′ top (top + 1))
-        new-has x y m =
-            waiting-has words args fs′ ss′ top (top + 1) (x, y) top (omega arith) (omega arith)
-            (rw (first-here, second-here) (zip-pairs words args s (classOf cs b) (classOf cs a) other-inside head-inside count x y m))
+    -- the pair is traded for the pairs of the heads' arguments
+    traded : Closing nodes ps (join cs (b, a)) (new ++ todo)
+    traded =
+        classes-joined nodes ps cs b a ((a, b) ∷ todo) (new ++ todo) (same-long words args (m .sections) cs (m .partition)) (is-node words args b (m .second)) (is-node words args a (m .first)) (back pair-joined) (heads-meet todo)
+        (λ ds v u. unites-front ds a b todo (sym (pair-done words args (m .sections) cs (m .partition) b a (m .second) (m .first) ds v)) (λ x y k. u x y (Memᴰ·append-right new k)))
+        wanted-after c
 
-        new-from : (x y : ℕ) → List·Memᴰ (x, y) (waiting words args fs′ ss′ top (top + 1)) → List·Memᴰ (x, y) (zip (run words args (classOf cs b)) (run words args (classOf cs a)))
-        new-from x y m = go (waiting-from words args fs′ ss′ top (top + 1) (x, y) m)
-          where
-            go : ((k : ℕ) × (top ≤ k) × (k < top + 1) × List·Memᴰ (x, y) (argumentPairs words args (word fs′ k) (word ss′ k))) → List·Memᴰ (x, y) (zip (run words args (classOf cs b)) (run words args (classOf cs a)))
-            go (k, p, q, r) =
-                let e : k ≡ top = omega arith in
-                pairs-zip words args s (classOf cs b) (classOf cs a) other-inside head-inside count x y (rw (e, first-here, second-here) at r)
+  module _ (ds : List ℕ) (e : ds ≡ map (renamed (classOf cs a) (classOf cs b)) cs) where
+    -- the classes after the heads are joined are fewer
+    pub relabelled-fewer : roots (nodeCount words) ds < roots (nodeCount words) cs
+    unfolding join
+    relabelled-fewer = rw e (join-lowers (nodeCount words) cs b a (m .second) (m .first) (m .partition) (λ z. m .apart (sym z)))
 
-        heads-meet : (todo : List (ℕ × ℕ)) → HeadsMeet ns cs a b (waiting words args fs′ ss′ top (top + 1) ++ todo)
-        heads-meet todo f us e =
-            let r = from-application words args (classOf cs b) other-inside f us e in (
-              run words args (classOf cs a),
-              head-applied ∙ ap (λ (x : ℕ). application x (run words args (classOf cs a))) (sym name ∙ sym (r .1)),
-              ap length (r .2) ∙ one-symbol .1,
-              λ x y m ds v u. u x y (Memᴰ·append-left todo (new-has x y (rw (r .2) at m))),
-            )
+    relabelled-heads : (i : ℕ) → i < nodeCount words → classOf cs (classOf ds i) ≡ classOf ds i
+    unfolding join
+    relabelled-heads = rw e (join-heads (m .partition) b a (m .second))
 
-        module _ (ps todo : List (ℕ × ℕ)) (c : Closing ns ps cs ((a, b) ∷ todo)) where
-          pair-joined : Joined ns ps a b
-          pair-joined = c .wanted a b (List·Memᴰ·head refl)
+    relabelled-traded : (ps todo : List (ℕ × ℕ)) → Closing nodes ps cs ((a, b) ∷ todo) → Closing nodes ps ds (new ++ todo)
+    unfolding join
+    relabelled-traded = rw e traded
 
-          heads-joined : Joined ns ps (classOf cs b) (classOf cs a)
-          heads-joined = on (on (back (c .joined b (is-node words args b hb))) (back pair-joined)) (c .joined a (is-node words args a ha))
+    -- no pair of arguments is joined yet
+    pub relabelled : Advances words args ds (firstPairs words args (classOf cs a) (classOf cs b) 0) ds
+    unfolding join
+    relabelled =
+        arguments-none words args (classOf cs a) (classOf cs b) ds (rw e (join-keeps (nodeCount words) cs b a (m .second) (m .first) (m .partition)))
 
-          wanted-after : Wanted ns ps (waiting words args fs′ ss′ top (top + 1) ++ todo)
-          wanted-after x y m = go (List·Memᴰ·append-cases (waiting words args fs′ ss′ top (top + 1)) m)
-            where
-              go : List·Memᴰ (x, y) (waiting words args fs′ ss′ top (top + 1)) ⊎ List·Memᴰ (x, y) todo → Joined ns ps x y
-              go (inl q) = arguments other-applied head-applied one-symbol heads-joined (new-from x y q)
-              go (inr q) = c .wanted x y (List·Memᴰ·tail q)
+    module _ (j : ℕ) (cs′ : List ℕ) (v : Advances words args ds (firstPairs words args (classOf cs a) (classOf cs b) j) cs′) where
+      -- all pairs of arguments are joined
+      pub join-applications : j ≡ countOf words (classOf cs a) → Joins words args cs a b true cs′
+      unfolding argumentPairs
+      join-applications q =
+          let f = relabelled-fewer in
+          let g = v .fewer in
+          record {
+            partition = v .partition;
+            fewer = omega (arith, f, g);
+            heads = heads-on (nodeCount words) cs ds cs′ (v .partition) relabelled-heads (v .heads);
+            closes = λ t ps todo c. rw q at (v .closes) ps todo (relabelled-traded ps todo c);
+            clashes = λ t. absurd (false≢true (sym t));
+          }
 
-          closing-after : Closing ns ps cs′ (waiting words args fs′ ss′ top (top + 1) ++ todo)
-          closing-after =
-              classes-joined ns ps cs a b ((a, b) ∷ todo) (waiting words args fs′ ss′ top (top + 1) ++ todo) same-long (is-node words args a ha) (is-node words args b hb) pair-joined (heads-meet todo)
-              (λ ds v u. unites-front ds a b todo (pair-done a b ha hb ds v) (λ x y m. u x y (Memᴰ·append-right (waiting words args fs′ ss′ top (top + 1)) m)))
-              wanted-after c
-
-        -- the pair is traded for the pairs of the heads' arguments
-        pub join-applications : (ds : List ℕ) → ds ≡ map (renamed (classOf cs b) (classOf cs a)) cs → Works words args cs fs ss top ((a, b) ∷ []) true (top + 1) ds fs′ ss′
-        unfolding join
-        join-applications ds e =
-            rw e
-            (record {
-              log = log-longer;
-              extends = record { longer = omega arith; firsts-same = first-before; seconds-same = second-before };
-              closes = λ q ps todo c. closing-after ps todo c;
-              clashes = λ q. absurd (false≢true (sym q));
-            })
+      -- a pair of arguments clashes
+      pub join-stopped : j < countOf words (classOf cs a) → (x y : ℕ) (fine : Bool) (cs″ : List ℕ) → x ≡ argumentOf words args (classOf cs a) j → y ≡ argumentOf words args (classOf cs b) j → fine ≡ false → Joins words args cs′ x y fine cs″ → Joins words args cs a b false cs″
+      join-stopped l x y fine cs″ dx dy t w =
+          let f = relabelled-fewer in
+          let g = v .fewer in
+          let k = w .fewer in
+          record {
+            partition = w .partition;
+            fewer = omega (arith, f, g, k);
+            heads = heads-on (nodeCount words) cs ds cs″ (w .partition) relabelled-heads (heads-on (nodeCount words) ds cs′ cs″ (w .partition) (v .heads) (w .heads));
+            closes = λ z. absurd (false≢true z);
+            clashes = λ z ps todo c. arguments-clash words args (classOf cs a) (classOf cs b) ds j cs′ v x y fine cs″ dx dy w t ps todo l (relabelled-traded ps todo c);
+          }

@@ -8,13 +8,12 @@ use native.Mathlib.Omega.{arith}
 use lib.ListN.{length}
 use Rattle.table.specs.Layout.{word, nodeCount}
 use Rattle.unification.proofs.PigeonLaws.{pigeons}
-use Rattle.unify.specs.Code.Order.{Ordered}
 use Rattle.unify.specs.Code.Named.{Alike}
-use Rattle.unify.specs.Code.Naming.{keys, keyOf, keyAt, Compared, Representative, Naming, Found, Searching}
+use Rattle.unify.specs.Code.Naming.{Nameable, keys, keyOf, keyAt, Compared, Representative, Naming, Found, Searching}
 use Rattle.unify.proofs.AlikeLaws.{key-alike}
 
 -- no node stands twice in the order, so it is no longer than there are nodes
-pub order-short : (words args cs order : List ℕ) → Ordered words args cs order → length order ≤ nodeCount words
+pub order-short : (words args cs order : List ℕ) → Nameable words args cs order → length order ≤ nodeCount words
 order-short words args cs order o = go (decLt (nodeCount words) (length order))
   where
     go : Dec (nodeCount words < length order) → length order ≤ nodeCount words

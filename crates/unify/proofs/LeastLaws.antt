@@ -11,7 +11,7 @@ use native.Mathlib.Numerals.{add-one}
 use borrow.Author.Tests.{eq-eqb, ne-eqb, lt-ltb, le-ltb, ltb-true}
 use lib.Dec.{eqb, ltb}
 use lib.ListN.{length, set, take, length-set, length-map}
-use lib.Seq.{take-suc-set, length-take-le}
+use lib.Seq.{take-suc-set, take-length, length-take-le}
 use Rattle.table.specs.Layout.{word, kindOf, nameOf, nodeCount}
 use Rattle.unification.specs.Node.{variable, nodeAt, Present}
 use Rattle.unification.specs.Words.{Rising, end, before}
@@ -19,7 +19,7 @@ use Rattle.unification.specs.Computed.Variables.{variablesOf}
 use Rattle.unification.specs.Computed.Classes.{gather}
 use Rattle.unification.specs.Computed.Solution.{nodeOf}
 use Rattle.unification.specs.Code.Sections.{nodesFrom, Sections}
-use Rattle.unification.proofs.ListLaws.{gathered, gathered-from, map-same}
+use Rattle.unification.proofs.ListLaws.{gathered, gathered-from, map-same, taken, placed}
 use Rattle.unification.proofs.RisingLaws.{rising-append}
 use Rattle.unification.proofs.VariableLaws.{variables-one}
 use Rattle.unification.proofs.PresentLaws.{present-or-not}
@@ -166,27 +166,41 @@ present-all least n x count list h k l m e =
     let d = rw z at e in
     record { within = omega arith; counted = sym (length-take-le count list (omega arith)) ∙ ap length d; listed = d }
 
+-- what is in a list stands at some place
+pub member-place : (xs : List ℕ) (x : ℕ) → List·Memᴰ x xs → (k : ℕ) × (k < length xs) × (x ≡ word xs k)
+member-place xs x m = taken (length xs) xs x (rw (take-length xs) m)
+
+-- a rising list rises from place to place
+pub rising-places : (xs : List ℕ) → Rising _<_ xs → (j k : ℕ) → j < k → k < length xs → word xs j < word xs k
+rising-places [] r j k l h = absurd (omega arith)
+rising-places (x ∷ xs) r j zero l h = absurd (omega arith)
+rising-places (x ∷ xs) (before b r) zero (suc k) l h = b (word xs k) (placed xs k (omega arith))
+rising-places (x ∷ xs) (before b r) (suc j) (suc k) l h = rising-places xs r j k (omega arith) (omega arith)
+
 -- The numbers below x with a property, in rising order.
-selected : (ℕ → Bool) → ℕ → List ℕ
+pub selected : (ℕ → Bool) → ℕ → List ℕ
 selected p x = gather x (λ y. cond (p y) (y ∷ []) [])
 
 picked-from : (b : Bool) (x y : ℕ) → List·Memᴰ y (cond b (x ∷ []) []) → (b ≡ true) × (y ≡ x)
 picked-from true x y m = (refl, List·Memᴰ·eq-of-singleton m)
 picked-from false x y m = absurd (List·Memᴰ·not-nil m)
 
-selected-from : (p : ℕ → Bool) (x y : ℕ) → List·Memᴰ y (selected p x) → (y < x) × (p y ≡ true)
+-- what is selected has the property
+pub selected-from : (p : ℕ → Bool) (x y : ℕ) → List·Memᴰ y (selected p x) → (y < x) × (p y ≡ true)
 unfolding selected
 selected-from p x y m =
     let r = gathered-from x (λ z. cond (p z) (z ∷ []) []) y m in
     let q = picked-from (p (r .0)) (r .0) y (r .2) in
     (rw (q .1) (r .1), rw (q .1) (q .0))
 
-selected-member : (p : ℕ → Bool) (x y : ℕ) → y < x → p y ≡ true → List·Memᴰ y (selected p x)
+-- what has it is selected
+pub selected-member : (p : ℕ → Bool) (x y : ℕ) → y < x → p y ≡ true → List·Memᴰ y (selected p x)
 unfolding selected
 selected-member p x y h e =
     gathered x (λ z. cond (p z) (z ∷ []) []) y y h (rw e (List·Memᴰ·head refl))
 
-selected-rises : (p : ℕ → Bool) (x : ℕ) → Rising _<_ (selected p x)
+-- they rise
+pub selected-rises : (p : ℕ → Bool) (x : ℕ) → Rising _<_ (selected p x)
 unfolding selected gather
 selected-rises p zero = end
 selected-rises p (suc x) =

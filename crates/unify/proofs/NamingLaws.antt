@@ -12,19 +12,20 @@ use lib.Dec.{eqb}
 use lib.ListN.{length, set, replicate, length-set, length-replicate, getD-replicate}
 use lib.Seq.{getD-set-same, getD-set-other}
 use Rattle.table.specs.Limits.{maxNodes}
-use Rattle.table.specs.Layout.{word, kindOf, nodeCount, argumentOf}
+use Rattle.table.specs.Layout.{word, kindOf, countOf, nodeCount, argumentOf}
 use Rattle.unification.specs.Computed.Classes.{classOf}
 use Rattle.unification.specs.Code.Sections.{Sections}
 use Rattle.unification.specs.Code.Heads.{Partition}
-use Rattle.unify.specs.Code.Order.{Ordered}
-use Rattle.unify.specs.Code.Named.{valueName, Readable, Alike, Applied, Named}
-use Rattle.unify.specs.Code.Naming.{keys, keyOf, keyAt, Representative, Represented, NamedBefore, Naming, Found}
+use Rattle.unify.specs.Code.Order.{Met, leaf, before, Ordered}
+use Rattle.unify.specs.Code.Named.{valueName, Readable, Alike, Applied, Themselves}
+use Rattle.unify.specs.Code.Naming.{Nameable, IsPlaced, Compounds, Whole, all, compounds, keys, keyOf, keyAt, Representative, Represented, NamedBefore, Naming, NamedEarlier, NamedAlong, Found}
+use Rattle.unify.specs.Code.Stands.{IsConstant, OneConstant}
 use Rattle.unify.proofs.AlikeLaws.{NamesKept, alike-same, alike-back, alike-on, alike-kept, alike-was, key-kept}
 use Rattle.unify.proofs.ChainLaws.{chained-skip, chained-add}
 use Rattle.unify.proofs.FindLaws.{order-short}
 
 -- Naming the node at place p.
-module _ (words args cs order : List ℕ) (o : Ordered words args cs order) (p : ℕ) (inside : p < length order) where
+module _ (words args cs order : List ℕ) (o : Nameable words args cs order) (p : ℕ) (inside : p < length order) where
   module _ (names : List ℕ) (v : ℕ) where
     -- The names after it.
     abbrev news : List ℕ
@@ -35,8 +36,19 @@ module _ (words args cs order : List ℕ) (o : Ordered words args cs order) (p :
 
     same-names : (q : ℕ) → q ≤ p → NamesKept words args cs names news (word order q)
     same-names q l j m =
-        let f = o .first q (omega arith) j m in
-        getD-set-other names (word order p) (classOf cs (argumentOf words args (word order q) j)) v 0 (λ z. o .once (f .0) p (omega (arith, f .1)) inside (f .2 ∙ z))
+        getD-set-other names (word order p) (classOf cs (argumentOf words args (word order q) j)) v 0 (o .first p q j l inside m)
+
+    whole-kept : Whole words cs order names → Whole words cs order news
+    whole-kept (all w) = all w
+    whole-kept (compounds w) =
+        compounds
+        (record {
+          compound = w .compound;
+          placed = w .placed;
+          itself = λ i h z.
+              getD-set-other names (word order p) i v 0 (λ e. let k = w .compound p inside in let y : countOf words (word order p) ≡ 0 = rw (← e) z in omega (arith, k, y)) ∙ w .itself i h z;
+          constants = w .constants;
+        })
 
     representative-kept : (q : ℕ) → q < p → Representative words order names q → Representative words order news q
     representative-kept q l r = record { application = r .application; itself = name-kept q l ∙ r .itself }
@@ -119,6 +131,7 @@ module _ (words args cs order : List ℕ) (o : Ordered words args cs order) (p :
         record {
           readable = readable-next v;
           ordered = o;
+          whole = whole-kept names v (s .whole);
           buckets-long = s .buckets-long;
           earlier-long = s .earlier-long;
           named = named-next names v (s .named) t;
@@ -166,6 +179,7 @@ module _ (words args cs order : List ℕ) (o : Ordered words args cs order) (p :
           record {
             readable = readable-next (word order p);
             ordered = o;
+            whole = whole-kept names (word order p) (s .whole);
             buckets-long = length-set buckets k (p + 1) ∙ s .buckets-long;
             earlier-long = length-set earlier p (word buckets k) ∙ s .earlier-long;
             named = named-next names (word order p) (s .named) (record {
@@ -224,11 +238,12 @@ module _ (words args cs order : List ℕ) (o : Ordered words args cs order) (p :
                 rw (x, y, w, e) (naming-new applied (rw z at t) k (a .1) (a .2))
 
 -- Before the first place nothing is named, and the table is empty.
-pub naming-start : (words args cs order names : List ℕ) → Sections words args → Partition (nodeCount words) cs → Ordered words args cs order → length names ≡ nodeCount words → Naming words args cs order names (replicate keys 0) (replicate maxNodes 0) 0
-naming-start words args cs order names s p o l =
+pub naming-start : (words args cs order names : List ℕ) → Sections words args → Partition (nodeCount words) cs → Nameable words args cs order → length names ≡ nodeCount words → Whole words cs order names → Naming words args cs order names (replicate keys 0) (replicate maxNodes 0) 0
+naming-start words args cs order names s p o l w =
     record {
       readable = record { sections = s; partition = p; long = l };
       ordered = o;
+      whole = w;
       buckets-long = length-replicate {A = ℕ} keys 0;
       earlier-long = length-replicate {A = ℕ} maxNodes 0;
       named = record {
@@ -245,7 +260,7 @@ naming-start words args cs order names s p o l =
     }
 
 -- At the end every class is named.
-module _ (words args cs order names : List ℕ) (o : Ordered words args cs order) (s : NamedBefore words args cs order names (length order)) where
+module _ (words args cs order names : List ℕ) (o : Nameable words args cs order) (t : Partition (nodeCount words) cs) (w : Whole words cs order names) (s : NamedBefore words args cs order names (length order)) where
   -- The class of node i has the name of a representative that is alike.
   record ClassNamed (i : ℕ) : Type 0 where
     place : ℕ
@@ -254,54 +269,159 @@ module _ (words args cs order names : List ℕ) (o : Ordered words args cs order
     named : valueName cs names i ≡ word order place
     alike : Alike words args cs names (word order place) (classOf cs i)
 
-  class-named : (i : ℕ) → i < nodeCount words → Applied words cs i → ClassNamed i
-  class-named i h n =
-      let w = o .whole i h in
-      let r = s .application (w .0) (w .1) (λ z. n (rw (w .2) at z)) in
+  -- The head of node i has no arguments, and names itself.
+  record Bare (i : ℕ) : Type 0 where
+    bare : countOf words (classOf cs i) ≡ 0
+    itself : valueName cs names i ≡ classOf cs i
+    others : Compounds words cs order names
+
+  -- A head stands in the order, or has no arguments.
+  data Standing (i : ℕ) : Type 0 where
+    at : IsPlaced order (classOf cs i) → Standing i
+    outside : Bare i → Standing i
+
+  standing : (i : ℕ) → i < nodeCount words → Standing i
+  standing i h = go w
+    where
+      pick : Compounds words cs order names → Dec (countOf words (classOf cs i) ≡ 0) → Standing i
+      pick x (yes z) =
+          outside (record { bare = z; itself = x .itself (classOf cs i) (t .below i h) z; others = x })
+      pick x (no n) = at (x .placed i h (omega (arith, n)))
+
+      go : Whole words cs order names → Standing i
+      go (all x) = at (x i h)
+      go (compounds x) = pick x (ℕ-discrete (countOf words (classOf cs i)) 0)
+
+  -- a class of an application whose head stands in the order
+  class-named : (i : ℕ) → IsPlaced order (classOf cs i) → Applied words cs i → ClassNamed i
+  class-named i (q, l, e) n =
+      let r = s .application q l (λ z. n (rw e at z)) in
       let b = r .before in
       record {
         place = r .place;
-        inside = omega (arith, b, w .1);
+        inside = omega (arith, b, l);
         representative = r .representative;
-        named = ap (word names) (sym (w .2)) ∙ r .named;
-        alike = rw (w .2) at (r .alike);
+        named = ap (word names) (sym e) ∙ r .named;
+        alike = rw e at (r .alike);
       }
 
-  named-variable : (i : ℕ) → i < nodeCount words → kindOf words (classOf cs i) ≡ 0 → valueName cs names i ≡ classOf cs i
-  named-variable i h k =
-      let w = o .whole i h in
-      ap (word names) (sym (w .2)) ∙ s .variable (w .0) (w .1) (rw (w .2) k) ∙ w .2
+  named-variable : (i : ℕ) → Standing i → kindOf words (classOf cs i) ≡ 0 → valueName cs names i ≡ classOf cs i
+  named-variable i (at (q, l, e)) k = ap (word names) (sym e) ∙ s .variable q l (rw e k) ∙ e
+  named-variable i (outside b) k = b .itself
 
-  named-node : (i : ℕ) → i < nodeCount words → Dec (kindOf words (classOf cs i) ≡ 0) → valueName cs names i < nodeCount words
-  named-node i h (yes k) =
-      let w = o .whole i h in
-      rw (named-variable i h k, ← w .2) (o .node (w .0) (w .1))
-  named-node i h (no n) =
-      let t = class-named i h n in
+  named-node : (i : ℕ) → i < nodeCount words → Standing i → Dec (kindOf words (classOf cs i) ≡ 0) → valueName cs names i < nodeCount words
+  named-node i h x (yes k) = rw (named-variable i x k) (t .below i h)
+  named-node i h (at p) (no n) =
+      let t = class-named i p n in
       rw (t .named) (o .node (t .place) (t .inside))
+  named-node i h (outside b) (no n) = rw (b .itself) (t .below i h)
 
-  named-end : Named words args cs names
+  named-application : (i : ℕ) → Standing i → Applied words cs i → kindOf words (valueName cs names i) ≡ 0 → ⊥
+  named-application i (at p) n k =
+      let t = class-named i p n in
+      t .representative .application (rw (t .named) at k)
+  named-application i (outside b) n k = n (rw (b .itself) at k)
+
+  -- a head that stands in the order, among those that have arguments, is not alike one without
+  not-bare : (i j : ℕ) → IsPlaced order (classOf cs i) → Bare j → Alike words args cs names (classOf cs i) (classOf cs j) → ⊥
+  not-bare i j (q, l, e) b a =
+      let c = b .others .compound q l in
+      let d : countOf words (word order q) ≡ countOf words (classOf cs j) = rw e (a .count) in
+      let z = b .bare in
+      omega (arith, c, d, z)
+
+  named-composed : (i j : ℕ) → i < nodeCount words → j < nodeCount words → Standing i → Standing j → Applied words cs i → Applied words cs j → Alike words args cs names (classOf cs i) (classOf cs j) → valueName cs names i ≡ valueName cs names j
+  named-composed i j h l (at p) (at q) n m a =
+      let t = class-named i p n in
+      let u = class-named j q m in
+      let e = s .apart (t .place) (u .place) (t .inside) (u .inside) (t .representative) (u .representative) (alike-on (t .alike) (alike-on a (alike-back (u .alike)))) in
+      t .named ∙ ap (word order) e ∙ sym (u .named)
+  named-composed i j h l (at p) (outside b) n m a = absurd (not-bare i j p b a)
+  named-composed i j h l (outside b) (at q) n m a = absurd (not-bare j i q b (alike-back a))
+  named-composed i j h l (outside b) (outside c) n m a =
+      let x : IsConstant words (classOf cs i) = record { node = t .below i h; applied = n; bare = b .bare } in
+      let y : IsConstant words (classOf cs j) = record { node = t .below j l; applied = m; bare = c .bare } in
+      ap (word names) (sym (t .own i h) ∙ b .others .constants (classOf cs i) (classOf cs j) x y (a .name) ∙ t .own j l)
+
+  -- a representative has another name than a head without arguments
+  not-itself : (i j : ℕ) → ClassNamed i → Bare j → valueName cs names i ≡ valueName cs names j → ⊥
+  not-itself i j x b e =
+      let c = b .others .compound (x .place) (x .inside) in
+      let d : word order (x .place) ≡ classOf cs j = sym (x .named) ∙ e ∙ b .itself in
+      let y : countOf words (word order (x .place)) ≡ 0 = rw d (b .bare) in
+      omega (arith, c, y)
+
+  named-apart : (i j : ℕ) → Standing i → Standing j → Applied words cs i → Applied words cs j → valueName cs names i ≡ valueName cs names j → Alike words args cs names (classOf cs i) (classOf cs j)
+  named-apart i j (at p) (at q) n m e =
+      let t = class-named i p n in
+      let u = class-named j q m in
+      let f : word order (t .place) ≡ word order (u .place) = sym (t .named) ∙ e ∙ u .named in
+      alike-on (alike-back (t .alike)) (rw (← f) at (u .alike))
+  named-apart i j (at p) (outside b) n m e = absurd (not-itself i j (class-named i p n) b e)
+  named-apart i j (outside b) (at q) n m e = absurd (not-itself j i (class-named j q m) b (sym e))
+  named-apart i j (outside b) (outside c) n m e =
+      let d : classOf cs i ≡ classOf cs j = sym (b .itself) ∙ e ∙ c .itself in
+      rw d (alike-same (classOf cs j))
+
+  named-earlier : NamedEarlier order names
+  named-earlier = record { earlier = λ q l. go q l (ℕ-discrete (kindOf words (word order q)) 0) }
+    where
+      go : (q : ℕ) → q < length order → Dec (kindOf words (word order q) ≡ 0) → (r : ℕ) × (r ≤ q) × (word names (word order q) ≡ word order r) × (word names (word order r) ≡ word order r)
+      go q l (yes k) = (q, omega arith, s .variable q l k, s .variable q l k)
+      go q l (no n) =
+          let r = s .application q l n in
+          (r .place, r .before, r .named, r .representative .itself)
+
+  named-end : NamedAlong words args cs order names
   named-end =
       record {
-        node = λ i h. named-node i h (ℕ-discrete (kindOf words (classOf cs i)) 0);
-        variable = named-variable;
-        application = λ i h n k.
-            let t = class-named i h n in
-            t .representative .application (rw (t .named) at k);
-        composed = λ i j h l n m a.
-            let t = class-named i h n in
-            let u = class-named j l m in
-            let e = s .apart (t .place) (u .place) (t .inside) (u .inside) (t .representative) (u .representative) (alike-on (t .alike) (alike-on a (alike-back (u .alike)))) in
-            t .named ∙ ap (word order) e ∙ sym (u .named);
-        taken-apart = λ i j h l n m e.
-            let t = class-named i h n in
-            let u = class-named j l m in
-            let f : word order (t .place) ≡ word order (u .place) = sym (t .named) ∙ e ∙ u .named in
-            alike-on (alike-back (t .alike)) (rw (← f) at (u .alike));
+        named = record {
+          node = λ i h. named-node i h (standing i h) (ℕ-discrete (kindOf words (classOf cs i)) 0);
+          variable = λ i h. named-variable i (standing i h);
+          application = λ i h. named-application i (standing i h);
+          composed = λ i j h l. named-composed i j h l (standing i h) (standing j l);
+          taken-apart = λ i j h l. named-apart i j (standing i h) (standing j l);
+        };
+        along = named-earlier;
       }
 
 -- so it is where the last place is passed
-pub naming-end : (words args cs order names buckets earlier : List ℕ) (p : ℕ) → Naming words args cs order names buckets earlier p → p ≤ length order → length order ≤ p → Named words args cs names
+pub naming-end : (words args cs order names buckets earlier : List ℕ) (p : ℕ) → Naming words args cs order names buckets earlier p → p ≤ length order → length order ≤ p → NamedAlong words args cs order names
 naming-end words args cs order names buckets earlier p s l m =
     let e : p ≡ length order = omega arith in
-    named-end words args cs order names (s .ordered) (rw e at (s .named))
+    named-end words args cs order names (s .ordered) (s .readable .partition) (s .whole) (rw e at (s .named))
+
+-- An order of the heads that have arguments.
+module _ (words args cs order : List ℕ) (o : Ordered words args cs order) where
+  -- nodes can be named along it
+  pub ordered-nameable : Nameable words args cs order
+  ordered-nameable =
+      record {
+        node = o .listed .node;
+        once = o .listed .once;
+        first = λ p q j l h c e. met p q l h (rw e at (o .listed .first q (omega arith) j c));
+      }
+    where
+      met : (p q : ℕ) → q ≤ p → p < length order → Met words order q (word order p) → ⊥
+      met p q l h (leaf z) = let c = o .listed .compound p h in omega (arith, c, z)
+      met p q l h (before r k e) = o .listed .once r p (omega arith) h e
+
+  -- and the other heads name themselves
+  pub ordered-whole : (names : List ℕ) → length names ≡ nodeCount words → Themselves names → OneConstant words cs → Whole words cs order names
+  ordered-whole names l t c =
+      compounds
+      (record {
+        compound = o .listed .compound;
+        placed = λ i h k. met (classOf cs i) k (o .whole i h);
+        itself = λ i h z. t .itself i (omega arith);
+        constants = c;
+      })
+    where
+      met : (g : ℕ) → 0 < countOf words g → Met words order (length order) g → IsPlaced order g
+      met g k (leaf z) = absurd (omega (arith, k, z))
+      met g k (before q l e) = (q, l, e)
+
+-- one more number names itself
+pub itself-next : (names : List ℕ) (i : ℕ) → i < length names → ((k : ℕ) → k < i → word names k ≡ k) → (k : ℕ) → k < i + 1 → word (set names i i) k ≡ k
+itself-next names i h s =
+    below-more (λ k. word (set names i i) k ≡ k) i (λ k l. getD-set-other names i k i 0 (λ z. omega (arith, l, z)) ∙ s k l) (getD-set-same names i i 0 h)

@@ -1,13 +1,14 @@
--- Laws of the search that puts the changed classes in order and keeps the order of the others, over plain lists and numbers.
--- A head that is kept has arguments whose heads are done: changed ones by the search, others as they stood before it. Assumes nothing.
+-- Laws of the search that puts the heads that have arguments in order, over plain lists and numbers. A head is put behind the others
+-- when the heads of its arguments are done, if they have arguments. Assumes nothing.
 use Prim.Native.Nat.{ℕ, _+_, _<_, _≤_, _-_}
-use mathlib.Core.Bool.{Bool, true}
-use mathlib.Core.List.{List}
+use mathlib.Core.Bool.{Bool, true, false, not, _&&_, false≢true}
+use mathlib.Core.List.{List, []}
 use mathlib.Core.Path.{_≡_, refl, sym, ap, _∙_}
 use native.Mathlib.Decide.{ℕ-discrete}
 use native.Mathlib.Omega.{arith}
-use borrow.Author.Tests.{eqb-true, eq-eqb, ne-eqb}
+use borrow.Author.Tests.{eqb-true, eqb-false, eq-eqb, ne-eqb, not-false}
 use borrow.Author.Count.{below-more}
+use lib.Dec.{eqb}
 use lib.ListN.{length, set, take, length-set, replicate, getD-replicate}
 use lib.Seq.{getD-set-same, getD-set-other, getD-take, length-take-le}
 use Rattle.table.specs.Limits.{maxNodes}
@@ -17,10 +18,9 @@ use Rattle.unification.specs.Code.Heads.{Partition, countBelow}
 use Rattle.unification.specs.Code.Sections.{Sections}
 use Rattle.unification.proofs.CountLaws.{count-most, count-le, count-less}
 use Rattle.unification.proofs.ListLaws.{first-long}
-use Rattle.unify.specs.declared.order.Placed.{Placed}
 use Rattle.unify.specs.declared.order.Placed.the-variants.{Cycle, Count}
-use Rattle.unify.specs.Code.Order.{Leads, next, further, ArgumentsBefore, Ordered}
-use Rattle.unify.specs.Code.Ordering.{isNew, isDone, Ordering, Visiting, Looped, Later, Passed, Turn, Visited, Changing, Starting, Sweep, Swept, Mending, Keeping, FoundOrder}
+use Rattle.unify.specs.Code.Order.{Leads, next, further, Looped, Met, leaf, before, Listed, Ordered, OrderedBelow, Searched}
+use Rattle.unify.specs.Code.Ordering.{isNew, isDone, Ordering, Visiting, Later, Passed, Settled, Turn, Visited, Starting, Sweep}
 
 -- A place of a list in which place i is written.
 data Written (l : List ℕ) (i a k : ℕ) : Type 0 where
@@ -61,6 +61,12 @@ argument-head words args cs h j a r p l e s q =
     let b = p .below a (omega arith) in
     (e′, omega (arith, b, q))
 
+-- the head of a node is a node
+pub head-inside : {n : ℕ} {cs : List ℕ} {a h : ℕ} → Partition n cs → a < n → h ≡ classOf cs a → h < n
+head-inside {a = a} p l e =
+    let b = p .below a l in
+    omega (arith, b, e)
+
 -- the arguments of a node are nodes
 argument-node : {words args : List ℕ} {h : ℕ} → Sections words args → h < nodeCount words → (i : ℕ) → i < countOf words h → argumentOf words args h i < nodeCount words
 argument-node {h = h} s n i l =
@@ -83,19 +89,44 @@ later-on {n} {marks} {after} {then} p q =
       none-opened = λ k l e. p .none-opened k l (q .none-opened k l e);
     }
 
--- one more of the nodes that are to be visited is done
-done-next : {n : ℕ} {marks later : List ℕ} (node : ℕ → ℕ) (j h : ℕ) → h ≡ node j → word later h ≡ 2 → Later n marks later → ((i : ℕ) → i < j → node i < n) → ((i : ℕ) → i < j → word marks (node i) ≡ 2) → (i : ℕ) → i < j + 1 → word later (node i) ≡ 2
-done-next {marks = marks} {later} node j h e z l below done =
-    below-more (λ i. word later (node i) ≡ 2) j kept (rw (← e) z)
+-- one more of the nodes that are to be visited is done, if it has arguments
+settled-next : {n : ℕ} (words : List ℕ) {marks later : List ℕ} (node : ℕ → ℕ) (j h : ℕ) → h ≡ node j → Settled words later h → Later n marks later → ((i : ℕ) → i < j → node i < n) → ((i : ℕ) → i < j → Settled words marks (node i)) → (i : ℕ) → i < j + 1 → Settled words later (node i)
+settled-next words {marks} {later} node j h e z l below done =
+    below-more (λ i. Settled words later (node i)) j kept (rw (← e) z)
   where
-    kept : (i : ℕ) → i < j → word later (node i) ≡ 2
-    kept i b =
-        let y : word marks (node i) ≡ 2 = done i b in
+    kept : (i : ℕ) → i < j → Settled words later (node i)
+    kept i b a =
+        let y : word marks (node i) ≡ 2 = done i b a in
         l .kept (node i) (below i b) (λ x. omega (arith, x, y)) ∙ y
+
+-- a node that is due has arguments
+pub due : (words marks : List ℕ) (g : ℕ) (x : Bool) → x ≡ not (eqb (word marks g) 2) && not (eqb (countOf words g) 0) → x ≡ true → 0 < countOf words g
+due words marks g x e t = go (eqb (word marks g) 2) (eqb (countOf words g) 0) refl (sym e ∙ t)
+  where
+    go : (a b : Bool) → eqb (countOf words g) 0 ≡ b → not a && not b ≡ true → 0 < countOf words g
+    go true b q z = absurd (false≢true z)
+    go false true q z = absurd (false≢true z)
+    go false false q z = let d : countOf words g ≡ 0 → ⊥ = eqb-false _ _ q in omega arith
+
+-- any other is done, if it has arguments
+pub not-due : (words marks : List ℕ) (g : ℕ) (x : Bool) → x ≡ not (eqb (word marks g) 2) && not (eqb (countOf words g) 0) → x ≡ false → Settled words marks g
+not-due words marks g x e t a = go (eqb (word marks g) 2) refl (sym e ∙ t)
+  where
+    go : (b : Bool) → eqb (word marks g) 2 ≡ b → not b && not (eqb (countOf words g) 0) ≡ false → word marks g ≡ 2
+    go true q z = eqb-true _ _ q
+    go false q z = absurd (let y : countOf words g ≡ 0 = eqb-true _ _ (not-false _ z) in omega (arith, y))
 
 -- a node that is not done is not listed
 other-listed : {words args cs marks order : List ℕ} {count h m : ℕ} → Ordering words args cs marks order count → word marks h ≡ m → (m ≡ 2 → ⊥) → (p : ℕ) → p < count → word order p ≡ h → ⊥
 other-listed {marks = marks} o e d p l q = d (sym e ∙ ap (λ (k : ℕ). word marks k) (sym q) ∙ o .listed p l .1)
+
+-- a node that is done, if it has arguments, is met
+settled-met : {words args cs marks order : List ℕ} {count g : ℕ} → Ordering words args cs marks order count → g < nodeCount words → Settled words marks g → Met words order count g
+settled-met {words} {order = order} {count} {g} o l s = go (ℕ-discrete (countOf words g) 0)
+  where
+    go : Dec (countOf words g ≡ 0) → Met words order count g
+    go (yes e) = leaf e
+    go (no d) = let f = o .done g l (s (omega arith)) in before (f .0) (f .1) (f .2)
 
 -- A node that is not done is put behind the others.
 module _ {words args cs marks order : List ℕ} {count h : ℕ} (o : Ordering words args cs marks order count) (node : h < nodeCount words) (not-done : word marks h ≡ 2 → ⊥) where
@@ -103,7 +134,7 @@ module _ {words args cs marks order : List ℕ} {count h : ℕ} (o : Ordering wo
   within = rw (o .marks-size) node
 
   -- the order has a place left
-  pub room-left : count < length order
+  room-left : count < length order
   unfolding isDone
   room-left =
       let every : ℕ → Bool = λ k. true in
@@ -126,6 +157,10 @@ module _ {words args cs marks order : List ℕ} {count h : ℕ} (o : Ordering wo
       (λ p b. rw (stays p b) (o .listed p b .0, getD-set-other marks h (word order p) 2 0 (other-listed o refl not-done p b) ∙ o .listed p b .1))
       (rw newest (node, getD-set-same marks h 2 0 within))
 
+  behind-compound : 0 < countOf words h → (p : ℕ) → p < count + 1 → 0 < countOf words (word (set order count h) p)
+  behind-compound a =
+      below-more (λ p. 0 < countOf words (word (set order count h) p)) count (λ p b. rw (stays p b) (o .compound p b)) (rw newest a)
+
   behind-once : (p q : ℕ) → p < q → q < count + 1 → word (set order count h) p ≡ word (set order count h) q → ⊥
   behind-once p q l m e = go (ℕ-discrete q count)
     where
@@ -139,16 +174,20 @@ module _ {words args cs marks order : List ℕ} {count h : ℕ} (o : Ordering wo
           let c : q < count = omega arith in
           o .once p q l c (sym (stays p b) ∙ e ∙ stays q c)
 
-  behind-first : ((i : ℕ) → i < countOf words h → classOf cs (argumentOf words args h i) < nodeCount words) → ((i : ℕ) → i < countOf words h → word marks (classOf cs (argumentOf words args h i)) ≡ 2) → (p : ℕ) → p < count + 1 → ArgumentsBefore words args cs (set order count h) (word (set order count h) p) p
+  -- what is met stays so
+  still-met : (p : ℕ) → p ≤ count → (g : ℕ) → Met words order p g → Met words (set order count h) p g
+  still-met p l g (leaf e) = leaf e
+  still-met p l g (before q b e) = before q b (stays q (omega arith) ∙ e)
+
+  -- so is a node that is done, if it has arguments
+  argument-met : (g : ℕ) → g < nodeCount words → Settled words marks g → Met words (set order count h) count g
+  argument-met g l s = still-met count (omega arith) g (settled-met o l s)
+
+  behind-first : ((i : ℕ) → i < countOf words h → classOf cs (argumentOf words args h i) < nodeCount words) → ((i : ℕ) → i < countOf words h → Settled words marks (classOf cs (argumentOf words args h i))) → (p : ℕ) → p < count + 1 → (j : ℕ) → j < countOf words (word (set order count h) p) → Met words (set order count h) p (classOf cs (argumentOf words args (word (set order count h) p) j))
   behind-first below arguments =
-      below-more (λ p. ArgumentsBefore words args cs (set order count h) (word (set order count h) p) p) count
-      (λ p b. rw (stays p b) (λ i m. let f = o .first p b i m in (f .0, f .1, stays (f .0) (omega (arith, b, f .1)) ∙ f .2)))
-      (rw newest last)
-    where
-      last : ArgumentsBefore words args cs (set order count h) h count
-      last i m =
-          let f = o .done (classOf cs (argumentOf words args h i)) (below i m) (arguments i m) in
-          (f .0, f .1, stays (f .0) (f .1) ∙ f .2)
+      below-more (λ p. (j : ℕ) → j < countOf words (word (set order count h) p) → Met words (set order count h) p (classOf cs (argumentOf words args (word (set order count h) p) j))) count
+      (λ p b. rw (stays p b) (λ j m. still-met p (omega arith) _ (o .first p b j m)))
+      (rw newest (λ j m. argument-met _ (below j m) (arguments j m)))
 
   behind-done : (k : ℕ) → k < nodeCount words → word (set marks h 2) k ≡ 2 → (p : ℕ) × (p < count + 1) × (word (set order count h) p ≡ k)
   behind-done k l e = go (written marks h 2 k within)
@@ -175,13 +214,14 @@ module _ {words args cs marks order : List ℕ} {count h : ℕ} (o : Ordering wo
       omega (arith, r, l)
 
   -- it is listed, where the heads of its arguments are
-  put-behind : ((i : ℕ) → i < countOf words h → classOf cs (argumentOf words args h i) < nodeCount words) → ((i : ℕ) → i < countOf words h → word marks (classOf cs (argumentOf words args h i)) ≡ 2) → Ordering words args cs (set marks h 2) (set order count h) (count + 1)
-  put-behind below arguments =
+  put-behind : 0 < countOf words h → ((i : ℕ) → i < countOf words h → classOf cs (argumentOf words args h i) < nodeCount words) → ((i : ℕ) → i < countOf words h → Settled words marks (classOf cs (argumentOf words args h i))) → Ordering words args cs (set marks h 2) (set order count h) (count + 1)
+  put-behind some below arguments =
       record {
         marks-size = length-set marks h 2 ∙ o .marks-size;
         order-size = length-set order count h ∙ o .order-size;
         range = written-range (nodeCount words) marks h 2 within (omega arith) (o .range);
         listed = behind-listed;
+        compound = behind-compound some;
         once = behind-once;
         first = behind-first below arguments;
         done = behind-done;
@@ -230,6 +270,7 @@ module _ {words args cs marks order : List ℕ} {count h : ℕ} (o : Ordering wo
           order-size = o .order-size;
           range = written-range (nodeCount words) marks h 1 inside (omega arith) (o .range);
           listed = opened-listed;
+          compound = o .compound;
           once = o .once;
           first = o .first;
           done = opened-done;
@@ -266,13 +307,14 @@ module _ {words args cs marks order : List ℕ} {count h : ℕ} (v : Visiting wo
       count-less (isNew marks) (isNew after) (nodeCount words) (λ k l e. eq-eqb _ _ (was-new k l (eqb-true _ _ e))) h (v .node) (eq-eqb _ _ new) (ne-eqb (word after h) 0 (λ z. omega (arith, z, still-open)))
 
   -- every open node leads to the head of its argument
-  pub visit-next : (g : ℕ) → j < countOf words h → g ≡ classOf cs (argumentOf words args h j) → g < nodeCount words → Visiting words args cs after then now g
-  visit-next g l e i =
+  pub visit-next : (g : ℕ) → j < countOf words h → g ≡ classOf cs (argumentOf words args h j) → g < nodeCount words → 0 < countOf words g → Visiting words args cs after then now g
+  visit-next g l e i a =
       record {
         sections = v .sections;
         partition = v .partition;
         ordering = t .ordering;
         node = i;
+        compound = a;
         leads = leads-on;
       }
     where
@@ -290,14 +332,22 @@ module _ {words args cs marks order : List ℕ} {count h : ℕ} (v : Visiting wo
   head-node : (i : ℕ) → i < countOf words h → classOf cs (argumentOf words args h i) < nodeCount words
   head-node = heads-nodes (v .sections) (v .partition) (v .node)
 
-  -- the next turn
-  pub turned : (g : ℕ) → j < countOf words h → g ≡ classOf cs (argumentOf words args h j) → (later order′ : List ℕ) (c : ℕ) → Passed words args cs after g later order′ c → Turn words args cs (set marks h 1) h later order′ c (j + 1)
-  turned g b e later order′ c p =
+  -- the head of argument j is done, if it has arguments
+  turn-on : (g : ℕ) → j < countOf words h → g ≡ classOf cs (argumentOf words args h j) → (later order′ : List ℕ) (c : ℕ) → Ordering words args cs later order′ c → Later (nodeCount words) after later → Settled words later g → Turn words args cs (set marks h 1) h later order′ c (j + 1)
+  turn-on g b e later order′ c o l s =
       record {
-        ordering = p .ordering;
-        later = later-on (t .later) (p .later);
-        arguments = done-next (λ i. classOf cs (argumentOf words args h i)) j g e (p .passed) (p .later) (λ i l. head-node i (omega arith)) (t .arguments);
+        ordering = o;
+        later = later-on (t .later) l;
+        arguments = settled-next words (λ i. classOf cs (argumentOf words args h i)) j g e s l (λ i z. head-node i (omega arith)) (t .arguments);
       }
+
+  -- it is not due
+  pub turned-over : (g : ℕ) → j < countOf words h → g ≡ classOf cs (argumentOf words args h j) → Settled words after g → {later order′ : List ℕ} {c : ℕ} → later ≡ after → order′ ≡ then → c ≡ now → Turn words args cs (set marks h 1) h later order′ c (j + 1)
+  turned-over g b e s x y z = rw (x, y, z) (turn-on g b e after then now (t .ordering) (later-same _ _) s)
+
+  -- it is visited
+  pub turned : (g : ℕ) → j < countOf words h → g ≡ classOf cs (argumentOf words args h j) → (passed placed : List ℕ) (n : ℕ) → Passed words args cs after g passed placed n → {later order′ : List ℕ} {c : ℕ} → later ≡ passed → order′ ≡ placed → c ≡ n → Turn words args cs (set marks h 1) h later order′ c (j + 1)
+  turned g b e passed placed n p x y z = rw (x, y, z) (turn-on g b e passed placed n (p .ordering) (p .later) (λ a. p .passed))
 
   -- Every argument is visited: the node is put into the order.
   module _ (whole : countOf words h ≤ j) where
@@ -329,7 +379,7 @@ module _ {words args cs marks order : List ℕ} {count h : ℕ} (v : Visiting wo
     pub finished : Passed words args cs marks h (set after h 2) (set then now h) (now + 1)
     finished =
         record {
-          ordering = put-behind o (v .node) not-done head-node (λ i l. t .arguments i (omega arith));
+          ordering = put-behind o (v .node) not-done (v .compound) head-node (λ i l. t .arguments i (omega arith));
           passed = getD-set-same after h 2 0 (within o (v .node) not-done);
           later = record { kept = finished-kept; none-opened = finished-opened };
         }
@@ -350,158 +400,43 @@ module _ {words args cs marks order : List ℕ} {count h : ℕ} (v : Visiting wo
       let r = v .ordering .range h (v .node) in
       omega (arith, r)
 
--- a search that ends at a cycle
-pub found-cycle : {words args cs order : List ℕ} → Looped words args cs → FoundOrder words args cs Cycle order
-found-cycle l = record { cycle = λ e. l; ordered = λ c e. absurd (let z : _≡_ {A = ℕ} 0 1 = cc in omega arith) }
-
--- a search that passes
-found-order : {words args cs order : List ℕ} {c : ℕ} → c ≤ nodeCount words → Ordered words args cs (take c order) → FoundOrder words args cs (Count c) order
-found-order {words} {args} {cs} {order} {c} l o =
+-- with new marks nothing is listed
+ordering-none : {words args cs marks order : List ℕ} → Starting (nodeCount words) marks order → Ordering words args cs marks order 0
+ordering-none s =
     record {
-      cycle = λ e. absurd (let z : _≡_ {A = ℕ} 0 1 = cc in omega arith);
-      ordered = λ d e. let z : c ≡ d = cc in rw (← z) (l, o);
+      marks-size = s .marks-size;
+      order-size = s .order-size;
+      range = λ k l. let z = s .new k l in omega (arith, z);
+      listed = λ p l. absurd (omega arith);
+      compound = λ p l. absurd (omega arith);
+      once = λ p q l m e. absurd (omega arith);
+      first = λ p l. absurd (omega arith);
+      done = λ k l e. absurd (let z = s .new k l in omega (arith, z, e));
+      room = omega arith;
     }
 
--- a search that ends at a cycle on the way
-pub swept-cycle : {words args before cs marks order : List ℕ} {i : ℕ} → Looped words args cs → Swept words args before cs i Cycle marks order
-swept-cycle l = record { cycle = λ e. l; counted = λ c e. absurd (let z : _≡_ {A = ℕ} 0 1 = cc in omega arith) }
-
--- a search that has passed so far
-pub swept-count : {words args before cs marks order : List ℕ} {i c : ℕ} → Sweep words args before cs marks order c i → Swept words args before cs i (Count c) marks order
-swept-count {words} {args} {before} {cs} {marks} {order} {i} {c} w =
+-- so any node that has arguments can be visited
+pub visit-first : {words args cs marks order : List ℕ} {h : ℕ} → Sections words args → Partition (nodeCount words) cs → Starting (nodeCount words) marks order → h < nodeCount words → 0 < countOf words h → Visiting words args cs marks order 0 h
+visit-first s p n l a =
     record {
-      cycle = λ e. absurd (let z : _≡_ {A = ℕ} 0 1 = cc in omega arith);
-      counted = λ d e. let z : c ≡ d = cc in rw (← z) w;
+      sections = s;
+      partition = p;
+      ordering = ordering-none n;
+      node = l;
+      compound = a;
+      leads = λ k b e. absurd (let z = n .new k b in omega (arith, z, e));
     }
 
--- with new marks no head is visited
-pub swept-none : {words args before cs marks order : List ℕ} → Starting (nodeCount words) marks order → Sweep words args before cs marks order 0 0
-swept-none s =
-    record {
-      ordering = record {
-        marks-size = s .marks-size;
-        order-size = s .order-size;
-        range = λ k l. let z = s .new k l in omega (arith, z);
-        listed = λ p l. absurd (omega arith);
-        once = λ p q l m e. absurd (omega arith);
-        first = λ p l. absurd (omega arith);
-        done = λ k l e. absurd (let z = s .new k l in omega (arith, z, e));
-        room = omega arith;
-      };
-      none-open = λ k l e. let z = s .new k l in omega (arith, z, e);
-      changed = λ k l. absurd (omega arith);
-    }
-
--- Node i is looked at.
-module _ {words args before cs marks order : List ℕ} {count i : ℕ} (s : Changing words args before cs) (w : Sweep words args before cs marks order count i) (l : i < nodeCount words) where
-  -- its head has not changed
-  pub swept-same : {g h : ℕ} → g ≡ classOf before i → h ≡ classOf cs i → g ≡ h → Sweep words args before cs marks order count (i + 1)
-  swept-same a b e =
-      record {
-        ordering = w .ordering;
-        none-open = w .none-open;
-        changed = below-more (λ k. (classOf before k ≡ classOf cs k → ⊥) → word marks (classOf cs k) ≡ 2) i (w .changed) (λ d. absurd (d (sym a ∙ e ∙ b)));
-      }
-
-  -- its head can be visited: no node is open
-  pub sweep-next : (h : ℕ) → h ≡ classOf cs i → Visiting words args cs marks order count h
-  sweep-next h e =
-      let b = s .partition .below i l in
-      record {
-        sections = s .sections;
-        partition = s .partition;
-        ordering = w .ordering;
-        node = omega (arith, b, e);
-        leads = λ k q z. absurd (w .none-open k q z);
-      }
-
-  -- its head is visited
-  passed-on : {h : ℕ} → h ≡ classOf cs i → {later order′ : List ℕ} {c : ℕ} → Passed words args cs marks h later order′ c → Sweep words args before cs later order′ c (i + 1)
-  passed-on e {later} p =
-      record {
-        ordering = p .ordering;
-        none-open = λ k b z. w .none-open k b (p .later .none-opened k b z);
-        changed = below-more (λ k. (classOf before k ≡ classOf cs k → ⊥) → word later (classOf cs k) ≡ 2) i kept (λ d. rw (← e) (p .passed));
-      }
-    where
-      kept : (k : ℕ) → k < i → (classOf before k ≡ classOf cs k → ⊥) → word later (classOf cs k) ≡ 2
-      kept k b d =
-          let y : word marks (classOf cs k) ≡ 2 = w .changed k b d in
-          p .later .kept (classOf cs k) (s .partition .below k (omega arith)) (λ x. omega (arith, x, y)) ∙ y
-
-  -- what the visit of its head answers
-  pub swept : (h : ℕ) → h ≡ classOf cs i → {r : Placed} {later order′ : List ℕ} → Visited words args cs marks h r later order′ → Swept words args before cs (i + 1) r later order′
-  swept h e v = record { cycle = v .cycle; counted = λ c z. passed-on e (v .counted c z) }
-
--- Place p of the earlier order is looked at.
-module _ {words args before earlier cs marks order : List ℕ} {count p : ℕ} (m : Mending words args before earlier cs) (k : Keeping words args before earlier cs marks order count p) (l : p < length earlier) where
-  -- what stands there is a node
-  pub kept-node : word earlier p < nodeCount words
-  kept-node = m .ordered .node p l
-
-  -- it is done, or it is no head any more
-  pub passed-over : (classOf cs (word earlier p) ≡ word earlier p → word marks (word earlier p) ≡ 2) → Keeping words args before earlier cs marks order count (p + 1)
-  passed-over h =
-      record {
-        ordering = k .ordering;
-        changed = k .changed;
-        heads = below-more (λ q. classOf cs (word earlier q) ≡ word earlier q → word marks (word earlier q) ≡ 2) p (k .heads) h;
-      }
-
-  -- the heads of its arguments are done: those that have changed, and the others as they stand before it
-  kept-arguments : (i : ℕ) → i < countOf words (word earlier p) → word marks (classOf cs (argumentOf words args (word earlier p) i)) ≡ 2
-  kept-arguments i b = go (ℕ-discrete (classOf before a) (classOf cs a))
-    where
-      a : ℕ
-      a = argumentOf words args (word earlier p) i
-
-      inside-a : a < nodeCount words
-      inside-a = argument-node (m .changing .sections) kept-node i b
-
-      go : Dec (classOf before a ≡ classOf cs a) → word marks (classOf cs a) ≡ 2
-      go (no d) = k .changed a inside-a d
-      go (yes e) =
-          let f = m .ordered .first p l i b in
-          let g : word earlier (f .0) ≡ classOf cs a = f .2 ∙ e in
-          rw g at (k .heads (f .0) (f .1) (rw g (m .changing .partition .own a inside-a)))
-
-  -- it is put behind the others
-  pub put-back : (word marks (word earlier p) ≡ 2 → ⊥) → Keeping words args before earlier cs (set marks (word earlier p) 2) (set order count (word earlier p)) (count + 1) (p + 1)
-  put-back d =
-      record {
-        ordering = put-behind (k .ordering) kept-node d (heads-nodes (m .changing .sections) (m .changing .partition) kept-node) kept-arguments;
-        changed = λ i b z. still-done (k .ordering) kept-node d _ (k .changed i b z);
-        heads = below-more (λ q. classOf cs (word earlier q) ≡ word earlier q → word (set marks (word earlier p) 2) (word earlier q) ≡ 2) p
-            (λ q b z. still-done (k .ordering) kept-node d _ (k .heads q b z))
-            (λ z. getD-set-same marks (word earlier p) 2 0 (within (k .ordering) kept-node d));
-      }
-
--- once the changed heads are done, the others can be kept
-pub keeping-none : {words args before earlier cs marks order : List ℕ} {count : ℕ} → Sweep words args before cs marks order count (nodeCount words) → Keeping words args before earlier cs marks order count 0
-keeping-none w =
-    record { ordering = w .ordering; changed = w .changed; heads = λ q l. absurd (omega arith) }
-
--- Every place of the earlier order is looked at.
-module _ {words args before earlier cs marks order : List ℕ} {count p : ℕ} (m : Mending words args before earlier cs) (k : Keeping words args before earlier cs marks order count p) (all : length earlier ≤ p) where
-  -- every head is done
-  head-done : (i : ℕ) → i < nodeCount words → word marks (classOf cs i) ≡ 2
-  head-done i b = go (ℕ-discrete (classOf before i) (classOf cs i))
-    where
-      go : Dec (classOf before i ≡ classOf cs i) → word marks (classOf cs i) ≡ 2
-      go (no d) = k .changed i b d
-      go (yes e) =
-          let f = m .ordered .whole i b in
-          let g : word earlier (f .0) ≡ classOf cs i = f .2 ∙ e in
-          rw g at (k .heads (f .0) (omega (arith, all, f .1)) (rw g (m .changing .partition .own i b)))
-
+-- The first places of the order, as a list.
+module _ {words args cs marks order : List ℕ} {count : ℕ} (o : Ordering words args cs marks order count) where
   placed-most : count ≤ nodeCount words
   placed-most =
-      let r = k .ordering .room in
+      let r = o .room in
       let t = count-most (nodeCount words) (isDone marks) in
       omega (arith, r, t)
 
   placed-length : length (take count order) ≡ count
-  placed-length = length-take-le count order (let l = placed-most in let e = k .ordering .order-size in omega (arith, l, e))
+  placed-length = length-take-le count order (let l = placed-most in let e = o .order-size in omega (arith, l, e))
 
   placed-at : (q : ℕ) → q < count → word (take count order) q ≡ word order q
   placed-at q l = getD-take count order q 0 l
@@ -509,17 +444,20 @@ module _ {words args before earlier cs marks order : List ℕ} {count p : ℕ} (
   in-place : (q : ℕ) → q < length (take count order) → q < count
   in-place q l = let e = placed-length in omega (arith, e, l)
 
-  -- the heads stand in order
-  pub kept-all : FoundOrder words args cs (Count count) order
-  kept-all =
-      found-order placed-most
-      (record { node = node-at; once = once-at; first = first-at; whole = whole-at })
-    where
-      o : Ordering words args cs marks order count
-      o = k .ordering
+  -- what is met in the order is met in the list
+  placed-met : (p : ℕ) → p ≤ count → (g : ℕ) → Met words order p g → Met words (take count order) p g
+  placed-met p l g (leaf e) = leaf e
+  placed-met p l g (before q b e) = before q b (placed-at q (omega arith) ∙ e)
 
+  -- the nodes there are listed
+  placed-listed : Listed words args cs (take count order)
+  placed-listed = record { node = node-at; compound = compound-at; once = once-at; first = first-at }
+    where
       node-at : (q : ℕ) → q < length (take count order) → word (take count order) q < nodeCount words
       node-at q l = let b = in-place q l in rw (placed-at q b) (o .listed q b .0)
+
+      compound-at : (q : ℕ) → q < length (take count order) → 0 < countOf words (word (take count order) q)
+      compound-at q l = let b = in-place q l in rw (placed-at q b) (o .compound q b)
 
       once-at : (q r : ℕ) → q < r → r < length (take count order) → word (take count order) q ≡ word (take count order) r → ⊥
       once-at q r l t e =
@@ -527,21 +465,88 @@ module _ {words args before earlier cs marks order : List ℕ} {count p : ℕ} (
           let a : q < count = omega (arith, b, l) in
           o .once q r l b (sym (placed-at q a) ∙ e ∙ placed-at r b)
 
-      first-at : (q : ℕ) → q < length (take count order) → ArgumentsBefore words args cs (take count order) (word (take count order) q) q
+      first-at : (q : ℕ) → q < length (take count order) → (j : ℕ) → j < countOf words (word (take count order) q) → Met words (take count order) q (classOf cs (argumentOf words args (word (take count order) q) j))
       first-at q l =
           let b = in-place q l in
-          rw (placed-at q b)
-          (λ j t. let f = o .first q b j t in (f .0, f .1, placed-at (f .0) (omega (arith, b, f .1)) ∙ f .2))
+          rw (placed-at q b) (λ j t. placed-met q (omega (arith, b)) _ (o .first q b j t))
 
-      whole-at : (i : ℕ) → i < nodeCount words → (q : ℕ) × (q < length (take count order)) × (word (take count order) q ≡ classOf cs i)
-      whole-at i l =
-          let f = o .done (classOf cs i) (m .changing .partition .below i l) (head-done i l) in
-          let e = placed-length in
-          (f .0, omega (arith, e, f .1), placed-at (f .0) (f .1) ∙ f .2)
+  -- a node that is done, if it has arguments, is met there
+  placed-settled : (g : ℕ) → g < nodeCount words → Settled words marks g → Met words (take count order) (length (take count order)) g
+  placed-settled g l s = rw placed-length (placed-met count (omega arith) g (settled-met o l s))
 
--- the earlier order can be mended
-pub mending : {words args before earlier cs : List ℕ} → Sections words args → length before ≡ nodeCount words → Ordered words args before earlier → Partition (nodeCount words) cs → Mending words args before earlier cs
-mending s b o p = record { changing = record { sections = s; before-size = b; partition = p }; ordered = o }
+-- Node i is looked at.
+module _ {words args cs marks order : List ℕ} {count i : ℕ} (s : Sections words args) (p : Partition (nodeCount words) cs) (w : Sweep words args cs marks order count i) (l : i < nodeCount words) where
+  -- its head can be visited: no node is open
+  pub sweep-next : (h : ℕ) → h ≡ classOf cs i → 0 < countOf words h → Visiting words args cs marks order count h
+  sweep-next h e a =
+      record {
+        sections = s;
+        partition = p;
+        ordering = w .ordering;
+        node = head-inside p l e;
+        compound = a;
+        leads = λ k q z. absurd (w .none-open k q z);
+      }
+
+  -- its head is done, if it has arguments
+  sweep-on : (h : ℕ) → h ≡ classOf cs i → (later order′ : List ℕ) (c : ℕ) → Ordering words args cs later order′ c → Later (nodeCount words) marks later → Settled words later h → Sweep words args cs later order′ c (i + 1)
+  sweep-on h e later order′ c o t z =
+      record {
+        ordering = o;
+        none-open = λ k b y. w .none-open k b (t .none-opened k b y);
+        heads = settled-next words (classOf cs) i h e z t (λ k b. p .below k (omega arith)) (w .heads);
+      }
+
+  -- it is not due
+  pub swept-over : (h : ℕ) → h ≡ classOf cs i → Settled words marks h → {later order′ : List ℕ} {c : ℕ} → later ≡ marks → order′ ≡ order → c ≡ count → Sweep words args cs later order′ c (i + 1)
+  swept-over h e s x y z = rw (x, y, z) (sweep-on h e marks order count (w .ordering) (later-same _ _) s)
+
+  -- it is visited
+  pub swept : (h : ℕ) → h ≡ classOf cs i → (passed placed : List ℕ) (n : ℕ) → Passed words args cs marks h passed placed n → {later order′ : List ℕ} {c : ℕ} → later ≡ passed → order′ ≡ placed → c ≡ n → Sweep words args cs later order′ c (i + 1)
+  swept h e passed placed n q x y z = rw (x, y, z) (sweep-on h e passed placed n (q .ordering) (q .later) (λ a. q .passed))
+
+-- with new marks no head is visited
+pub swept-none : {words args cs marks order : List ℕ} → Starting (nodeCount words) marks order → Sweep words args cs marks order 0 0
+swept-none s =
+    record {
+      ordering = ordering-none s;
+      none-open = λ k l e. let z = s .new k l in omega (arith, z, e);
+      heads = λ k l. absurd (omega arith);
+    }
+
+-- every node is looked at: the heads that have arguments stand in order
+pub swept-all : {words args cs marks order : List ℕ} {count i : ℕ} → Partition (nodeCount words) cs → Sweep words args cs marks order count i → nodeCount words ≤ i → (count ≤ nodeCount words) × Ordered words args cs (take count order)
+swept-all {cs = cs} p w a =
+    (placed-most (w .ordering), record { listed = placed-listed (w .ordering); whole = λ i l. placed-settled (w .ordering) (classOf cs i) (p .below i l) (w .heads i (omega arith)) })
+
+-- a search that ends at a cycle
+pub searched-cycle : {words args cs : List ℕ} {a : ℕ} → Looped words args cs → Searched words args cs a true
+searched-cycle l = record { cycle = λ e. l; ordered = λ e. absurd (let z : _≡_ {A = ℕ} 0 1 = cc in omega arith) }
+
+-- a search that passes
+searched-order : {words args cs : List ℕ} {a : ℕ} → OrderedBelow words args cs a → Searched words args cs a false
+searched-order o = record { cycle = λ e. absurd (let z : _≡_ {A = ℕ} 0 1 = cc in omega arith); ordered = λ e. o }
+
+-- the head of node a has no arguments
+pub searched-leaf : (words args cs : List ℕ) (a h : ℕ) → h ≡ classOf cs a → countOf words h ≡ 0 → Searched words args cs a false
+searched-leaf words args cs a h e z =
+    searched-order
+    (record {
+      order = [];
+      listed = record {
+        node = λ p l. absurd (omega arith);
+        compound = λ p l. absurd (omega arith);
+        once = λ p q l m e. absurd (omega arith);
+        first = λ p l. absurd (omega arith);
+      };
+      from = leaf (rw (← e) z);
+    })
+
+-- the head of node a is visited
+pub searched-passed : {words args cs marks later order : List ℕ} {a h c : ℕ} → h ≡ classOf cs a → h < nodeCount words → Passed words args cs marks h later order c → Searched words args cs a false
+searched-passed {order = order} {h = h} {c} e l p =
+    searched-order
+    (record { order = take c order; listed = placed-listed (p .ordering); from = rw (← e) (placed-settled (p .ordering) h l (λ a. p .passed)) })
 
 -- with new marks the search can start
 pub starting : {order : List ℕ} {total : ℕ} (n : ℕ) → length order ≡ total → n ≡ total → n ≤ maxNodes → Starting total (take (n - 0) (replicate maxNodes 0)) order

@@ -1,15 +1,19 @@
 -- Classes in which nodes of one term are together. Where no pair is given, nodes have one name exactly if they have one term, so the
--- classes by names are those of the pairs of each node and its head, which every substitution unifies. Assumes nothing.
-use Prim.Native.Nat.{ℕ, suc, _+_, _-_, _<_, _≤_}
-use mathlib.Core.List.{List, [], List·Memᴰ, List·Memᴰ·not-nil}
+-- classes by names are those of the pairs of each node and its name, which every substitution unifies. Assumes nothing.
+use Prim.Native.Nat.{ℕ, _+_, _<_, _≤_}
+use mathlib.Core.Bool.{Bool, _&&_}
+use mathlib.Core.List.{List, [], map, List·Memᴰ, List·Memᴰ·not-nil}
 use mathlib.Core.Logic.{_↔_}
 use mathlib.Core.Path.{_≡_, refl, sym, ap, _∙_}
 use native.Mathlib.Decide.{ℕ-discrete}
 use native.Mathlib.Omega.{arith}
+use borrow.Author.Tests.{eq-eqb, lt-ltb, ltb-true}
 use borrow.Author.Count.{below-more}
-use lib.ListN.{length, set, take, length-set}
-use lib.Seq.{getD-set-same, getD-set-other, getD-take, length-take-le}
-use Rattle.table.specs.Layout.{word, nodeCount, argumentOf}
+use lib.Dec.{eqb, ltb}
+use lib.ListN.{length, set, length-map}
+use lib.Seq.{getD-set-same, getD-set-other, ext-getD}
+use Rattle.table.specs.Layout.{word, kindOf, countOf, nodeCount, argumentOf}
+use Rattle.table.proofs.BoolLaws.{and-true-right}
 use Rattle.terms.specs.Term.{var, app}
 use Rattle.terms.specs.Substitution.{Substitution, sub}
 use Rattle.terms.proofs.SubstitutionLaws.{sub-var}
@@ -22,159 +26,139 @@ use Rattle.unification.specs.Code.Given.{WellFormed, Inside}
 use Rattle.unification.specs.Code.Sections.{nodesFrom, Sections}
 use Rattle.unification.specs.Code.Heads.{Partition}
 use Rattle.unification.specs.Code.Solved.{HeadFits, Closed}
-use Rattle.unification.proofs.ListLaws.{tabulate-member, tabulate-from, zip-left, zip-right}
+use Rattle.unification.proofs.ListLaws.{tabulate-member, tabulate-from, zip-left, zip-right, map-at, placed}
 use Rattle.unification.proofs.NodeLaws.{each-long, each-at, value-variable, value-application, value-after}
 use Rattle.unification.proofs.SectionLaws.{counted, is-node, sections-well-formed}
 use Rattle.unification.proofs.SolvedLaws.{solution-first}
 use Rattle.unification.proofs.ValuedLaws.{values-named}
-use Rattle.unify.specs.declared.Classes.{Classes}
 use Rattle.unify.specs.declared.Variables.{Variables}
-use Rattle.unify.specs.Code.Order.{Ordered}
-use Rattle.unify.specs.Code.Named.{valueName}
-use Rattle.unify.specs.Code.Binding.{HeadNames}
-use Rattle.unify.specs.Code.Stands.{headsOf, orderOf, Begins, BeginsShared, IsNode, NodesFrom, ListsHead, Sharing, Shares}
-use Rattle.unify.proofs.KeptLaws.{kept-none, kept-set}
-use Rattle.unify.proofs.OrderedLaws.{placeIn, ordered-enough, ordered-solved}
+use Rattle.unify.specs.Code.Order.{Met, leaf, before, Ordered}
+use Rattle.unify.specs.Code.Named.{valueName, Alike}
+use Rattle.unify.specs.Code.Naming.{NamedAlong}
+use Rattle.unify.specs.Code.Start.{Started, HeadsNamed, Together}
+use Rattle.unify.specs.Code.Stands.{OneConstant, Lists, BeginsShared}
+use Rattle.unify.proofs.LeastLaws.{member-place, rising-places, selected, selected-from, selected-member, selected-rises}
+use Rattle.unify.proofs.StartLaws.{below, itself, start-partition, start-solved}
 use Rattle.unify.proofs.NamedLaws.{named-valued}
 
--- no node is noted yet
-pub nodes-none : (words cs names by : List ℕ) (i : ℕ) → nodeCount words ≡ i → length by ≡ nodeCount words → NodesFrom words cs names by i
-nodes-none words cs names by i e l =
-    record { long = l; kept = kept-none (IsNode words) (valueName cs names) (λ k. k) (nodeCount words) i (omega arith) by }
+-- one more node has the name of its head
+pub shared-next : (of names heads : List ℕ) (i : ℕ) → i < length heads → ((k : ℕ) → k < i → word heads k ≡ word names (word of k)) → (k : ℕ) → k < i + 1 → word (set heads i (word names (word of i))) k ≡ word names (word of k)
+shared-next of names heads i h s =
+    below-more (λ k. word (set heads i (word names (word of i))) k ≡ word names (word of k)) i (λ k l. getD-set-other heads i k (word names (word of i)) 0 (λ z. omega (arith, l, z)) ∙ s k l) (getD-set-same heads i (word names (word of i)) 0 h)
 
--- one node more
-pub nodes-down : (words args cs names : List ℕ) → HeadNames words args cs names → (by : List ℕ) (i s : ℕ) → 0 < i → i ≤ nodeCount words → s ≡ valueName cs names (i - 1) → NodesFrom words cs names by i → NodesFrom words cs names (set by s (i - 1)) (i - 1)
-nodes-down words args cs names m by i s h l e r =
-    let d : i ≡ suc (i - 1) = omega arith in
-    let q : i - 1 < nodeCount words = omega arith in
-    let b = m .named .node (i - 1) q in
-    let n = r .long in
+-- all have
+pub shared-all : (of names heads : List ℕ) (i : ℕ) → length of ≡ length heads → length of ≤ i → ((k : ℕ) → k < i → word heads k ≡ word names (word of k)) → heads ≡ map (word names) of
+shared-all of names heads i l m s =
+    ext-getD 0 heads (map (word names) of) (sym l ∙ sym (length-map of (word names)))
+    (λ k h. s k (omega arith) ∙ sym (map-at (word names) of k (omega arith)))
+
+-- each head has a place among the names
+pub named-inside : (n : ℕ) (cs names : List ℕ) → Partition n cs → length names ≡ n → HeadsNamed cs names
+named-inside n cs names p l =
     record {
-      long = length-set by s (i - 1) ∙ n;
-      kept = rw e (kept-set (IsNode words) (valueName cs names) (λ k. k) (nodeCount words) (i - 1) by q q (omega (arith, b, n)) (rw d at (r .kept)));
+      inside = λ i h.
+          let z = p .size in
+          let b = p .below i (omega (arith, z, h)) in
+          omega (arith, b, l);
     }
 
--- all are noted
-pub nodes-all : (words cs names by : List ℕ) (i : ℕ) → i ≤ 0 → NodesFrom words cs names by i → NodesFrom words cs names by 0
-nodes-all words cs names by i z r = let e : i ≡ 0 = omega arith in rw e at r
+-- Heads that are not above their nodes: those that have arguments, in rising order.
+module _ (words args : List ℕ) (s : Sections words args) (cs : List ℕ) (p : Partition (nodeCount words) cs) (low : (i : ℕ) → i < nodeCount words → classOf cs i ≤ i) where
+  -- Whether node i is its own head and has arguments.
+  compoundHead : ℕ → Bool
+  compoundHead i = eqb (classOf cs i) i && ltb 0 (countOf words i)
 
--- a node that has another head is not listed
-pub head-other : (order : List ℕ) (count i h : ℕ) → (h ≡ i → ⊥) → ListsHead order count i h count order
-head-other order count i h n = record { own = λ e. absurd (n e); other = λ d. (refl, refl) }
+  -- Those that are.
+  rising : List ℕ
+  rising = selected compoundHead (nodeCount words)
 
--- one that is its own head is
-pub head-own : (order : List ℕ) (count i h : ℕ) → h ≡ i → ListsHead order count i h (count + 1) (set order count i)
-head-own order count i h e = record { own = λ d. (refl, refl); other = λ n. absurd (n e) }
+  compound-at : (q : ℕ) → q < length rising → (word rising q < nodeCount words) × (0 < countOf words (word rising q))
+  unfolding rising compoundHead
+  compound-at q h =
+      let r = selected-from compoundHead (nodeCount words) (word rising q) (placed rising q h) in
+      (r .0, ltb-true 0 (countOf words (word rising q)) (and-true-right (eqb (classOf cs (word rising q)) (word rising q)) (ltb 0 (countOf words (word rising q))) (r .1)))
 
-module _ (words cs names by : List ℕ) where
-  -- no node has its head yet
-  pub sharing-none : (heads order : List ℕ) → length heads ≡ nodeCount words → length order ≡ nodeCount words → Sharing words cs names by heads order 0 0
-  sharing-none heads order l m =
+  rises : (q r : ℕ) → q < r → r < length rising → word rising q < word rising r
+  unfolding rising
+  rises q r l h = rising-places rising (selected-rises compoundHead (nodeCount words)) q r l h
+
+  -- a place comes first if its node is lower
+  lower : (q r : ℕ) → q < length rising → word rising q < word rising r → q < r
+  lower q r h l = go (ℕ-discrete q r)
+    where
+      go : Dec (q ≡ r) → q < r
+      go (yes e) = let z = ap (word rising) e in absurd (omega (arith, l, z))
+      go (no n) =
+          let u : r < q → ⊥ = λ z. let y = rises r q z h in omega (arith, l, y) in
+          omega (arith, n, u)
+
+  head-at : (i : ℕ) → i < nodeCount words → 0 < countOf words (classOf cs i) → (q : ℕ) × (q < length rising) × (classOf cs i ≡ word rising q)
+  unfolding rising compoundHead
+  head-at i h c =
+      member-place rising (classOf cs i) (selected-member compoundHead (nodeCount words) (classOf cs i) (p .below i h) (rw (eq-eqb (classOf cs (classOf cs i)) (classOf cs i) (p .own i h), lt-ltb 0 (countOf words (classOf cs i)) c)))
+
+  -- a head is met before every place that it must be before
+  head-met : (i r : ℕ) → i < nodeCount words → ((q : ℕ) → q < length rising → classOf cs i ≡ word rising q → q < r) → Met words rising r (classOf cs i)
+  head-met i r h b = go (ℕ-discrete (countOf words (classOf cs i)) 0)
+    where
+      go : Dec (countOf words (classOf cs i) ≡ 0) → Met words rising r (classOf cs i)
+      go (yes z) = leaf z
+      go (no n) =
+          let q = head-at i h (omega (arith, n)) in
+          before (q .0) (b (q .0) (q .1) (q .2)) (sym (q .2))
+
+  -- they are in an order in which those of arguments come first
+  rising-ordered : Ordered words args cs rising
+  rising-ordered =
       record {
-        heads-long = l;
-        order-long = m;
-        room = omega arith;
-        head = λ k h. absurd (omega arith);
-        below = λ p h. absurd (omega arith);
-        rising = λ p q h k. absurd (omega arith);
-        whole = λ k h. absurd (omega arith);
+        listed = record {
+          node = λ q h. compound-at q h .0;
+          compound = λ q h. compound-at q h .1;
+          once = λ q r l h e. let x = rises q r l h in omega (arith, x, e);
+          first = λ q h j c.
+              let g = compound-at q h .0 in
+              let a = s .smaller (word rising q) j g c in
+              let k : argumentOf words args (word rising q) j < nodeCount words = omega (arith, a, g) in
+              let b = low (argumentOf words args (word rising q) j) k in
+              head-met (argumentOf words args (word rising q) j) q k (λ r l e. lower r q l (omega (arith, a, b, e)));
+        };
+        whole = λ i h. head-met i (length rising) h (λ q l e. l);
       }
 
-  module _ (heads order : List ℕ) (count i h : ℕ) (b : i < nodeCount words) (e : h ≡ word by (valueName cs names i)) (t : Sharing words cs names by heads order count i) where
-    kept : (k : ℕ) → k < i → word (set heads i h) k ≡ word heads k
-    kept k l = getD-set-other heads i k h 0 (λ z. omega (arith, l, z))
-
-    here : word (set heads i h) i ≡ h
-    here = let l = t .heads-long in getD-set-same heads i h 0 (omega (arith, l))
-
-    heads-next : (k : ℕ) → k < i + 1 → word (set heads i h) k ≡ word by (valueName cs names k)
-    heads-next = below-more (λ k. word (set heads i h) k ≡ word by (valueName cs names k)) i (λ k l. kept k l ∙ t .head k l) (here ∙ e)
-
-    -- one node more, that has another head
-    sharing-other : (h ≡ i → ⊥) → Sharing words cs names by (set heads i h) order count (i + 1)
-    sharing-other n =
-        let r = t .room in
-        record {
-          heads-long = length-set heads i h ∙ t .heads-long;
-          order-long = t .order-long;
-          room = omega (arith, r);
-          head = heads-next;
-          below = λ p l. let z = t .below p l in omega (arith, z);
-          rising = t .rising;
-          whole = below-more (λ k. word (set heads i h) k ≡ k → (p : ℕ) × (p < count) × (word order p ≡ k)) i (λ k l z. t .whole k l (sym (kept k l) ∙ z)) (λ z. absurd (n (sym here ∙ z)));
-        }
-
-    old : (p : ℕ) → p < count → word (set order count i) p ≡ word order p
-    old p l = getD-set-other order count p i 0 (λ z. omega (arith, l, z))
-
-    new : word (set order count i) count ≡ i
-    new =
-        let l = t .order-long in
-        let r = t .room in
-        getD-set-same order count i 0 (omega (arith, l, r))
-
-    -- one that is its own head
-    sharing-own : Sharing words cs names by (set heads i h) (set order count i) (count + 1) (i + 1)
-    sharing-own =
-        let r = t .room in
-        record {
-          heads-long = length-set heads i h ∙ t .heads-long;
-          order-long = length-set order count i ∙ t .order-long;
-          room = omega (arith, r);
-          head = heads-next;
-          below = below-more (λ p. word (set order count i) p < i + 1) count (λ p l. let z = t .below p l in let y = old p l in omega (arith, z, y)) (let y = new in omega (arith, y));
-          rising = λ p q l k. rises p q l (omega (arith, k)) (ℕ-discrete q count);
-          whole = below-more (λ k. word (set heads i h) k ≡ k → (p : ℕ) × (p < count + 1) × (word (set order count i) p ≡ k)) i
-              (λ k l z.
-              let w = t .whole k l (sym (kept k l) ∙ z) in
-              (w .0, omega (arith, w .1), old (w .0) (w .1) ∙ w .2))
-              (λ z. (count, omega arith, new));
-        }
-      where
-        rises : (p q : ℕ) → p < q → q ≤ count → Dec (q ≡ count) → word (set order count i) p < word (set order count i) q
-        rises p q l k (yes z) =
-            let u = old p (omega (arith, l, k)) in
-            let v = t .below p (omega (arith, l, k)) in
-            rw z (let y = new in omega (arith, u, v, y))
-        rises p q l k (no z) =
-            let m : q < count = omega (arith, k, z) in
-            let u = old p (omega (arith, l, m)) in
-            let v = old q m in
-            let y = t .rising p q l m in
-            omega (arith, u, v, y)
-
-    -- one node more
-    pub sharing-next : (r : ℕ) (order′ : List ℕ) → ListsHead order count i h r order′ → Sharing words cs names by (set heads i h) order′ r (i + 1)
-    sharing-next r order′ a = go (ℕ-discrete h i)
-      where
-        go : Dec (h ≡ i) → Sharing words cs names by (set heads i h) order′ r (i + 1)
-        go (yes z) = let q = a .own z in rw (q .0, q .1) sharing-own
-        go (no z) = let q = a .other z in rw (q .0, q .1) (sharing-other z)
-
--- Classes of no pair, in an order, and the classes by the names of their values.
-module _ (words args : List ℕ) (s : Sections words args) (cs order : List ℕ) (p : Partition (nodeCount words) cs) (o : Ordered words args cs order) (c : Closed (nodesFrom words args) [] (classOf cs)) (heads rising : List ℕ) (count : ℕ) (t : Shares words args cs heads rising count) where
+-- Classes of no pair, and the names of their values.
+module _ (words args : List ℕ) (s : Sections words args) (cs order : List ℕ) (l : length cs ≡ nodeCount words) (d : length order ≡ nodeCount words) (t : Started words args cs order (nodeCount words)) (names : List ℕ) (m : NamedAlong words args cs order names) where
   abbrev ns : List Node
   ns = nodesFrom words args
 
   abbrev name : ℕ → ℕ
-  name = valueName cs (t .names)
+  name = valueName cs names
+
+  -- The names of the nodes' heads, as heads.
+  abbrev heads : List ℕ
+  heads = map (word names) cs
 
   w : WellFormed ns
   w = sections-well-formed words args s
 
+  p : Partition (nodeCount words) cs
+  p = start-partition words args s cs order l t
+
   none : Inside ns []
   none a b m = absurd (List·Memᴰ·not-nil m)
 
+  enough : (i : ℕ) → i < length ns → classOf cs i < length ns
+  enough i h = is-node words args (classOf cs i) (p .below i (counted words args i h))
+
   -- the values that no pair gives, by names
-  by-name : (i j : ℕ) → i < length ns → j < length ns → value ns (solution (length order) ns (classOf cs)) i ≡ value ns (solution (length order) ns (classOf cs)) j ↔ (name i ≡ name j)
+  by-name : (i j : ℕ) → i < length ns → j < length ns → value ns (solution (length ns) ns (classOf cs)) i ≡ value ns (solution (length ns) ns (classOf cs)) j ↔ (name i ≡ name j)
   by-name =
-      values-named ns w [] none (classOf cs) (placeIn order) (ordered-solved words args s cs [] none c order o) (length order) (ordered-enough words args s cs [] none c order o) name (named-valued words args cs (t .names) s p (t .named .named))
+      values-named ns w [] none (classOf cs) (λ i. i) (start-solved words args s cs order l t) (length ns) enough name (named-valued words args cs names s p (m .named))
 
   -- every substitution comes after the one that no pair gives
-  after : (i : ℕ) → i < length ns → termOf ns i ≡ sub var (value ns (solution (length order) ns (classOf cs)) i)
+  after : (i : ℕ) → i < length ns → termOf ns i ≡ sub var (value ns (solution (length ns) ns (classOf cs)) i)
   after i h =
       sym (sub-var (termOf ns i))
-      ∙ value-after ns w (solution (length order) ns (classOf cs)) var var (solution-first ns w [] none (classOf cs) (placeIn order) (ordered-solved words args s cs [] none c order o) (length order) (ordered-enough words args s cs [] none c order o) var (λ a b m. absurd (List·Memᴰ·not-nil m))) i h
+      ∙ value-after ns w (solution (length ns) ns (classOf cs)) var var (solution-first ns w [] none (classOf cs) (λ i. i) (start-solved words args s cs order l t) (length ns) enough var (λ a b m. absurd (List·Memᴰ·not-nil m))) i h
 
   -- nodes with one name have one term
   one-term : (i j : ℕ) → i < length ns → j < length ns → name i ≡ name j → termOf ns i ≡ termOf ns j
@@ -182,7 +166,26 @@ module _ (words args : List ℕ) (s : Sections words args) (cs order : List ℕ)
 
   -- and the other way round
   one-name : (i j : ℕ) → i < length ns → j < length ns → termOf ns i ≡ termOf ns j → name i ≡ name j
-  one-name i j h k e = by-name i j h k .0 (ap (sub (solution (length order) ns (classOf cs))) e)
+  one-name i j h k e = by-name i j h k .0 (ap (sub (solution (length ns) ns (classOf cs))) e)
+
+  -- the head of a node is its name
+  at : (i : ℕ) → i < nodeCount words → word heads i ≡ name i
+  at i h = map-at (word names) cs i (omega arith)
+
+  -- the name at a node is not above it, and stands at itself
+  earlier : (i : ℕ) → i < nodeCount words → (word names i ≤ i) × (word names (word names i) ≡ word names i)
+  earlier i h =
+      let q = m .along .earlier i (omega arith) in
+      let x = t .place i h in
+      let y = t .place (q .0) (omega (arith, q .1)) in
+      let e : word names i ≡ q .0 = ap (word names) (sym x) ∙ q .2 ∙ y in
+      (rw e (q .1), rw e (ap (word names) (sym y) ∙ q .3 ∙ y))
+
+  -- a name is its own head where no pair is given
+  name-head : (i : ℕ) → i < nodeCount words → Dec (kindOf words (classOf cs i) ≡ 0) → classOf cs (name i) ≡ name i
+  name-head i h (yes k) = rw (m .named .variable i h k) (p .own i h)
+  name-head i h (no n) =
+      itself words args s cs order l t (name i) (m .named .node i h) (m .named .application i h n)
 
   -- the head of a node is not above it, and has its name
   record HeadOf (k : ℕ) : Type 0 where
@@ -192,17 +195,18 @@ module _ (words args : List ℕ) (s : Sections words args) (cs order : List ℕ)
 
   head-of : (k : ℕ) → k < nodeCount words → HeadOf k
   head-of k h =
-      let q = t .noted .kept .kept k (omega arith) h h in
-      let e : word heads k ≡ q .0 = t .sharing .head k h ∙ q .2 in
+      let e = at k h in
+      let b = below words args s cs order l t k h in
+      let q = earlier (classOf cs k) (p .below k h) in
       record {
-        node = rw e (q .1 .holds .1);
-        low = rw e (q .1 .least k (omega arith, h, h, refl));
-        named = rw e (q .1 .holds .3);
+        node = rw e (m .named .node k h);
+        low = rw e (omega (arith, b, q .0));
+        named = rw e (ap (word names) (name-head k h (ℕ-discrete (kindOf words (classOf cs k)) 0)) ∙ q .1);
       }
 
   -- nodes with one name have one head
   one-head : (i j : ℕ) → i < nodeCount words → j < nodeCount words → name i ≡ name j → word heads i ≡ word heads j
-  one-head i j h k e = t .sharing .head i h ∙ ap (word (t .by)) e ∙ sym (t .sharing .head j k)
+  one-head i j h k e = at i h ∙ e ∙ sym (at j k)
 
   own : (k : ℕ) → k < nodeCount words → word heads (word heads k) ≡ word heads k
   own k h = let q = head-of k h in one-head (word heads k) k (q .node) h (q .named)
@@ -219,53 +223,16 @@ module _ (words args : List ℕ) (s : Sections words args) (cs order : List ℕ)
 
   -- each class has a head
   shared-partition : Partition (nodeCount words) heads
-  shared-partition = record { size = t .sharing .heads-long; below = λ i h. head-of i h .node; own = own }
+  shared-partition = record { size = length-map cs (word names) ∙ l; below = λ i h. head-of i h .node; own = own }
 
-  short : count ≤ nodeCount words
-  short = t .sharing .room
-
-  listed : length (take count rising) ≡ count
-  listed = let l = t .sharing .order-long in let r = short in length-take-le count rising (omega (arith, l, r))
-
-  at : (q : ℕ) → q < count → word (take count rising) q ≡ word rising q
-  at q h = getD-take count rising q 0 h
-
-  -- a place of the rising order of heads comes first if its node is lower
-  lower : (q r : ℕ) → q < count → r < count → word rising q < word rising r → q < r
-  lower q r h k l = go (ℕ-discrete q r)
-    where
-      go : Dec (q ≡ r) → q < r
-      go (yes e) = let z = ap (word rising) e in absurd (omega (arith, l, z))
-      go (no n) =
-          let u : r < q → ⊥ = λ z. let y = t .sharing .rising r q z h in omega (arith, l, y) in
-          omega (arith, n, u)
-
-  -- the rising order has arguments first
-  shared-ordered : Ordered words args heads (take count rising)
-  shared-ordered =
-      record {
-        node = λ q h.
-            let k : q < count = rw listed at h in
-            rw (at q k) (t .sharing .below q k);
-        once = λ q r l h e.
-            let k : r < count = rw listed at h in
-            let i : q < count = omega (arith, l, k) in
-            let x = t .sharing .rising q r l k in
-            let y = sym (at q i) ∙ e ∙ at r k in
-            omega (arith, x, y);
-        first = λ q h j d.
-            let k : q < count = rw listed at h in
-            let g = t .sharing .below q k in
-            let a = s .smaller (word rising q) j g (rw (at q k) at d) in
-            let u : argumentOf words args (word rising q) j < nodeCount words = omega (arith, a, g) in
-            let v = head-of (argumentOf words args (word rising q) j) u in
-            let f = t .sharing .whole (word heads (argumentOf words args (word rising q) j)) (v .node) (own (argumentOf words args (word rising q) j) u) in
-            let b = v .low in
-            (f .0, lower (f .0) q (f .1) k (omega (arith, a, b, f .2)), at (f .0) (f .1) ∙ f .2 ∙ rw (at q k));
-        whole = λ i h.
-            let f = t .sharing .whole (word heads i) (head-of i h .node) (own i h) in
-            (f .0, rw listed (f .1), at (f .0) (f .1) ∙ f .2);
-      }
+  -- constants of one name are alike, so they have one
+  shared-constants : OneConstant words heads
+  shared-constants i j a b e =
+      let x : classOf cs i ≡ i = itself words args s cs order l t i (a .node) (a .applied) in
+      let y : classOf cs j ≡ j = itself words args s cs order l t j (b .node) (b .applied) in
+      let z = a .bare in
+      let k : Alike words args cs names i j = record { name = e; count = a .bare ∙ sym (b .bare); arguments = λ q h. absurd (omega (arith, h, z)) } in
+      one-head i j (a .node) (b .node) (m .named .composed i j (a .node) (b .node) (rw x (a .applied)) (rw y (b .applied)) (rw (x, y) k))
 
   -- Each node and its head.
   pairs : List (ℕ × ℕ)
@@ -330,28 +297,37 @@ module _ (words args : List ℕ) (s : Sections words args) (cs order : List ℕ)
         applications = fits;
       }
 
--- the three steps, one after the other
-pub shared-by : (words args cs names by heads rising : List ℕ) (count : ℕ) → HeadNames words args cs names → NodesFrom words cs names by 0 → Sharing words cs names by heads rising count (nodeCount words) → Shares words args cs heads rising count
-shared-by words args cs names by heads rising count m n t =
-    record { names = names; by = by; named = m; noted = n; sharing = t }
-
--- what unifying many pairs begins with: heads and order are the first of longer lists
-pub begun-shared : {v : Variables} {c c′ : Classes} (words args cs heads rising : List ℕ) → Sections words args → Begins words args v c → headsOf words c ≡ cs → Shares words args cs heads rising (c′ .count) → headsOf words c′ ≡ heads → orderOf c′ ≡ take (c′ .count) rising → BeginsShared words args v c′
-begun-shared {v} {c} {c′} words args cs heads rising s b q t e d =
-    let p : Partition (nodeCount words) cs = rw q at (b .formed .partition) in
-    let o : Ordered words args cs (orderOf c) = rw q at (b .formed .ordered) in
-    let k : Closed (nodesFrom words args) [] (classOf cs) = rw q at (b .stands .closed) in
-    record {
-      lists = b .lists;
+-- nodes of one term are put together
+pub shared-together : (words args cs order names heads : List ℕ) → Sections words args → length cs ≡ nodeCount words → length order ≡ nodeCount words → Started words args cs order (nodeCount words) → NamedAlong words args cs order names → heads ≡ map (word names) cs → Together words args heads
+shared-together words args cs order names heads s l d t m e =
+    rw e
+    (record {
       formed = record {
-        partition = rw e (shared-partition words args s cs (orderOf c) p o k heads rising (c′ .count) t);
-        counted = t .sharing .room;
-        ordered = rw (e, d) (shared-ordered words args s cs (orderOf c) p o k heads rising (c′ .count) t);
+        partition = shared-partition words args s cs order l d t names m;
+        constants = shared-constants words args s cs order l d t names m;
+        order = rising words args s (map (word names) cs) (shared-partition words args s cs order l d t names m) low;
+        ordered = rising-ordered words args s (map (word names) cs) (shared-partition words args s cs order l d t names m) low;
       };
-      pairs = pairs words args s cs (orderOf c) p o k heads rising (c′ .count) t;
+      pairs = pairs words args s cs order l d t names m;
       stands = record {
-        inside = pairs-inside words args s cs (orderOf c) p o k heads rising (c′ .count) t;
-        closed = rw e (shared-closed words args s cs (orderOf c) p o k heads rising (c′ .count) t);
+        inside = pairs-inside words args s cs order l d t names m;
+        closed = shared-closed words args s cs order l d t names m;
       };
-      same = pairs-same words args s cs (orderOf c) p o k heads rising (c′ .count) t;
+      same = pairs-same words args s cs order l d t names m;
+      shared = λ i j h k q. term-head words args s cs order l d t names m i j (is-node words args i h) (is-node words args j k) (sym (sub-var (termOf (nodesFrom words args) i)) ∙ q ∙ sub-var (termOf (nodesFrom words args) j));
+    })
+  where
+    low : (i : ℕ) → i < nodeCount words → classOf (map (word names) cs) i ≤ i
+    low i h = head-of words args s cs order l d t names m i h .low
+
+-- what unifying begins with, by its parts
+pub begun-shared : {words args cs : List ℕ} {v : Variables} → Lists words args v → Together words args cs → BeginsShared words args v cs
+begun-shared l t =
+    record {
+      lists = l;
+      formed = t .formed;
+      pairs = t .pairs;
+      stands = t .stands;
+      same = t .same;
+      shared = t .shared;
     }

@@ -1,5 +1,5 @@
--- The classes where no pair is given: nodes of one variable have its least node as their head, all others themselves, and the nodes'
--- own order has arguments first. Assumes nothing.
+-- The classes where no pair is given: nodes of one variable have its least node as their head, all others themselves, so that nodes can
+-- be named in their own order. Assumes nothing.
 use Prim.Native.Nat.{ℕ, _+_, _<_, _≤_}
 use mathlib.Core.Bool.{true}
 use mathlib.Core.List.{List, [], List·Memᴰ·not-nil}
@@ -9,7 +9,7 @@ use native.Mathlib.Omega.{arith}
 use borrow.Author.Tests.{eq-eqb, ne-eqb, eqb-true}
 use borrow.Author.Count.{below-more}
 use lib.Dec.{eqb}
-use lib.ListN.{length, set, take}
+use lib.ListN.{length, set}
 use lib.Seq.{getD-set-same, getD-set-other}
 use Rattle.table.specs.Layout.{word, kindOf, nameOf, nodeCount, argumentOf}
 use Rattle.unification.specs.Node.{variable, nodeAt}
@@ -19,16 +19,15 @@ use Rattle.unification.specs.Computed.Classes.{classOf}
 use Rattle.unification.specs.Computed.Solution.{nodeOf}
 use Rattle.unification.specs.Code.Sections.{nodesFrom, Sections}
 use Rattle.unification.specs.Code.Heads.{Partition}
-use Rattle.unification.specs.Code.Solved.{Closed}
+use Rattle.unification.specs.Code.Solved.{Closed, Solved}
 use Rattle.unification.proofs.ListLaws.{zip-at}
 use Rattle.unification.proofs.FirstLaws.{node-of}
-use Rattle.unification.proofs.SectionLaws.{nodes-long, section-variable, from-application, variable-from}
-use Rattle.unify.specs.declared.Classes.{Classes}
+use Rattle.unification.proofs.SectionLaws.{nodes-long, section-variable, from-application, variable-from, sections-well-formed}
 use Rattle.unify.specs.declared.Variables.{Variables}
-use Rattle.unify.specs.Code.Order.{Ordered}
+use Rattle.unify.specs.Code.Naming.{Nameable, Whole, all}
 use Rattle.unify.specs.Code.Present.{variableNames, LeastByName, presentBelow, ListsPresent, leastNodes}
 use Rattle.unify.specs.Code.Start.{startHead, Started}
-use Rattle.unify.specs.Code.Stands.{Begins}
+use Rattle.unify.specs.Code.Stands.{Lists}
 use Rattle.unify.proofs.LeastLaws.{present-least, least-long}
 
 -- the head of a variable
@@ -79,7 +78,8 @@ module _ (words args : List ℕ) (s : Sections words args) where
       (omega arith, r, rw r (start-below i h))
 
   module _ (cs order : List ℕ) (m : length cs ≡ nodeCount words) (t : Started words args cs order (nodeCount words)) where
-    below : (i : ℕ) → i < nodeCount words → classOf cs i ≤ i
+    -- a head is not above its node
+    pub below : (i : ℕ) → i < nodeCount words → classOf cs i ≤ i
     below i h = rw (t .head i h) (start-below i h)
 
     -- the head of a variable is a node of it
@@ -92,11 +92,12 @@ module _ (words args : List ℕ) (s : Sections words args) where
     at-head i h k =
         rw (of-variable i (nameOf words i) h (variable-from words args i h k)) (least i h k .holds .1)
 
-    itself : (i : ℕ) → i < nodeCount words → (kindOf words i ≡ 0 → ⊥) → classOf cs i ≡ i
+    -- an application is its own head
+    pub itself : (i : ℕ) → i < nodeCount words → (kindOf words i ≡ 0 → ⊥) → classOf cs i ≡ i
     itself i h k = t .head i h ∙ start-other words args i k
 
     -- each class has a head
-    start-partition : Partition (nodeCount words) cs
+    pub start-partition : Partition (nodeCount words) cs
     start-partition =
         record {
           size = m;
@@ -134,43 +135,55 @@ module _ (words args : List ℕ) (s : Sections words args) where
             one-variable {i = i} {j = classOf cs i} (rw (nodes-long words args) h) (rw (nodes-long words args) c) (variable-from words args i h k) (at-head i h k)
         joined i h (no k) = rw (itself i h k) (same {i = i} (rw (nodes-long words args) h))
 
-    -- the nodes' own order has arguments first
-    start-ordered : length order ≡ nodeCount words → Ordered words args cs order
-    start-ordered l =
+    -- they are a solved form: an argument's head is below its node
+    pub start-solved : Solved (nodesFrom words args) [] (classOf cs) (λ i. i)
+    start-solved =
         record {
-          node = λ p h. let g : p < nodeCount words = omega arith in rw (t .place p g) g;
-          once = λ p q h k e.
-              let x = t .place p (omega arith) in
-              let y = t .place q (omega arith) in
-              omega (arith, x, y);
-          first = λ p h j c.
-              let g : p < nodeCount words = omega arith in
-              let e = t .place p g in
-              let a = s .smaller p j g (rw e at c) in
-              let b = below (argumentOf words args p j) (omega (arith, a)) in
-              (classOf cs (argumentOf words args p j), omega (arith, a, b), t .place (classOf cs (argumentOf words args p j)) (omega (arith, a, b)) ∙ rw e);
-          whole = λ i h. let b = below i h in (classOf cs i, omega (arith, b), t .place (classOf cs i) (omega (arith, b)));
+          closed = start-closed;
+          falls = λ i f us p e a n.
+              let b = below i (rw (nodes-long words args) at p) in
+              let q = sections-well-formed words args s .smaller (classOf cs i) f us (omega (arith, b, p)) e a n in
+              let h : a < nodeCount words = rw (nodes-long words args) at (let z : a < length (nodesFrom words args) = omega (arith, b, p, q) in z) in
+              let d = below a h in
+              omega (arith, d, q);
         }
 
--- what unifying begins with: lists of the right length lie at the beginning of longer ones
-pub begun : {v : Variables} {c : Classes} (words args least heads places : List ℕ) → Sections words args → LeastByName words args least → ListsPresent least (c .count) (v .count) (v .nodes) → take (nodeCount words) (c .of) ≡ heads → take (c .count) (c .order) ≡ places → c .count ≡ nodeCount words → length heads ≡ nodeCount words → length places ≡ nodeCount words → Started words args heads places (nodeCount words) → Begins words args v c
-begun {v} {c} words args least heads places s l p e d n m o t =
+    module _ (l : length order ≡ nodeCount words) where
+      -- nodes can be named in their own order
+      pub start-nameable : Nameable words args cs order
+      start-nameable =
+          record {
+            node = λ p h. let g : p < nodeCount words = omega arith in rw (t .place p g) g;
+            once = λ p q h k e.
+                let x = t .place p (omega arith) in
+                let y = t .place q (omega arith) in
+                omega (arith, x, y);
+            first = λ p q j h k c e.
+                let g : q < nodeCount words = omega arith in
+                let d = t .place q g in
+                let a = s .smaller q j g (rw d at c) in
+                let b = below (argumentOf words args q j) (omega (arith, a)) in
+                let x : classOf cs (argumentOf words args q j) ≡ word order p = rw d at e in
+                let y = t .place p (omega arith) in
+                omega (arith, a, b, x, y);
+          }
+
+      -- and every head stands in it
+      pub start-whole : (names : List ℕ) → Whole words cs order names
+      start-whole names =
+          all
+          (λ i h.
+          let b = below i h in
+          (classOf cs i, omega (arith, b), t .place (classOf cs i) (omega (arith, b))))
+
+-- the variables present, by their least nodes
+pub present-lists : {v : Variables} (words args least : List ℕ) (n : ℕ) → Sections words args → LeastByName words args least → n ≡ nodeCount words → ListsPresent least n (v .count) (v .nodes) → Lists words args v
+present-lists words args least n s l e p =
     record {
-      lists = record {
-        within = p .within;
-        counted = p .counted ∙ ap length present ∙ least-long words args;
-        nodes = p .listed ∙ present;
-      };
-      formed = record {
-        partition = rw e (start-partition words args s heads places m t);
-        counted = omega arith;
-        ordered = rw (e, d) (start-ordered words args s heads places m t o);
-      };
-      stands = record {
-        inside = λ a b k. absurd (List·Memᴰ·not-nil k);
-        closed = rw e (start-closed words args s heads places m t);
-      };
+      within = p .within;
+      counted = p .counted ∙ ap length present ∙ least-long words args;
+      nodes = p .listed ∙ present;
     }
   where
-    present : presentBelow least (c .count) variableNames ≡ leastNodes (nodesFrom words args)
-    present = rw n (present-least words args s least l)
+    present : presentBelow least n variableNames ≡ leastNodes (nodesFrom words args)
+    present = rw e (present-least words args s least l)

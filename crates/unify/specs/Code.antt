@@ -8,6 +8,5 @@ pub mod Named
 pub mod Naming
 pub mod Binding
 pub mod Closing
-pub mod Settled
 pub mod Stands
 pub mod Calling

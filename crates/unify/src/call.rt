@@ -1,16 +1,51 @@
 // Unifying two nodes of an accepted table: refusals 8 and 9, and what the two nodes come to.
+ghost use Prim.Native.Nat.{_<_};
+ghost use mathlib.Core.Path.{_≡_};
+ghost use lib.ListN.{length};
+ghost use Rattle.table.specs.Layout.{nodeCount};
 ghost use Rattle.table.specs.Code.Accepted.{Accepted};
 ghost use Rattle.unification.specs.Node.{nodesIn};
 ghost use Rattle.unification.specs.Code.Sections.{Sections, nodesFrom};
 ghost use Rattle.unify.specs.Code.Calling.{Answers};
 use crate::Extended;
-use crate::beginning::begin;
+use crate::beginning::begin_shared;
 use crate::settle::extend;
 use crate::words::bind;
 use table::Node;
 use table::Refusal;
 use table::layout;
+use table::limits::MAX_NODES;
 use unification::Unification;
+
+// Unifies two nodes of the sections of an accepted table, with room for the heads of the nodes.
+fn unify_with_room(
+    nodes: &[u32],
+    arguments: &[u32],
+    a: Node,
+    b: Node,
+    of: &mut [u8],
+    out: &mut [u32],
+) -> Unification
+    requires { ⌜ Sections (now nodes) (now arguments) ⌝ }
+    requires { ⌜ (a .0 < nodeCount (now nodes)) × (b .0 < nodeCount (now nodes)) ⌝ }
+    requires { ⌜ length (now of) ≡ nodeCount (now nodes) ⌝ }
+    ensures { λ r. ⌜ Answers (nodesFrom (now (nodes .entry)) (now (arguments .entry))) (a .0) (b .0) (now (out .entry)) r (now (out .exit)) ⌝ }
+{
+    let variables = begin_shared(nodes, arguments, of);
+    if out.len() < variables.count {
+        return Unification::Refused(Refusal::TooFewLent);
+    }
+    let list = variables.nodes;
+    let v = variables.count;
+    match extend(nodes, arguments, of, a, b) {
+        Extended::Clash => Unification::Clash,
+        Extended::Occurs => Unification::Occurs,
+        Extended::Unified => {
+            bind(nodes, arguments, &list[0..v], of, out);
+            Unification::Unified
+        }
+    }
+}
 
 // Unifies two nodes of the sections of an accepted table.
 fn unify_nodes(nodes: &[u32], arguments: &[u32], a: Node, b: Node, out: &mut [u32]) -> Unification
@@ -21,23 +56,9 @@ fn unify_nodes(nodes: &[u32], arguments: &[u32], a: Node, b: Node, out: &mut [u3
     if (a.0 >= n) | (b.0 >= n) {
         return Unification::Refused(Refusal::NotANode);
     }
-    let beginning = begin(nodes, arguments);
-    let variables = beginning.variables;
-    let classes = beginning.classes;
-    if out.len() < variables.count {
-        return Unification::Refused(Refusal::TooFewLent);
-    }
-    let extension = extend(nodes, arguments, classes, a, b);
-    let answer = extension.answer;
-    let extended = extension.classes;
-    match answer {
-        Extended::Clash => Unification::Clash,
-        Extended::Occurs => Unification::Occurs,
-        Extended::Unified => {
-            bind(nodes, arguments, variables, extended, out);
-            Unification::Unified
-        }
-    }
+    let count = layout::index(n);
+    let mut of = [0u8; MAX_NODES];
+    unify_with_room(nodes, arguments, a, b, &mut of[0..count], out)
 }
 
 // Unifies two nodes of an accepted table.

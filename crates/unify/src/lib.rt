@@ -11,7 +11,6 @@ ghost use Rattle.unification.specs.Answer.{told, variableCount, unification, le
 use present::VARIABLE_NAMES;
 use table::Checked;
 use table::Node;
-use table::limits::MAX_NODES;
 use unification::Unification;
 
 // The nodes of a checked table.
@@ -20,17 +19,20 @@ mod nodes;
 // The variables present.
 mod present;
 
-// The classes that are begun with: of no pair (`begin`), or with nodes of one term together (`begin_shared`).
+// What is begun with: the variables present, the classes in which nodes of one term are together, the closed nodes.
 pub mod beginning;
 
 // The classes, closed under one pair more.
 mod closure;
 
-// An order of the classes.
+// An order of the classes, and cycles.
 mod order;
 
 // The classes of a list of pairs, extended by one pair more: `extend`.
 pub mod settle;
+
+// A pair by itself: `may_unify`.
+pub mod alone;
 
 // Names for the values of classes.
 mod names;
@@ -48,23 +50,10 @@ pub enum Extended {
     Occurs,
 }
 
-// Classes of nodes: the head of each node, and the heads in an order in which those of arguments come first.
-pub struct Classes {
-    pub of: [u8; MAX_NODES],
-    pub order: [u8; MAX_NODES],
-    pub count: usize,
-}
-
 // The variables present: the least node of each, in rising order of variable number.
 pub struct Variables {
     pub count: usize,
     pub nodes: [u8; VARIABLE_NAMES],
-}
-
-// Classes extended by a pair. They are of account only where the answer is unified.
-pub struct Extension {
-    pub answer: Extended,
-    pub classes: Classes,
 }
 
 // Unifies two nodes of a table. Unified leaves the binding words in the first of the lent words, one for each variable present.

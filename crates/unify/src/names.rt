@@ -6,9 +6,8 @@ ghost use Rattle.table.specs.Limits.{maxNodes};
 ghost use Rattle.table.specs.Layout.{word, countOf, nodeCount, argumentOf};
 ghost use Rattle.unification.specs.Code.Sections.{Sections};
 ghost use Rattle.unification.specs.Code.Heads.{Partition};
-ghost use Rattle.unify.specs.Code.Order.{Ordered};
-ghost use Rattle.unify.specs.Code.Named.{valueName, Readable, Named};
-ghost use Rattle.unify.specs.Code.Naming.{keys, keyOf, Compared, Naming, Found};
+ghost use Rattle.unify.specs.Code.Named.{valueName, Readable};
+ghost use Rattle.unify.specs.Code.Naming.{Nameable, Whole, keys, keyOf, Compared, Naming, NamedAlong, Found};
 use crate::nodes;
 use table::Node;
 use table::layout;
@@ -166,7 +165,7 @@ fn name_all(
     earlier: &mut [u16],
 )
     requires { ⌜ Naming (now nodes) (now arguments) (now of) (now order) (now names) (now buckets) (now earlier) 0 ⌝ }
-    ensures { λ r. ⌜ Named (now (nodes .entry)) (now (arguments .entry)) (now (of .entry)) (now (names .exit)) ⌝ }
+    ensures { λ r. ⌜ NamedAlong (now (nodes .entry)) (now (arguments .entry)) (now (of .entry)) (now (order .entry)) (now (names .exit)) ⌝ }
 {
     let mut p: usize = 0;
     while p < order.len() {
@@ -179,9 +178,9 @@ fn name_all(
 pub fn name_values(nodes: &[u32], arguments: &[u32], of: &[u8], order: &[u8], names: &mut [u8])
     requires { ⌜ Sections (now nodes) (now arguments) ⌝ }
     requires { ⌜ Partition (nodeCount (now nodes)) (now of) ⌝ }
-    requires { ⌜ Ordered (now nodes) (now arguments) (now of) (now order) ⌝ }
-    requires { ⌜ length (now names) ≡ nodeCount (now nodes) ⌝ }
-    ensures { λ r. ⌜ Named (now (nodes .entry)) (now (arguments .entry)) (now (of .entry)) (now (names .exit)) ⌝ }
+    requires { ⌜ Nameable (now nodes) (now arguments) (now of) (now order) ⌝ }
+    requires { ⌜ (length (now names) ≡ nodeCount (now nodes)) × Whole (now nodes) (now of) (now order) (now names) ⌝ }
+    ensures { λ r. ⌜ NamedAlong (now (nodes .entry)) (now (arguments .entry)) (now (of .entry)) (now (order .entry)) (now (names .exit)) ⌝ }
 {
     let mut buckets = [0u16; KEYS];
     let mut earlier = [0u16; MAX_NODES];

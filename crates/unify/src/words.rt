@@ -3,18 +3,18 @@ ghost use mathlib.Core.Path.{_≡_};
 ghost use mathlib.Core.List.{_++_};
 ghost use Prim.Native.Nat.{_≤_, _<_};
 ghost use lib.ListN.{length, drop};
+ghost use Rattle.table.specs.Limits.{maxNodes};
 ghost use Rattle.table.specs.Layout.{word, nodeCount};
 ghost use Rattle.unification.specs.Code.Sections.{Sections, nodesFrom};
 ghost use Rattle.unification.specs.Code.Heads.{Partition};
 ghost use Rattle.unify.specs.Code.Order.{Ordered};
 ghost use Rattle.unify.specs.Code.Present.{leastNodes};
-ghost use Rattle.unify.specs.Code.Named.{valueName};
-ghost use Rattle.unify.specs.Code.Binding.{HeadNames, applicationNoted, freeNoted, ApplicationsFrom, FreeFrom, readAt, AreNodes, WordsFound, Binds};
-ghost use Rattle.unify.specs.Code.Stands.{Formed, Lists, Leaves};
-use crate::Classes;
-use crate::Variables;
+ghost use Rattle.unify.specs.Code.Named.{valueName, Themselves};
+ghost use Rattle.unify.specs.Code.Binding.{HeadNames, applicationNoted, freeNoted, ApplicationsFrom, FreeFrom, readAt, AreNodes, WordsFound};
+ghost use Rattle.unify.specs.Code.Stands.{OneConstant, Formed, Leaves};
 use crate::names;
 use crate::nodes;
+use crate::order;
 use table::Node;
 use table::limits::MAX_NODES;
 
@@ -166,74 +166,53 @@ fn write_named(
 )
     requires { ⌜ Sections (now nodes) (now arguments) ⌝ }
     requires { ⌜ Partition (nodeCount (now nodes)) (now of) ⌝ }
-    requires { ⌜ Ordered (now nodes) (now arguments) (now of) (now order) ⌝ }
+    requires { ⌜ OneConstant (now nodes) (now of) × Ordered (now nodes) (now arguments) (now of) (now order) ⌝ }
     requires { ⌜ (now list ≡ leastNodes (nodesFrom (now nodes) (now arguments))) × (length (now list) ≤ length (now out)) ⌝ }
     requires { ⌜ (length (now names) ≡ nodeCount (now nodes)) × (length (now by) ≡ nodeCount (now nodes)) ⌝ }
-    ensures { λ r. ⌜ Binds (nodesFrom (now (nodes .entry)) (now (arguments .entry))) (now (of .entry)) (now (out .entry)) (now (out .exit)) ⌝ }
+    ensures { λ r. ⌜ Leaves (now (nodes .entry)) (now (arguments .entry)) (now (of .entry)) (now (out .entry)) (now (out .exit)) ⌝ }
 {
+    name_themselves(names);
     names::name_values(nodes, arguments, of, order, names);
     find_words(nodes, arguments, of, names, by, list, out);
 }
 
-// Writes the binding words of classes, one for each variable present in rising order of variable number.
-fn write_bindings(
-    nodes: &[u32],
-    arguments: &[u32],
-    of: &[u8],
-    order: &[u8],
-    list: &[u8],
-    out: &mut [u32],
-)
-    requires { ⌜ Sections (now nodes) (now arguments) ⌝ }
-    requires { ⌜ Partition (nodeCount (now nodes)) (now of) ⌝ }
-    requires { ⌜ Ordered (now nodes) (now arguments) (now of) (now order) ⌝ }
-    requires { ⌜ (now list ≡ leastNodes (nodesFrom (now nodes) (now arguments))) × (length (now list) ≤ length (now out)) ⌝ }
-    ensures { λ r. ⌜ Binds (nodesFrom (now (nodes .entry)) (now (arguments .entry))) (now (of .entry)) (now (out .entry)) (now (out .exit)) ⌝ }
+// Names each node by itself.
+fn name_themselves(names: &mut [u8])
+    requires { ⌜ length (now names) ≤ maxNodes ⌝ }
+    ensures { λ r. ⌜ Themselves (now (names .exit)) ⌝ }
 {
+    let mut i: usize = 0;
+    while i < names.len() {
+        names[i] = i as u8;
+        i += 1;
+    }
+}
+
+// Writes the binding words of the classes of a list of pairs, given the least nodes of the variables present, in rising order of
+// variable number: none where no variable is present.
+pub fn bind(nodes: &[u32], arguments: &[u32], list: &[u8], of: &[u8], out: &mut [u32])
+    requires { ⌜ Sections (now nodes) (now arguments) ⌝ }
+    requires { ⌜ Formed (now nodes) (now arguments) (now of) ⌝ }
+    requires { ⌜ (now list ≡ leastNodes (nodesFrom (now nodes) (now arguments))) × (length (now list) ≤ length (now out)) ⌝ }
+    ensures { λ r. ⌜ Leaves (now (nodes .entry)) (now (arguments .entry)) (now (of .entry)) (now (out .entry)) (now (out .exit)) ⌝ }
+{
+    if list.len() == 0 {
+        return;
+    }
     let n = nodes::node_count(nodes, arguments);
+    let mut marks = [0u8; MAX_NODES];
+    let mut order = [0u8; MAX_NODES];
+    let count = order::put_in_order(nodes, arguments, of, &mut marks[0..n], &mut order[0..n]);
     let mut names = [0u8; MAX_NODES];
     let mut by = [0u8; MAX_NODES];
     write_named(
         nodes,
         arguments,
         of,
-        order,
+        &order[0..count],
         &mut names[0..n],
         &mut by[0..n],
         list,
-        out,
-    );
-}
-
-// Writes the binding words of the classes of a list of pairs: none where no variable is present.
-pub fn bind(
-    nodes: &[u32],
-    arguments: &[u32],
-    variables: Variables,
-    classes: Classes,
-    out: &mut [u32],
-)
-    requires { ⌜ Sections (now nodes) (now arguments) ⌝ }
-    requires { ⌜ Formed (now nodes) (now arguments) classes ⌝ }
-    requires { ⌜ Lists (now nodes) (now arguments) variables ⌝ }
-    requires { ⌜ variables .count ≤ length (now out) ⌝ }
-    ensures { λ r. ⌜ Leaves (now (nodes .entry)) (now (arguments .entry)) classes (now (out .entry)) (now (out .exit)) ⌝ }
-{
-    if variables.count == 0 {
-        return;
-    }
-    let n = nodes::node_count(nodes, arguments);
-    let of = classes.of;
-    let order = classes.order;
-    let heads = classes.count;
-    let list = variables.nodes;
-    let count = variables.count;
-    write_bindings(
-        nodes,
-        arguments,
-        &of[0..n],
-        &order[0..heads],
-        &list[0..count],
         out,
     );
 }

@@ -1,23 +1,23 @@
 -- The walk over left digits, depth first, as the code goes: a functional program that mirrors it (`below-listing`).
-use Prim.Native.Nat.{ℕ, zero, suc, _+_, _-_, _≤_, _<_}
+use Prim.Native.Nat.{ℕ, zero, suc, _+_, _-_, _^_, _≤_, _<_}
 use mathlib.Core.Bool.{Bool, cond, _&&_, _||_}
 use mathlib.Core.List.{List, [], _∷_, _++_, map}
 use mathlib.Core.Path.{_≡_}
 use lib.Dec.{eqb, leb, ltb}
 use lib.ListN.{length, take, drop, set, replicate}
-use Rattle.table.specs.Limits.{maxTerms, maxLabels}
 use Rattle.table.specs.Layout.{word, nodeCount}
 use Rattle.unification.specs.Node.{Node}
 use Rattle.unification.specs.Outcome.{Outcome, unified, clash, occurs}
 use Rattle.unification.specs.Computed.Unifying.{outcome, wordsOf}
-use Rattle.unification.specs.Code.Sections.{Sections, nodesFrom}
-use Rattle.unify.specs.declared.Classes.{Classes}
-use Rattle.unify.specs.declared.Variables.{Variables}
-use Rattle.unify.specs.Code.Stands.{Formed, Stands, Lists}
+use Rattle.unification.specs.Code.Sections.{nodesFrom}
+use Rattle.unify.specs.Code.Present.{leastNodes}
+use Rattle.unify.specs.Code.Stands.{Formed}
 use Rattle.listing.specs.declared.Labels.{Labels}
-use Rattle.listing.specs.declared.Branch.{Branch}
 use Rattle.listing.specs.declared.Written.{Written}
 use Rattle.listing.specs.Code.Writing.{marked, Writes, Remains}
+use Rattle.listing.specs.Code.Branch.{Listable, pairsIn, Standing, marksIn, widthOf}
+use Rattle.listing.specs.Code.Memory.{Keyed, Remembers}
+use Rattle.listing.specs.Code.Partners.{MayPair}
 
 -- What f has for each of c digits from d on.
 unfoldable pub over : ℕ → ℕ → (ℕ → List (List ℕ)) → List (List ℕ)
@@ -56,59 +56,85 @@ unpairedIn (z ∷ zs) = cond (eqb z 0) (unpairedIn zs) (suc (unpairedIn zs))
 unfoldable pub hopeless : ℕ → ℕ → ℕ → ℕ → Bool
 hopeless k l left unpaired = eqb k 0 && ltb left unpaired || eqb l 0 && ltb unpaired left
 
--- What is known of the sections of an accepted table and of its numbers of labels.
-pub record Listable (words args left right : List ℕ) (labels : Labels) : Type 0 where
-  pub sections : Sections words args
-  pub left-few : length left ≤ maxTerms
-  pub right-few : length right ≤ maxTerms
-  pub left-nodes : (j : ℕ) → j < length left → word left j < nodeCount words
-  pub right-nodes : (j : ℕ) → j < length right → word right j < nodeCount words
-  pub left-labels : labels .left ≤ maxLabels
-  pub right-labels : labels .right ≤ maxLabels
-
--- What the walk needs to know at depth i: of the sections and the labels, of the variables, of the classes and the branch, and of the lent words.
-pub record Walking (words args left right : List ℕ) (labels : Labels) (v : Variables) (c : Classes) (b : Branch) (i : ℕ) (lent : List ℕ) (at : ℕ) : Type 0 where
-  pub listable : Listable words args left right labels
-  pub lists : Lists words args v
-  pub formed : Formed words args c
-  pub standing : (ps : List (ℕ × ℕ)) × Stands words args c ps
+-- The digits of the first i left terms in an entry, and the key and the weight that go with them.
+pub record Branching (words args left right entry : List ℕ) (key weight unpaired i : ℕ) : Type 0 where
+  pub size : length entry ≡ widthOf words args left right
   pub depth : i ≤ length left
-  pub digits-size : length (b .digits) ≡ maxTerms
-  pub marks-size : length (b .marks) ≡ maxTerms
-  pub counted : b .unpaired ≡ unpairedIn (take (length right) (b .marks))
+  pub positive : (j : ℕ) → j < i → 0 < word entry j
+  pub counted : unpaired ≡ unpairedIn (marksIn left right entry)
+  pub keyed : Keyed left right entry i key
+  pub weighed : weight ≡ 16 ^ i
+
+-- What the walk needs to know at depth i: of the sections and the labels, of the variables, of the partners, of the classes and the branch, of what is remembered, and of the lent words.
+pub record Walking (words args left right : List ℕ) (labels : Labels) (list may cs : List ℕ) (key weight unpaired i : ℕ) (entry memory lent : List ℕ) (at : ℕ) : Type 0 where
+  pub listable : Listable words args left right labels
+  pub lists : list ≡ leastNodes (nodesFrom words args)
+  pub partners : MayPair words args left right may
+  pub formed : Formed words args cs
+  pub standing : Standing words args left right cs entry i
+  pub branching : Branching words args left right entry key weight unpaired i
+  pub remembers : Remembers words args left right memory lent at
   pub room : at ≤ length lent
 
--- The entries below the branch at depth i, where its pairs are ps.
-abbrev pub branchEntries : List ℕ → List ℕ → List ℕ → List ℕ → Labels → Branch → ℕ → List (ℕ × ℕ) → List (List ℕ)
-branchEntries words args left right labels b i ps =
-    below (nodesFrom words args) right (labels .left) (labels .right) (drop i left) (take i (b .digits)) ps (take (length right) (b .marks))
+-- The entries below the branch that stands in an entry at depth i.
+abbrev pub branchEntries : List ℕ → List ℕ → List ℕ → List ℕ → Labels → List ℕ → ℕ → List (List ℕ)
+branchEntries words args left right labels entry i =
+    below (nodesFrom words args) right (labels .left) (labels .right) (drop i left) (take i entry) (pairsIn left right entry i) (marksIn left right entry)
 
 -- Those whose next left term has digit d.
-abbrev pub digitEntries : List ℕ → List ℕ → List ℕ → List ℕ → Labels → Branch → ℕ → ℕ → List (ℕ × ℕ) → List (List ℕ)
-digitEntries words args left right labels b i d ps =
-    onDigit (nodesFrom words args) right (below (nodesFrom words args) right (labels .left) (labels .right) (drop (i + 1) left)) (take i (b .digits)) ps (take (length right) (b .marks)) (word left i) d
+abbrev pub digitEntries : List ℕ → List ℕ → List ℕ → List ℕ → Labels → List ℕ → ℕ → ℕ → List (List ℕ)
+digitEntries words args left right labels entry i d =
+    onDigit (nodesFrom words args) right (below (nodesFrom words args) right (labels .left) (labels .right) (drop (i + 1) left)) (take i entry) (pairsIn left right entry i) (marksIn left right entry) (word left i) d
 
--- The entries below the branch are written, for whatever pairs the classes stand for.
-pub record Walked (words args left right : List ℕ) (labels : Labels) (c : Classes) (b : Branch) (i : ℕ) (lent : List ℕ) (at : ℕ) (lent′ : List ℕ) (w : Written) : Type 0 where
-  pub writes : (ps : List (ℕ × ℕ)) → Stands words args c ps → Writes (branchEntries words args left right labels b i ps) lent at lent′ w
+-- The digits of the first i left terms and the marks are as before.
+pub record KeepsBranch (left right : List ℕ) (i : ℕ) (entry entry′ : List ℕ) : Type 0 where
+  pub digits : take i entry′ ≡ take i entry
+  pub marks : marksIn left right entry′ ≡ marksIn left right entry
+
+-- Entries es are written; the branch at depth i is as before, and what is remembered is right, unless an entry did not fit.
+pub record WritesBelow (es : List (List ℕ)) (words args left right : List ℕ) (i : ℕ) (entry memory lent : List ℕ) (at : ℕ) (entry′ memory′ lent′ : List ℕ) (w : Written) : Type 0 where
+  pub writes : Writes es lent at lent′ w
+  pub size : length entry′ ≡ length entry
+  pub keeps : w .missed ≡ 0 → KeepsBranch left right i entry entry′
+  pub remembers : w .missed ≡ 0 → Remembers words args left right memory′ lent′ (w .used)
+
+-- The entries below the branch are written.
+abbrev pub Walked : List ℕ → List ℕ → List ℕ → List ℕ → Labels → ℕ → List ℕ → List ℕ → List ℕ → ℕ → List ℕ → List ℕ → List ℕ → Written → Type 0
+Walked words args left right labels i entry memory lent at entry′ memory′ lent′ w =
+    WritesBelow (branchEntries words args left right labels entry i) words args left right i entry memory lent at entry′ memory′ lent′ w
 
 -- The same for those of one digit.
-pub record Stepped (words args left right : List ℕ) (labels : Labels) (c : Classes) (b : Branch) (i d : ℕ) (lent : List ℕ) (at : ℕ) (lent′ : List ℕ) (w : Written) : Type 0 where
-  pub writes : (ps : List (ℕ × ℕ)) → Stands words args c ps → Writes (digitEntries words args left right labels b i d ps) lent at lent′ w
+abbrev pub Stepped : List ℕ → List ℕ → List ℕ → List ℕ → Labels → ℕ → ℕ → List ℕ → List ℕ → List ℕ → ℕ → List ℕ → List ℕ → List ℕ → Written → Type 0
+Stepped words args left right labels i d entry memory lent at entry′ memory′ lent′ w =
+    WritesBelow (digitEntries words args left right labels entry i d) words args left right i entry memory lent at entry′ memory′ lent′ w
 
--- What the loop over digits keeps: those from d on are still to be written.
-pub record Turning (words args left right : List ℕ) (labels : Labels) (c : Classes) (b : Branch) (i : ℕ) (lent₀ : List ℕ) (at₀ d : ℕ) (lent : List ℕ) (at : ℕ) : Type 0 where
+-- What is needed where left term i has its digit in the entry, and is paired by it: the pair of a and b is still to be joined to the classes.
+pub record Joining (words args left right : List ℕ) (labels : Labels) (list may cs : List ℕ) (key weight unpaired i a b : ℕ) (entry memory lent : List ℕ) (at : ℕ) : Type 0 where
+  pub listable : Listable words args left right labels
+  pub lists : list ≡ leastNodes (nodesFrom words args)
+  pub partners : MayPair words args left right may
+  pub formed : Formed words args cs
+  pub standing : Standing words args left right cs entry i
+  pub branching : Branching words args left right entry key weight unpaired (i + 1)
+  pub pair : pairsIn left right entry (i + 1) ≡ (a, b) ∷ pairsIn left right entry i
+  pub first : a < nodeCount words
+  pub second : b < nodeCount words
+  pub remembers : Remembers words args left right memory lent at
+  pub room : at ≤ length lent
+
+-- The entries below the branch are written, if the pair of a and b can be joined to those before it.
+abbrev pub WalkedJoined : List ℕ → List ℕ → List ℕ → List ℕ → Labels → ℕ → ℕ → ℕ → List ℕ → List ℕ → List ℕ → ℕ → List ℕ → List ℕ → List ℕ → Written → Type 0
+WalkedJoined words args left right labels i a b entry memory lent at entry′ memory′ lent′ w =
+    WritesBelow (ifUnified (outcome (nodesFrom words args) ((a, b) ∷ pairsIn left right entry i)) (branchEntries words args left right labels entry (i + 1))) words args left right (i + 1) entry memory lent at entry′ memory′ lent′ w
+
+-- What the loop over digits keeps: those from d on are still to be written, and the branch is as it was.
+pub record Turning (words args left right : List ℕ) (labels : Labels) (i : ℕ) (entry₀ lent₀ : List ℕ) (at₀ d : ℕ) (entry memory lent : List ℕ) (at : ℕ) : Type 0 where
   pub first : 0 < d
   pub last : d ≤ suc (length right + labels .right)
-  pub remains : (ps : List (ℕ × ℕ)) → Stands words args c ps → Remains (branchEntries words args left right labels b i ps) lent₀ at₀ (over d (suc (length right + labels .right) - d) (λ e. digitEntries words args left right labels b i e ps)) lent at
-
--- An entry with the left digits, the marks and the binding words of classes.
-pub record Strung (words args : List ℕ) (c : Classes) (ds marks e : List ℕ) : Type 0 where
-  pub entry : (ps : List (ℕ × ℕ)) → Stands words args c ps → e ≡ ds ++ marks ++ wordsOf (nodesFrom words args) ps
-
--- The entries of a string of left digits are written.
-pub record Filled (words args : List ℕ) (c : Classes) (k : ℕ) (ds marks lent : List ℕ) (at : ℕ) (lent′ : List ℕ) (w : Written) : Type 0 where
-  pub writes : (ps : List (ℕ × ℕ)) → Stands words args c ps → Writes (stringEntries (nodesFrom words args) k ds ps marks) lent at lent′ w
+  pub size : length entry ≡ length entry₀
+  pub keeps : KeepsBranch left right i entry₀ entry
+  pub remembers : Remembers words args left right memory lent at
+  pub remains : Remains (branchEntries words args left right labels entry₀ i) lent₀ at₀ (over d (suc (length right + labels .right) - d) (λ e. digitEntries words args left right labels entry₀ i e)) lent at
 
 -- The entries below the branch without digits.
 abbrev pub allEntries : List ℕ → List ℕ → List ℕ → List ℕ → Labels → List (List ℕ)

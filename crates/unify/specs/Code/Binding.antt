@@ -6,13 +6,8 @@ use mathlib.Core.Path.{_≡_}
 use lib.Dec.{eqb}
 use lib.ListN.{length, set, drop}
 use Rattle.table.specs.Layout.{word, kindOf, nodeCount}
-use Rattle.unification.specs.Node.{Node}
 use Rattle.unification.specs.Computed.Classes.{classOf}
-use Rattle.unification.specs.Computed.Unifying.{wordsOf}
-use Rattle.unification.specs.Code.Given.{Inside}
-use Rattle.unification.specs.Code.Solved.{Closed}
 use Rattle.unify.specs.Code.Kept.{Kept}
-use Rattle.unify.specs.Code.Present.{leastNodes}
 use Rattle.unify.specs.Code.Named.{valueName, Readable, Named}
 
 -- The sections, the heads of the nodes, and the names of the heads.
@@ -69,7 +64,3 @@ pub record WordsFound (words cs names list out out′ : List ℕ) : Type 0 where
   pub applied : ApplicationsFrom words cs names applications 0
   pub free : FreeFrom words cs names list applications all 0
   pub words-read : out′ ≡ readAt cs names all list ++ drop (length list) out
-
--- As `Leaves` of `Stands`, by the list of heads.
-abbrev pub Binds : List Node → List ℕ → List ℕ → List ℕ → Type 0
-Binds ns cs out out′ = (ps : List (ℕ × ℕ)) → Inside ns ps → Closed ns ps (classOf cs) → out′ ≡ wordsOf ns ps ++ drop (length (leastNodes ns)) out

@@ -1,18 +1,15 @@
 -- Classes on the way to being closed under pairs of nodes, and what the functions that close them come to.
-use Prim.Native.Nat.{ℕ, _+_, _-_, _<_, _≤_}
+use Prim.Native.Nat.{ℕ, _<_, _≤_}
 use mathlib.Core.Bool.{Bool, true, false}
-use mathlib.Core.List.{List, _∷_, _++_, List·Memᴰ, zip}
+use mathlib.Core.List.{List, _∷_, List·Memᴰ, zip}
 use mathlib.Core.Path.{_≡_}
 use lib.ListN.{length}
-use Rattle.table.specs.Limits.{maxNodes}
-use Rattle.table.specs.Layout.{word, countOf, nodeCount, argumentOf}
+use Rattle.table.specs.Layout.{countOf, nodeCount, argumentOf}
 use Rattle.unification.specs.Node.{Node, variable, application, nodeAt, tabulate}
 use Rattle.unification.specs.Closure.{Joined, Clash}
-use Rattle.unification.specs.Computed.Classes.{classOf, gather}
-use Rattle.unification.specs.Code.Given.{Inside}
+use Rattle.unification.specs.Computed.Classes.{classOf}
 use Rattle.unification.specs.Code.Heads.{Partition, roots, Unites}
 use Rattle.unification.specs.Code.Sections.{nodesFrom}
-use Rattle.unification.specs.Code.Solved.{Closed}
 
 -- Nodes of one class of cs are of one class of ds.
 abbrev pub Coarser : List ℕ → List ℕ → Type 0
@@ -45,40 +42,10 @@ argumentPair words args g h j = (argumentOf words args g j, argumentOf words arg
 unfoldable pub argumentPairs : List ℕ → List ℕ → ℕ → ℕ → List (ℕ × ℕ)
 argumentPairs words args g h = tabulate (countOf words g) (argumentPair words args g h)
 
--- The pairs that the log's entries from one place up to another stand for.
-unfoldable pub waiting : List ℕ → List ℕ → List ℕ → List ℕ → ℕ → ℕ → List (ℕ × ℕ)
-waiting words args firsts seconds from to =
-    gather (to - from) (λ k. argumentPairs words args (word firsts (from + k)) (word seconds (from + k)))
-
--- Nodes g and h with as many arguments.
-pub record Paired (words : List ℕ) (g h : ℕ) : Type 0 where
-  pub first : g < nodeCount words
-  pub second : h < nodeCount words
-  pub count : countOf words g ≡ countOf words h
-
--- A log of pairs of nodes. Each was put there by joining two classes, so that it has room for one more wherever there are two classes.
-pub record Log (words cs firsts seconds : List ℕ) (top : ℕ) : Type 0 where
-  pub partition : Partition (nodeCount words) cs
-  pub room : top + roots (nodeCount words) cs ≤ nodeCount words
-  pub firsts-long : maxNodes ≤ length firsts
-  pub seconds-long : maxNodes ≤ length seconds
-  pub entries : (k : ℕ) → k < top → Paired words (word firsts k) (word seconds k)
-
--- The entries below top are the same.
-pub record LogExtends (top : ℕ) (firsts seconds : List ℕ) (top′ : ℕ) (firsts′ seconds′ : List ℕ) : Type 0 where
-  pub longer : top ≤ top′
-  pub firsts-same : (k : ℕ) → k < top → word firsts′ k ≡ word firsts k
-  pub seconds-same : (k : ℕ) → k < top → word seconds′ k ≡ word seconds k
-
--- What joining the pairs of new comes to: they are traded for the log's new entries, or there is a clash.
-pub record Works (words args cs firsts seconds : List ℕ) (top : ℕ) (new : List (ℕ × ℕ)) (fine : Bool) (top′ : ℕ) (cs′ firsts′ seconds′ : List ℕ) : Type 0 where
-  pub log : Log words cs′ firsts′ seconds′ top′
-  pub extends : LogExtends top firsts seconds top′ firsts′ seconds′
-  pub closes : fine ≡ true → (ps todo : List (ℕ × ℕ)) → Closing (nodesFrom words args) ps cs (new ++ todo) → Closing (nodesFrom words args) ps cs′ (waiting words args firsts′ seconds′ top top′ ++ todo)
-  pub clashes : fine ≡ false → (ps todo : List (ℕ × ℕ)) → Closing (nodesFrom words args) ps cs (new ++ todo) → Clash (nodesFrom words args) ps
-
--- What closing the classes under one pair more comes to: classes for the longer list, or a clash.
-pub record Closes (ns : List Node) (cs : List ℕ) (a b : ℕ) (closed : Bool) (cs′ : List ℕ) : Type 0 where
-  pub partition : Partition (length ns) cs′
-  pub closes : closed ≡ true → (ps : List (ℕ × ℕ)) → Inside ns ps → Closed ns ps (classOf cs) → Closed ns ((a, b) ∷ ps) (classOf cs′)
-  pub clashes : closed ≡ false → (ps : List (ℕ × ℕ)) → Inside ns ps → Closed ns ps (classOf cs) → Clash ns ((a, b) ∷ ps)
+-- What joining nodes a and b comes to: the pair is done, and whatever the closure then joins, or there is a clash. Heads that are left were heads before.
+pub record Joins (words args cs : List ℕ) (a b : ℕ) (fine : Bool) (cs′ : List ℕ) : Type 0 where
+  pub partition : Partition (nodeCount words) cs′
+  pub fewer : roots (nodeCount words) cs′ ≤ roots (nodeCount words) cs
+  pub heads : (i : ℕ) → i < nodeCount words → classOf cs (classOf cs′ i) ≡ classOf cs′ i
+  pub closes : fine ≡ true → (ps todo : List (ℕ × ℕ)) → Closing (nodesFrom words args) ps cs ((a, b) ∷ todo) → Closing (nodesFrom words args) ps cs′ todo
+  pub clashes : fine ≡ false → (ps todo : List (ℕ × ℕ)) → Closing (nodesFrom words args) ps cs ((a, b) ∷ todo) → Clash (nodesFrom words args) ps

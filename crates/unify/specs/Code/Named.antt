@@ -40,3 +40,7 @@ pub record Named (words args cs names : List ℕ) : Type 0 where
   pub application : (i : ℕ) → i < nodeCount words → Applied words cs i → kindOf words (valueName cs names i) ≡ 0 → ⊥
   pub composed : (i j : ℕ) → i < nodeCount words → j < nodeCount words → Applied words cs i → Applied words cs j → Alike words args cs names (classOf cs i) (classOf cs j) → valueName cs names i ≡ valueName cs names j
   pub taken-apart : (i j : ℕ) → i < nodeCount words → j < nodeCount words → Applied words cs i → Applied words cs j → valueName cs names i ≡ valueName cs names j → Alike words args cs names (classOf cs i) (classOf cs j)
+
+-- Each number names itself.
+pub record Themselves (names : List ℕ) : Type 0 where
+  pub itself : (i : ℕ) → i < length names → word names i ≡ i

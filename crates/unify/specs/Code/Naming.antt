@@ -5,9 +5,33 @@ use mathlib.Core.List.{List}
 use mathlib.Core.Path.{_≡_}
 use lib.ListN.{length}
 use Rattle.table.specs.Limits.{maxNodes}
-use Rattle.table.specs.Layout.{word, kindOf, nameOf, countOf, argumentOf}
-use Rattle.unify.specs.Code.Order.{Ordered}
-use Rattle.unify.specs.Code.Named.{valueName, Readable, Alike}
+use Rattle.table.specs.Layout.{word, kindOf, nameOf, countOf, nodeCount, argumentOf}
+use Rattle.unification.specs.Computed.Classes.{classOf}
+use Rattle.unify.specs.Code.Named.{valueName, Readable, Alike, Named}
+use Rattle.unify.specs.Code.Stands.{OneConstant}
+
+-- Nodes in an order, no node twice: while a node is named, no name changes of an argument of it or of a node before it.
+pub record Nameable (words args cs order : List ℕ) : Type 0 where
+  pub node : (p : ℕ) → p < length order → word order p < nodeCount words
+  pub once : (p q : ℕ) → p < q → q < length order → word order p ≡ word order q → ⊥
+  pub first : (p q j : ℕ) → q ≤ p → p < length order → j < countOf words (word order q) → classOf cs (argumentOf words args (word order q) j) ≡ word order p → ⊥
+
+-- Node g stands at some place of the order.
+abbrev pub IsPlaced : List ℕ → ℕ → Type 0
+IsPlaced order g = (p : ℕ) × (p < length order) × (word order p ≡ g)
+
+-- Nodes with arguments stand in the order, among them every head that has some. The others name themselves, and constants of one
+-- name have one head.
+pub record Compounds (words cs order names : List ℕ) : Type 0 where
+  pub compound : (p : ℕ) → p < length order → 0 < countOf words (word order p)
+  pub placed : (i : ℕ) → i < nodeCount words → 0 < countOf words (classOf cs i) → IsPlaced order (classOf cs i)
+  pub itself : (i : ℕ) → i < nodeCount words → countOf words i ≡ 0 → word names i ≡ i
+  pub constants : OneConstant words cs
+
+-- Which heads stand in the order: all, or those that have arguments.
+pub data Whole (words cs order names : List ℕ) : Type 0 where
+  all : ((i : ℕ) → i < nodeCount words → IsPlaced order (classOf cs i)) → Whole words cs order names
+  compounds : Compounds words cs order names → Whole words cs order names
 
 -- How many keys the table has.
 abbrev pub keys : ℕ
@@ -62,11 +86,21 @@ pub record NamedBefore (words args cs order names : List ℕ) (p : ℕ) : Type 0
 -- The nodes before place p have their names, and the representatives among them are in the table.
 pub record Naming (words args cs order names buckets earlier : List ℕ) (p : ℕ) : Type 0 where
   pub readable : Readable words args cs names
-  pub ordered : Ordered words args cs order
+  pub ordered : Nameable words args cs order
+  pub whole : Whole words cs order names
   pub buckets-long : length buckets ≡ keys
   pub earlier-long : length earlier ≡ maxNodes
   pub named : NamedBefore words args cs order names p
   pub chained : Chained (Representative words order names) (keyAt words args cs order names) buckets earlier p
+
+-- Each node of the order has the name of one that stands not after it and names itself.
+pub record NamedEarlier (order names : List ℕ) : Type 0 where
+  pub earlier : (q : ℕ) → q < length order → (r : ℕ) × (r ≤ q) × (word names (word order q) ≡ word order r) × (word names (word order r) ≡ word order r)
+
+-- What naming comes to.
+pub record NamedAlong (words args cs order names : List ℕ) : Type 0 where
+  pub named : Named words args cs names
+  pub along : NamedEarlier order names
 
 -- What is found for the node at place p: one more than the place of a representative that is alike, or 0 where there is none.
 pub record Found (words args cs order names : List ℕ) (p c : ℕ) : Type 0 where

@@ -1,17 +1,17 @@
--- Putting the classes in order by depth-first search from those that have changed: what is marked and listed, and what a visit leaves.
+-- Putting the heads that have arguments in order by depth-first search: what is marked and listed, and what a visit leaves.
 use Prim.Native.Nat.{ℕ, _<_, _≤_}
 use mathlib.Core.Bool.{Bool}
 use mathlib.Core.List.{List}
 use mathlib.Core.Path.{_≡_}
 use lib.Dec.{eqb}
-use lib.ListN.{length, take}
-use Rattle.table.specs.Layout.{word, nodeCount, argumentOf}
+use lib.ListN.{length}
+use Rattle.table.specs.Layout.{word, countOf, nodeCount, argumentOf}
 use Rattle.unification.specs.Computed.Classes.{classOf}
 use Rattle.unification.specs.Code.Heads.{Partition, countBelow}
 use Rattle.unification.specs.Code.Sections.{Sections}
 use Rattle.unify.specs.declared.order.Placed.{Placed}
 use Rattle.unify.specs.declared.order.Placed.the-variants.{Cycle, Count}
-use Rattle.unify.specs.Code.Order.{Leads, ArgumentsBefore, Ordered}
+use Rattle.unify.specs.Code.Order.{Leads, Looped, Met}
 
 -- Node k is not visited yet.
 unfoldable pub isNew : List ℕ → ℕ → Bool
@@ -21,28 +21,26 @@ isNew marks k = eqb (word marks k) 0
 unfoldable pub isDone : List ℕ → ℕ → Bool
 isDone marks k = eqb (word marks k) 2
 
--- The first places of the order hold the nodes that are done, those of arguments first. A mark is 0 for a new node, 1 for an open one, 2 for one that is done.
+-- The first places of the order hold the nodes that are done, which have arguments, those of arguments first. A mark is 0 for a new node, 1 for an open one, 2 for one that is done.
 pub record Ordering (words args cs marks order : List ℕ) (count : ℕ) : Type 0 where
   pub marks-size : length marks ≡ nodeCount words
   pub order-size : length order ≡ nodeCount words
   pub range : (k : ℕ) → k < nodeCount words → word marks k ≤ 2
   pub listed : (p : ℕ) → p < count → (word order p < nodeCount words) × (word marks (word order p) ≡ 2)
+  pub compound : (p : ℕ) → p < count → 0 < countOf words (word order p)
   pub once : (p q : ℕ) → p < q → q < count → word order p ≡ word order q → ⊥
-  pub first : (p : ℕ) → p < count → ArgumentsBefore words args cs order (word order p) p
+  pub first : (p : ℕ) → p < count → (j : ℕ) → j < countOf words (word order p) → Met words order p (classOf cs (argumentOf words args (word order p) j))
   pub done : (k : ℕ) → k < nodeCount words → word marks k ≡ 2 → (p : ℕ) × (p < count) × (word order p ≡ k)
   pub room : count ≤ countBelow (nodeCount words) (isDone marks)
 
--- What a visit of node h asks: every open node leads to it.
+-- What a visit of node h asks: it has arguments, and every open node leads to it.
 pub record Visiting (words args cs marks order : List ℕ) (count h : ℕ) : Type 0 where
   pub sections : Sections words args
   pub partition : Partition (nodeCount words) cs
   pub ordering : Ordering words args cs marks order count
   pub node : h < nodeCount words
+  pub compound : 0 < countOf words h
   pub leads : (k : ℕ) → k < nodeCount words → word marks k ≡ 1 → Leads words args cs k h
-
--- Some node leads to itself.
-abbrev pub Looped : List ℕ → List ℕ → List ℕ → Type 0
-Looped words args cs = (h : ℕ) × (h < nodeCount words) × Leads words args cs h h
 
 -- The marks of nodes that were not new stay, and no node is open that was not.
 pub record Later (n : ℕ) (marks later : List ℕ) : Type 0 where
@@ -55,22 +53,20 @@ pub record Passed (words args cs marks : List ℕ) (h : ℕ) (after order : List
   pub passed : word after h ≡ 2
   pub later : Later (nodeCount words) marks after
 
--- Before argument j of node h is visited, where h is open among these marks: the heads of the arguments before it are done.
+-- Node g is done, if it has arguments.
+abbrev pub Settled : List ℕ → List ℕ → ℕ → Type 0
+Settled words marks g = 0 < countOf words g → word marks g ≡ 2
+
+-- Before argument j of node h is visited, where h is open among these marks: the heads of the arguments before it are done, if they have arguments.
 pub record Turn (words args cs marks : List ℕ) (h : ℕ) (after order : List ℕ) (count j : ℕ) : Type 0 where
   pub ordering : Ordering words args cs after order count
   pub later : Later (nodeCount words) marks after
-  pub arguments : (i : ℕ) → i < j → word after (classOf cs (argumentOf words args h i)) ≡ 2
+  pub arguments : (i : ℕ) → i < j → Settled words after (classOf cs (argumentOf words args h i))
 
 -- What a visit of node h answers and leaves.
 pub record Visited (words args cs marks : List ℕ) (h : ℕ) (r : Placed) (after order : List ℕ) : Type 0 where
   pub cycle : r ≡ Cycle → Looped words args cs
   pub counted : (c : ℕ) → r ≡ Count c → Passed words args cs marks h after order c
-
--- What the search asks of the heads before and of those now.
-pub record Changing (words args before cs : List ℕ) : Type 0 where
-  pub sections : Sections words args
-  pub before-size : length before ≡ nodeCount words
-  pub partition : Partition (nodeCount words) cs
 
 -- What the search starts with: every one of n nodes is new.
 pub record Starting (n : ℕ) (marks order : List ℕ) : Type 0 where
@@ -78,33 +74,8 @@ pub record Starting (n : ℕ) (marks order : List ℕ) : Type 0 where
   pub order-size : length order ≡ n
   pub new : (k : ℕ) → k < n → word marks k ≡ 0
 
--- The heads of the first i nodes that have changed are done.
-abbrev pub ChangedDone : List ℕ → List ℕ → List ℕ → ℕ → Type 0
-ChangedDone before cs marks i = (k : ℕ) → k < i → (classOf before k ≡ classOf cs k → ⊥) → word marks (classOf cs k) ≡ 2
-
--- Before node i is looked at: the heads of the nodes before it are done where they have changed, and no node is open.
-pub record Sweep (words args before cs marks order : List ℕ) (count i : ℕ) : Type 0 where
+-- Before node i is looked at: the heads of the nodes before it are done, if they have arguments, and no node is open.
+pub record Sweep (words args cs marks order : List ℕ) (count i : ℕ) : Type 0 where
   pub ordering : Ordering words args cs marks order count
   pub none-open : (k : ℕ) → k < nodeCount words → word marks k ≡ 1 → ⊥
-  pub changed : ChangedDone before cs marks i
-
--- What the search answers and leaves when the nodes before node i are looked at.
-pub record Swept (words args before cs : List ℕ) (i : ℕ) (r : Placed) (marks order : List ℕ) : Type 0 where
-  pub cycle : r ≡ Cycle → Looped words args cs
-  pub counted : (c : ℕ) → r ≡ Count c → Sweep words args before cs marks order c i
-
--- What mending an order asks: it is one of the heads before.
-pub record Mending (words args before earlier cs : List ℕ) : Type 0 where
-  pub changing : Changing words args before cs
-  pub ordered : Ordered words args before earlier
-
--- Before place p of the earlier order is looked at: every changed head is done, and so is each node before place p that is a head still.
-pub record Keeping (words args before earlier cs marks order : List ℕ) (count p : ℕ) : Type 0 where
-  pub ordering : Ordering words args cs marks order count
-  pub changed : ChangedDone before cs marks (nodeCount words)
-  pub heads : (q : ℕ) → q < p → classOf cs (word earlier q) ≡ word earlier q → word marks (word earlier q) ≡ 2
-
--- What the search answers: a class that leads to itself, or an order in the first places.
-pub record FoundOrder (words args cs : List ℕ) (r : Placed) (order : List ℕ) : Type 0 where
-  pub cycle : r ≡ Cycle → Looped words args cs
-  pub ordered : (c : ℕ) → r ≡ Count c → (c ≤ nodeCount words) × Ordered words args cs (take c order)
+  pub heads : (k : ℕ) → k < i → Settled words marks (classOf cs k)

@@ -19,8 +19,8 @@ section-requires-3 c κs = readable _ (c .before .before .before .pre) 2 (omega 
 section-requires-4 : tie.Need-section-requires-4
 section-requires-4 c κs = readable _ (c .before .before .before .before .pre) 4 (omega arith)
 
-begin-requires : tie.Need-begin-requires
-begin-requires c κs =
+variables-requires : tie.Need-variables-requires
+variables-requires c κs =
     rw (c .before .before .before .section .ensures, c .before .before .section2 .ensures) (sections-of _ (c .before .before .before .before .before .pre))
 
 add-result : tie.Need-add-result
@@ -31,7 +31,7 @@ add-result-2 c = search needs
 
 returns : tie.Need-returns
 returns c =
-    entry-counted _ _ _ _ _ _ (c .before .before .before .before .before .before .section .ensures) (c .before .before .before .before .before .section2 .ensures) (c .before .before .before .before .section3 .ensures) (c .before .before .before .section4 .ensures) (c .before .before .begin .ensures .lists)
+    entry-counted _ _ _ _ _ _ (c .before .before .before .before .before .section .ensures) (c .before .before .before .before .section2 .ensures) (c .before .before .before .section3 .ensures) (c .before .before .section4 .ensures) (c .before .variables .ensures)
 
 pub accepted-words-spec : {M : Type 1} → statement M
 accepted-words-spec =
@@ -41,7 +41,7 @@ accepted-words-spec =
     section-requires-2
     section-requires-3
     section-requires-4
-    begin-requires
+    variables-requires
     add-result
     add-result-2
     returns)

@@ -1,22 +1,29 @@
--- `unify::beginning::share` meets its contract: the three steps, one after the other. Assumes nothing.
+-- `unify::beginning::share` meets its contract: the classes of no pair are named, and those of one name are together. Assumes nothing.
+use mathlib.Core.Path.{_∙_, sym}
+use Rattle.unify.proofs.StartLaws.{start-partition, start-nameable, start-whole}
+use Rattle.unify.proofs.SharedLaws.{named-inside, shared-together}
 use borrow.Author.Needs.{needs}
-use Rattle.unify.proofs.BindingLaws.{heads-named}
-use Rattle.unify.proofs.SharedLaws.{shared-by}
 use Rattle.unify.proofs.beginning.share.Statement.{statement}
 use Rattle.unify.proofs.beginning.share.Tie as tie
 
-name-values-requires : tie.Need-name-values-requires
-name-values-requires c κs = search needs
+start-requires : tie.Need-start-requires
+start-requires c κs = search needs
 
-note-nodes-requires : tie.Need-note-nodes-requires
-note-nodes-requires c κs =
-    let s = c .before .before .before .before .before .before .before .before .before .before .before .before .before .before in
-    (heads-named _ _ _ _ (c .before .before .before .before .name-values .ensures) (s .pre .0) (s .pre .1 .0) (search needs), search needs)
+name-values-requires : tie.Need-name-values-requires
+name-values-requires c κs =
+    let s = c .before .before .before .before .before .before .before .before .before .before .before .before .before .before .before .before .before in
+    let t = c .before .before .before .before .before .before .before .start in
+    let l = t .kept .1 .1 .1 .0 ∙ s .pre .1 .1 .0 .0 in
+    let d = t .kept .1 .1 .1 .1 .0 ∙ s .pre .1 .1 .0 .1 in
+    (s .pre .0, (start-partition _ _ (s .pre .0) _ _ l (t .ensures), (start-nameable _ _ (s .pre .0) _ _ l (t .ensures) d, (s .pre .1 .1 .1 .0, start-whole _ _ (s .pre .0) _ _ l (t .ensures) d _))))
 
 share-heads-requires : tie.Need-share-heads-requires
 share-heads-requires c κs =
-    let s = c .before .before .before .before .before .before .before .before .before .before .before .before .before .before .before .before .before .before .before .before .before in
-    (heads-named _ _ _ _ (c .before .before .before .before .before .before .before .before .before .before .before .name-values .ensures) (s .pre .0) (s .pre .1 .0) (search needs), (search needs, search needs, search needs))
+    let s = c .before .before .before .before .before .before .before .before .before .before .before .before .before .before .before .before .before .before .before .before .before .before .before in
+    let t = c .before .before .before .before .before .before .before .before .before .before .before .before .before .start in
+    let l = t .kept .1 .1 .1 .0 ∙ s .pre .1 .1 .0 .0 in
+    let n = c .before .before .before .before .before .name-values in
+    (l ∙ sym (s .pre .1 .1 .1 .1), named-inside _ _ _ (start-partition _ _ (s .pre .0) _ _ l (t .ensures)) (n .kept .1 .1 .1 .1 .0 ∙ s .pre .1 .1 .1 .0))
 
 same-length : tie.Need-same-length
 same-length c = search needs
@@ -33,14 +40,17 @@ same-length-4 c = search needs
 returns : tie.Need-returns
 returns c =
     let s = c .before .before .before .before .before .before .before .before .before .before .before .before .before .before .before .before .before .before .before .before .before .before .before .before .before .before in
-    shared-by _ _ _ _ _ _ _ _ (heads-named _ _ _ _ (c .before .before .before .before .before .before .before .before .before .before .before .before .before .before .before .before .name-values .ensures) (s .pre .0) (s .pre .1 .0) (search needs)) (c .before .before .before .before .before .before .before .before .before .before .before .note-nodes .ensures) (c .before .before .before .before .share-heads .ensures)
+    let t = c .before .before .before .before .before .before .before .before .before .before .before .before .before .before .before .before .start in
+    let l = t .kept .1 .1 .1 .0 ∙ s .pre .1 .1 .0 .0 in
+    let d = t .kept .1 .1 .1 .1 .0 ∙ s .pre .1 .1 .0 .1 in
+    shared-together _ _ _ _ _ _ (s .pre .0) l d (t .ensures) (c .before .before .before .before .before .before .before .before .name-values .ensures) (c .before .before .share-heads .ensures)
 
 pub share-spec : {M : Type 1} → statement M
 share-spec =
     tie.close
     (tie.spec
+    start-requires
     name-values-requires
-    note-nodes-requires
     share-heads-requires
     same-length
     same-length-2

@@ -1,58 +1,40 @@
--- `unify::beginning::share_heads` meets its contract: the nodes before i have their heads. Assumes nothing.
-use Prim.Native.Nat.{ℕ, _-_, _≤_, _<_}
-use mathlib.Core.Path.{_≡_, ap, _∙_}
+-- `unify::beginning::share_heads` meets its contract: the nodes before i have the names of their heads. Assumes nothing.
+use Prim.Native.Nat.{ℕ, _<_, _≤_, _-_}
+use mathlib.Core.Path.{_≡_}
 use native.Mathlib.Omega.{arith}
 use borrow.Author.Needs.{needs}
-use Rattle.table.specs.Limits.{maxNodes}
-use Rattle.table.specs.Layout.{word, nodeCount}
-use Rattle.unify.specs.Code.Stands.{Sharing}
-use Rattle.unify.proofs.NamedLaws.{name-inside}
-use Rattle.unify.proofs.NotingLaws.{name-node}
-use Rattle.unify.proofs.SharedLaws.{sharing-none, sharing-next}
+use lib.ListN.{length, length-set}
+use Rattle.table.specs.Layout.{word}
+use Rattle.unify.specs.Code.Start.{HeadsNamed}
+use Rattle.unify.proofs.SharedLaws.{shared-next, shared-all}
 use Rattle.unify.proofs.beginning.share_heads.Statement.{statement}
 use Rattle.unify.proofs.beginning.share_heads.Tie as tie
 
 abbrev Inv-loop : tie.InvT-loop
-Inv-loop nodes arguments of names by heads₀ order₀ n count₀ i₀ heads order count i = (n ≡ nodeCount nodes) × (n ≤ maxNodes) × (i ≤ n) × Sharing nodes of names by heads order count i
+Inv-loop of names heads₀ i₀ heads i =
+    (length of ≡ length heads) × (length heads ≡ length heads₀) × (i ≤ length of) × HeadsNamed of names × ((k : ℕ) → k < i → word heads k ≡ word names (word of k))
 
 abbrev μ-loop : tie.MeasureT-loop
-μ-loop nodes arguments of names by heads₀ order₀ n count₀ i₀ heads order count i = n - i
-
-node-count-requires : tie.Need-node-count-requires Inv-loop μ-loop
-node-count-requires c κs = search needs
+μ-loop of names heads₀ i₀ heads i = length of - i
 
 loop-holds : tie.Need-loop-holds Inv-loop μ-loop
-loop-holds c = let s = c .before .before .before .before .before .before .before .before in (search needs, search needs, search needs, sharing-none _ _ _ _ _ _ (s .pre .1 .1) (s .pre .1 .2))
+loop-holds c = (c .pre .0, search needs, search needs, c .pre .1, λ k h. absurd (omega arith))
 
-cast-t14 : tie.Need-cast-t14 Inv-loop μ-loop
-cast-t14 c = search needs
+shared-slice-read-head : tie.Need-shared-slice-read-head Inv-loop μ-loop
+shared-slice-read-head c = search needs
 
-value-name-requires : tie.Need-value-name-requires Inv-loop μ-loop
-value-name-requires c κs =
-    let l = c .before .loop in
-    let s = c .before .before .before .before .before .before .before .before .before .before in
-    let b : l .i < nodeCount (s .args .nodes .now) = omega (arith, l .inv .0, c .loop-test .taken) in
-    name-inside _ _ _ _ (s .pre .0 .readable) (l .i) b
+cast-head : tie.Need-cast-head Inv-loop μ-loop
+cast-head c =
+    let l = c .before .before .loop in
+    omega (arith, c .shared-slice-known .given (l .i))
 
-cast-node-in : tie.Need-cast-node-in Inv-loop μ-loop
-cast-node-in c = search needs
-
-node-in-requires : tie.Need-node-in-requires Inv-loop μ-loop
-node-in-requires c κs =
+shared-slice-read-heads : tie.Need-shared-slice-read-heads Inv-loop μ-loop
+shared-slice-read-heads c =
     let l = c .before .before .before .loop in
-    let s = c .before .before .before .before .before .before .before .before .before .before .before .before in
-    let i : l .i < nodeCount (s .args .nodes .now) = omega (arith, l .inv .0, c .before .before .loop-test .taken) in
-    let b = name-node _ _ _ _ (s .pre .0) (l .i) _ i (c .before .value-name .ensures .0) in
-    omega (arith, b, s .pre .1 .0)
-
-cast-heads : tie.Need-cast-heads Inv-loop μ-loop
-cast-heads c = search needs
+    l .inv .3 .inside (l .i) (c .before .before .loop-test .taken)
 
 slice-write-heads : tie.Need-slice-write-heads Inv-loop μ-loop
 slice-write-heads c = search needs
-
-list-head-requires : tie.Need-list-head-requires Inv-loop μ-loop
-list-head-requires c κs = search needs
 
 add-i : tie.Need-add-i Inv-loop μ-loop
 add-i c = search needs
@@ -62,23 +44,16 @@ loop-less c = search needs
 
 loop-again : tie.Need-loop-again Inv-loop μ-loop
 loop-again c =
-    let l = c .before .before .before .before .before .before .before .before .before .loop in
-    let s = c .before .before .before .before .before .before .before .before .before .before .before .before .before .before .before .before .before .before in
-    let b : l .i < nodeCount (s .args .nodes .now) = omega (arith, l .inv .0, c .before .before .before .before .before .before .before .before .loop-test .taken) in
-    let e = c .before .before .before .before .before .node-in .ensures .0 ∙ ap (λ (k : ℕ). word (s .args .by .now) k) (c .before .before .before .before .before .before .before .value-name .ensures .0) in
-    (search needs, search needs, search needs, sharing-next _ _ _ _ _ _ _ _ _ b e (l .inv .3) _ _ (c .before .before .list-head .ensures))
+    let l = c .before .before .before .loop in
+    (simp length-set (l .inv .0), simp length-set (l .inv .1), search needs, l .inv .3, shared-next (c .before .before .before .before .args .of .now) (c .before .before .before .before .args .names .now) (l .heads) (l .i) (search needs) (l .inv .4))
 
 same-length : tie.Need-same-length Inv-loop μ-loop
 same-length c = search needs
 
-same-length-2 : tie.Need-same-length-2 Inv-loop μ-loop
-same-length-2 c = search needs
-
 returns : tie.Need-returns Inv-loop μ-loop
 returns c =
     let l = c .before .loop in
-    let e : l .i ≡ nodeCount (c .before .before .before .before .before .before .before .before .before .before .args .nodes .now) = omega arith in
-    rw e at (l .inv .3)
+    shared-all (c .before .before .args .of .now) (c .before .before .args .names .now) (l .heads) (l .i) (l .inv .0) (c .loop-test .left) (l .inv .4)
 
 pub share-heads-spec : {M : Type 1} → statement M
 share-heads-spec =
@@ -86,18 +61,13 @@ share-heads-spec =
     (tie.spec
     Inv-loop
     μ-loop
-    node-count-requires
     loop-holds
-    cast-t14
-    value-name-requires
-    cast-node-in
-    node-in-requires
-    cast-heads
+    shared-slice-read-head
+    cast-head
+    shared-slice-read-heads
     slice-write-heads
-    list-head-requires
     add-i
     loop-less
     loop-again
     same-length
-    same-length-2
     returns)

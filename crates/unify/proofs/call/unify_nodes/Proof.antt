@@ -1,34 +1,11 @@
--- `unify::call::unify_nodes` meets its contract: each answer is given where it should be. Assumes nothing.
-use Prim.Native.Nat.{ℕ, _<_}
-use mathlib.Core.Path.{_≡_, refl, sym, ap, _∙_}
-use mathlib.Core.List.{List, [], _∷_}
+-- `unify::call::unify_nodes` meets its contract: a number that is no node is refused, and two nodes are unified. Assumes nothing.
+use mathlib.Core.Path.{_∙_}
+use native.Mathlib.Omega.{arith}
+use Rattle.unification.proofs.ListLaws.{first-long}
+use Rattle.unify.proofs.CallingLaws.{answers-node, nodes-given}
 use borrow.Author.Needs.{needs}
-use Rattle.table.specs.Layout.{nodeCount}
-use Rattle.unification.specs.declared.Unification.{Unification}
-use Rattle.unification.specs.Outcome.{Outcome}
-use Rattle.unification.specs.Computed.Unifying.{outcome, wordsOf}
-use Rattle.unification.specs.Answer.{told, ended, wordsAfter}
-use Rattle.unification.specs.Code.Sections.{nodesFrom}
-use Rattle.unify.specs.Code.Stands.{extended}
-use Rattle.unify.specs.Code.Calling.{Answers}
-use Rattle.unify.proofs.CallingLaws.{unified-left, answers-node, nodes-given, answers-few, answers-ended}
 use Rattle.unify.proofs.call.unify_nodes.Statement.{statement}
 use Rattle.unify.proofs.call.unify_nodes.Tie as tie
-
--- the two numbers are nodes
-given : (c : tie.Else2) → let s = c .before .before .before .before .before .before .before .before .before .before .before .before in (s .args .a .0 < nodeCount (s .args .nodes .now)) × (s .args .b .0 < nodeCount (s .args .nodes .now))
-given c =
-    let s = c .before .before .before .before .before .before .before .before .before .before .before .before in
-    nodes-given (s .args .nodes .now) (s .args .arguments .now) _ _ _ (c .before .before .before .before .before .before .before .before .node-count .ensures) (s .args .out .now) (c .before .before .before .before .before .if1 .left)
-
--- an answer after both tests
-answered : (c : tie.Else2) → let s = c .before .before .before .before .before .before .before .before .before .before .before .before in (r : Unification) (o : Outcome) (lent : List ℕ) → told r ≡ ended o → o ≡ outcome (nodesFrom (s .args .nodes .now) (s .args .arguments .now)) ((s .args .a .0, s .args .b .0) ∷ []) → lent ≡ wordsAfter (ended o) (wordsOf (nodesFrom (s .args .nodes .now) (s .args .arguments .now)) ((s .args .a .0, s .args .b .0) ∷ [])) (s .args .out .now) → Answers (nodesFrom (s .args .nodes .now) (s .args .arguments .now)) (s .args .a .0) (s .args .b .0) (s .args .out .now) r lent
-answered c =
-    answers-ended _ _ _ _ _ (c .before .before .before .before .before .before .before .before .node-count .ensures) _ (c .before .before .before .before .before .if1 .left) _ (c .before .before .before .before .begin .ensures .lists) (c .if2 .left)
-
--- what unifying the two nodes comes to
-comes : (c : tie.After-extend) → let s = c .before .before .before .before .before .before .before .before .before .before .before .before .before in extended (c .extend .result .answer) ≡ outcome (nodesFrom (s .args .nodes .now) (s .args .arguments .now)) ((s .args .a .0, s .args .b .0) ∷ [])
-comes c = c .extend .ensures .answers [] (c .before .before .before .before .before .begin .ensures .stands)
 
 node-count-requires : tie.Need-node-count-requires
 node-count-requires c κs = search needs
@@ -36,49 +13,31 @@ node-count-requires c κs = search needs
 returns : tie.Need-returns
 returns c = answers-node _ _ _ _ _ (c .before .before .before .node-count .ensures) _ (c .if1 .taken)
 
-begin-requires : tie.Need-begin-requires
-begin-requires c κs = search needs
+index-requires : tie.Need-index-requires
+index-requires c κs = search needs
 
-returns-2 : tie.Need-returns-2
-returns-2 c =
-    answers-few _ _ _ _ _ (c .before .before .before .before .before .before .before .before .node-count .ensures) _ (c .before .before .before .before .before .if1 .left) _ (c .before .before .before .before .begin .ensures .lists) (c .if2 .taken)
+sub-unify-with-room : tie.Need-sub-unify-with-room
+sub-unify-with-room c = search needs
 
-extend-requires : tie.Need-extend-requires
-extend-requires c κs =
-    (c .before .before .before .before .before .before .before .before .before .before .before .before .pre, (c .before .before .before .before .begin .ensures .formed, given c))
+part-of-start : tie.Need-part-of-start
+part-of-start c = search needs
 
-enum-told : tie.Need-enum-told
-enum-told c = search needs
+part-of-end : tie.Need-part-of-end
+part-of-end c = search needs
 
-enum-told-2 : tie.Need-enum-told-2
-enum-told-2 c = search needs
-
-enum-told-3 : tie.Need-enum-told-3
-enum-told-3 c = search needs
-
-bind-requires : tie.Need-bind-requires
-bind-requires c κs =
-    let t = c .before .before .before .before .before in
-    (c .before .before .before .before .before .before .before .before .before .before .before .before .before .before .before .before .before .pre, (c .before .before .before .before .extend .ensures .formed (c .before .enum-told3 .given .1), (c .before .before .before .before .before .before .before .before .before .begin .ensures .lists, t .if2 .left)))
-
-returns-3 : tie.Need-returns-3
-unfolding wordsAfter
-returns-3 c =
-    answered (c .before .before .before .before) _ _ _ refl (sym (ap extended (c .enum-told .given .1)) ∙ comes (c .before .before .before)) refl
-
-returns-4 : tie.Need-returns-4
-unfolding wordsAfter
-returns-4 c =
-    answered (c .before .before .before .before) _ _ _ refl (sym (ap extended (c .enum-told2 .given .1)) ∙ comes (c .before .before .before)) refl
+unify-with-room-requires : tie.Need-unify-with-room-requires
+unify-with-room-requires c κs =
+    let s = c .before .before .before .before .before .before .before .before .before .before in
+    let n = c .before .before .before .before .before .before .node-count in
+    let i = c .before .before .index in
+    let l = s .pre .limit in
+    (s .pre, (nodes-given (s .args .nodes .now) (s .args .arguments .now) _ _ _ (n .ensures) (c .before .before .before .if1 .left), first-long (i .result) (omega (arith, l, i .ensures .0, n .ensures)) ∙ i .ensures .0 ∙ n .ensures))
 
 same-length : tie.Need-same-length
 same-length c = search needs
 
-returns-5 : tie.Need-returns-5
-returns-5 c =
-    let t = c .before .before .before .before .before .before .before in
-    let e = c .before .before .before .before .enum-told3 .given .1 in
-    answered (c .before .before .before .before .before .before .before .before) _ _ _ refl (sym (ap extended e) ∙ comes t) (unified-left _ _ _ _ _ _ (t .extend .ensures .stands e [] (c .before .before .before .before .before .before .before .before .before .before .before .before .begin .ensures .stands)) (c .before .before .bind .ensures))
+returns-2 : tie.Need-returns-2
+returns-2 c = search needs
 
 pub unify-nodes-spec : {M : Type 1} → statement M
 unify-nodes-spec =
@@ -86,14 +45,10 @@ unify-nodes-spec =
     (tie.spec
     node-count-requires
     returns
-    begin-requires
-    returns-2
-    extend-requires
-    enum-told
-    enum-told-2
-    enum-told-3
-    bind-requires
-    returns-3
-    returns-4
+    index-requires
+    sub-unify-with-room
+    part-of-start
+    part-of-end
+    unify-with-room-requires
     same-length
-    returns-5)
+    returns-2)

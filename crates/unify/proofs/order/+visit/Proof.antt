@@ -1,21 +1,23 @@
 -- The proof of the cycle of calls {visit}. The measure is the number of new nodes: a visit opens one before it visits others.
--- Assumes nothing.
+-- A head that is not due is done already or has no arguments. Assumes nothing.
 use Prim.Native.Nat.{ℕ, _≤_, _<_, _-_}
+use mathlib.Core.Logic.{⊎-elim}
 use mathlib.Core.Path.{sym, _∙_}
 use native.Mathlib.Omega.{arith}
 use borrow.Author.Needs.{needs}
 use borrow.Fn.Kinds.{In}
 use borrow.Fn.PlainCycle.{Measures, is, falls, and}
 use lib.ListN.{length-set}
-use Rattle.table.specs.Layout.{nodeCount}
+use Rattle.table.specs.Layout.{countOf, nodeCount}
 use Rattle.unification.specs.Code.Heads.{countBelow}
 use Rattle.unify.specs.Code.Ordering.{isNew, Turn}
-use Rattle.unify.proofs.OrderLaws.{visited-cycle, visited-count, met-done, met-open, met-new, opened, fewer, visit-next, turned, place-left, finished}
+use Rattle.unify.proofs.OrderLaws.{visited-cycle, visited-count, met-done, met-open, met-new, due, not-due, opened, fewer, visit-next, turned, turned-over, place-left, finished}
 use Rattle.unify.proofs.order.visit.Reads as visit
 use Rattle.unify.proofs.order.visit.Kinds as visit-kinds
 use Rattle.unify.proofs.order.+visit.Lts-visit as visit-lts
 use Rattle.unify.proofs.nodes.arity.Reads as arity-reads
 use Rattle.unify.proofs.order.argument_head.Reads as argument-head-reads
+use Rattle.unify.proofs.order.is_due.Reads as is-due-reads
 use Rattle.unify.proofs.order.+visit.{statement}
 use Rattle.unify.proofs.order.+visit.Tie.{close}
 
@@ -32,7 +34,7 @@ visit-below t = and 5 visit-kinds.ps (falls 5 visit-kinds.ps _<_ μ-visit t) vis
 -- what is known of the functions that `visit` calls
 abbrev claims : ℕ → visit-lts.Claims
 claims t =
-    (arity-reads.Asked, arity-reads.Learnt, argument-head-reads.Asked, argument-head-reads.Learnt, visit-below t, visit.Post)
+    (arity-reads.Asked, arity-reads.Learnt, argument-head-reads.Asked, argument-head-reads.Learnt, is-due-reads.Asked, is-due-reads.Learnt, visit-below t, visit.Post)
 
 abbrev visit-Inv-loop : visit-lts.InvT-loop
 visit-Inv-loop nodes arguments of marks₀ order₀ placed h i mark n count₀ j₀ marks order count j = (j ≤ n) × Turn nodes arguments of marks₀ (h .0) marks order count j
@@ -74,17 +76,23 @@ visit-argument-head-requires t c κs =
     let e = c .before .before .arity .ensures .0 in
     (v .sections, (v .partition, (v .node, omega (arith, e, c .loop-test .taken))))
 
+visit-is-due-requires : (t : ℕ) → visit-lts.Need-is-due-requires (claims t) (visit-at t) visit.Post visit-Inv-loop visit-μ-loop
+visit-is-due-requires t c κs =
+    let v = c .before .before .before .before .before .before .before .before .before .before .before .before .before .before .pre .1 in
+    (v .sections, (c .before .argument-head .ensures .1, c .before .before .before .loop .inv .1 .ordering .marks-size))
+
 visit-visit-requires : (t : ℕ) → visit-lts.Need-visit-requires (claims t) (visit-at t) visit.Post visit-Inv-loop visit-μ-loop
 visit-visit-requires t c κs =
-    let s = c .before .before .before .before .before .before .before .before .before .before .before .before .before .before .before in
+    let s = c .before .before .before .before .before .before .before .before .before .before .before .before .before .before .before .before .before .before in
     let v = s .pre .1 in
-    let new = met-new v (c .before .before .before .before .before .before .before .if1 .left) (c .before .before .before .before .before .before .if2 .left) in
-    let t = c .before .before .before .before .loop .inv .1 in
-    let g = c .before .before .argument-head in
-    let e = c .before .before .before .before .before .arity .ensures .0 in
+    let new = met-new v (c .before .before .before .before .before .before .before .before .before .before .if1 .left) (c .before .before .before .before .before .before .before .before .before .if2 .left) in
+    let l = c .before .before .before .before .before .before .before .loop in
+    let g = c .before .before .before .before .before .argument-head in
+    let e = c .before .before .before .before .before .before .before .before .arity .ensures .0 in
     let m = s .pre .0 in
-    let f = fewer v new t in
-    (omega (arith, m, f), visit-next v new t (g .result .0) (omega (arith, e, c .before .before .before .loop-test .taken)) (g .ensures .0) (g .ensures .1))
+    let f = fewer v new (l .inv .1) in
+    let a = due (s .args .nodes .now) (l .marks) (g .result .0) _ (c .before .before .before .is-due .ensures) (c .before .before .if3 .taken) in
+    (omega (arith, m, f), visit-next v new (l .inv .1) (g .result .0) (omega (arith, e, c .before .before .before .before .before .before .loop-test .taken)) (g .ensures .0) (g .ensures .1) a)
 
 visit-enum-known-c : (t : ℕ) → visit-lts.Need-enum-known-c (claims t) (visit-at t) visit.Post visit-Inv-loop visit-μ-loop
 visit-enum-known-c t c = search needs
@@ -94,16 +102,16 @@ visit-enum-told t c = search needs
 
 visit-same-length : (t : ℕ) → visit-lts.Need-same-length (claims t) (visit-at t) visit.Post visit-Inv-loop visit-μ-loop
 visit-same-length t c =
-    let v = c .before .before .before .before .before .before .before .before .before .before .before .before .before .before .before .before .before .before .before .before .before .before .pre .1 in
+    let v = c .before .before .before .before .before .before .before .before .before .before .before .before .before .before .before .before .before .before .before .before .before .before .before .before .before .pre .1 in
     let k = c .before .before .before .before .before .before .visit .kept .1 .1 .1 .0 in
-    let o = c .before .before .before .before .before .before .before .before .before .before .before .loop .inv .1 .ordering in
+    let o = c .before .before .before .before .before .before .before .before .before .before .before .before .before .before .loop .inv .1 .ordering in
     k ∙ o .marks-size ∙ sym (v .ordering .marks-size)
 
 visit-same-length-2 : (t : ℕ) → visit-lts.Need-same-length-2 (claims t) (visit-at t) visit.Post visit-Inv-loop visit-μ-loop
 visit-same-length-2 t c =
-    let v = c .before .before .before .before .before .before .before .before .before .before .before .before .before .before .before .before .before .before .before .before .before .before .pre .1 in
+    let v = c .before .before .before .before .before .before .before .before .before .before .before .before .before .before .before .before .before .before .before .before .before .before .before .before .before .pre .1 in
     let k = c .before .before .before .before .before .before .visit .kept .1 .1 .1 .1 .0 in
-    let o = c .before .before .before .before .before .before .before .before .before .before .before .loop .inv .1 .ordering in
+    let o = c .before .before .before .before .before .before .before .before .before .before .before .before .before .before .loop .inv .1 .ordering in
     k ∙ o .order-size ∙ sym (v .ordering .order-size)
 
 visit-returns-3 : (t : ℕ) → visit-lts.Need-returns-3 (claims t) (visit-at t) visit.Post visit-Inv-loop visit-μ-loop
@@ -119,13 +127,19 @@ visit-loop-less t c = search needs
 
 visit-loop-again : (t : ℕ) → visit-lts.Need-loop-again (claims t) (visit-at t) visit.Post visit-Inv-loop visit-μ-loop
 visit-loop-again t c =
-    let v = c .before .before .before .before .before .before .before .before .before .before .before .before .before .before .before .before .before .before .before .before .before .before .before .pre .1 in
-    let new = met-new v (c .before .before .before .before .before .before .before .before .before .before .before .before .before .before .before .if1 .left) (c .before .before .before .before .before .before .before .before .before .before .before .before .before .before .if2 .left) in
-    let t = c .before .before .before .before .before .before .before .before .before .before .before .before .loop .inv .1 in
-    let g = c .before .before .before .before .before .before .before .before .before .before .argument-head in
-    let e = c .before .before .before .before .before .before .before .before .before .before .before .before .before .arity .ensures .0 in
-    let r = c .before .before .before .before .before .before .before .visit .ensures in
-    (search needs, turned v new t (g .result .0) (omega (arith, e, c .before .before .before .before .before .before .before .before .before .before .before .loop-test .taken)) (g .ensures .0) _ _ _ (r .counted _ (c .before .c .given .1)))
+    let s = c .before .before .before .before .before .before .before .before .before .before .before .before .before .before .before .before in
+    let v = s .pre .1 in
+    let new = met-new v (c .before .before .before .before .before .before .before .before .if1 .left) (c .before .before .before .before .before .before .before .if2 .left) in
+    let l = c .before .before .before .before .before .loop in
+    let g = c .before .before .before .argument-head in
+    let e = c .before .before .before .before .before .before .arity .ensures .0 in
+    let b : l .j < countOf (s .args .nodes .now) (s .args .h .0) = omega (arith, e, c .before .before .before .before .loop-test .taken) in (
+      search needs,
+      ⊎-elim
+          (λ w. turned v new (l .inv .1) (g .result .0) b (g .ensures .0) _ _ _ (w .3 .ensures .counted _ (w .9 .given .1)) (w .11) (w .12) (w .13))
+          (λ w. turned-over v new (l .inv .1) (g .result .0) b (g .ensures .0) (not-due (s .args .nodes .now) (l .marks) (g .result .0) _ (c .before .is-due .ensures) (w .0 .left)) (w .1) (w .2) (w .3))
+          (c .if3 .came),
+    )
 
 visit-cast-order : (t : ℕ) → visit-lts.Need-cast-order (claims t) (visit-at t) visit.Post visit-Inv-loop visit-μ-loop
 visit-cast-order t c = search needs
@@ -142,8 +156,8 @@ visit-slice-write-order t c =
 visit-slice-write-marks-2 : (t : ℕ) → visit-lts.Need-slice-write-marks-2 (claims t) (visit-at t) visit.Post visit-Inv-loop visit-μ-loop
 visit-slice-write-marks-2 t c = search needs
 
-visit-add-t27 : (t : ℕ) → visit-lts.Need-add-t27 (claims t) (visit-at t) visit.Post visit-Inv-loop visit-μ-loop
-visit-add-t27 t c =
+visit-add-t30 : (t : ℕ) → visit-lts.Need-add-t30 (claims t) (visit-at t) visit.Post visit-Inv-loop visit-μ-loop
+visit-add-t30 t c =
     let v = c .before .before .before .before .before .before .before .before .before .before .before .before .before .pre .1 in
     let new = met-new v (c .before .before .before .before .before .if1 .left) (c .before .before .before .before .if2 .left) in
     let t = c .before .before .loop .inv .1 in
@@ -186,6 +200,7 @@ pub +visit-spec : {M : Type 1} → statement M
     (visit-arity-requires t)
     (visit-loop-holds t)
     (visit-argument-head-requires t)
+    (visit-is-due-requires t)
     (visit-visit-requires t)
     (visit-enum-known-c t)
     (visit-enum-told t)
@@ -198,7 +213,7 @@ pub +visit-spec : {M : Type 1} → statement M
     (visit-cast-order t)
     (visit-slice-write-order t)
     (visit-slice-write-marks-2 t)
-    (visit-add-t27 t)
+    (visit-add-t30 t)
     (visit-same-length-3 t)
     (visit-same-length-4 t)
     (visit-returns-4 t)

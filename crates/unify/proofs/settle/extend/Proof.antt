@@ -1,61 +1,50 @@
--- `unify::settle::extend` meets its contract: two heads decide, or a copy of the classes is extended. Assumes nothing.
-use mathlib.Core.Path.{sym, _∙_}
+-- `unify::settle::extend` meets its contract: a clash, a cycle, or classes of the longer list that can be put in order.
+-- Assumes nothing.
 use borrow.Author.Needs.{needs}
-use Rattle.unify.proofs.AtOnceLaws.{extends-together, head-inside, extends-differ}
+use borrow.Author.Tests.{not-true, not-false}
+use Rattle.unify.proofs.ExtensionLaws.{extends-clash, extends-occurs, extends-unified}
 use Rattle.unify.proofs.settle.extend.Statement.{statement}
 use Rattle.unify.proofs.settle.extend.Tie as tie
 
-cast-i : tie.Need-cast-i
-cast-i c = search needs
+join-requires : tie.Need-join-requires
+join-requires c κs = search needs
 
-cast-j : tie.Need-cast-j
-cast-j c = search needs
-
-element-copy-out-node : tie.Need-element-copy-out-node
-element-copy-out-node c = search needs
-
-node-requires : tie.Need-node-requires
-node-requires c κs = search needs
-
-element-copy-out-node-2 : tie.Need-element-copy-out-node-2
-element-copy-out-node-2 c = search needs
-
-node-requires-2 : tie.Need-node-requires-2
-node-requires-2 c κs = search needs
+same-length : tie.Need-same-length
+same-length c = search needs
 
 returns : tie.Need-returns
 returns c =
-    let s = c .before .before .before .before .before .before .before .before .before .before .before in
-    extends-together _ _ (s .pre .0) _ (s .pre .1 .0) _ _ (s .pre .1 .1 .0) (s .pre .1 .1 .1) (sym (c .before .before .before .before .before .node .ensures .0) ∙ c .if1 .taken ∙ c .before .before .before .node2 .ensures .0)
+    let s = c .before .before .before .before .before .before .before .before in
+    extends-clash _ _ (s .pre .0) _ (s .pre .1 .0) (s .args .a .0) (s .args .b .0) (s .pre .1 .1 .0) (s .pre .1 .1 .1) _ _ (c .before .before .before .join .ensures) (not-true _ (c .if1 .taken))
 
-differ-requires : tie.Need-differ-requires
-differ-requires c κs =
-    let s = c .before .before .before .before .before .before .before .before .before .before .before in
-    (head-inside _ _ (s .pre .0) _ (s .pre .1 .0) _ _ (s .pre .1 .1 .0) (s .pre .1 .1 .1) _ _ (s .pre .1 .1 .0) (c .before .before .before .before .before .node .ensures .0), head-inside _ _ (s .pre .0) _ (s .pre .1 .0) _ _ (s .pre .1 .1 .0) (s .pre .1 .1 .1) _ _ (s .pre .1 .1 .1) (c .before .before .before .node2 .ensures .0))
+leads-back-requires : tie.Need-leads-back-requires
+leads-back-requires c κs = search needs
+
+same-length-2 : tie.Need-same-length-2
+same-length-2 c = search needs
 
 returns-2 : tie.Need-returns-2
 returns-2 c =
-    let s = c .before .before .before .before .before .before .before .before .before .before .before .before .before in
-    extends-differ _ _ (s .pre .0) _ (s .pre .1 .0) _ _ (s .pre .1 .1 .0) (s .pre .1 .1 .1) _ _ (c .before .before .before .before .before .before .before .node .ensures .0) (c .before .before .before .before .before .node2 .ensures .0) (sym (c .before .differ .ensures) ∙ c .if2 .taken)
+    let s = c .before .before .before .before .before .before .before .before .before .before .before in
+    extends-occurs _ _ (s .pre .0) _ (s .pre .1 .0) (s .args .a .0) (s .args .b .0) (s .pre .1 .1 .0) (s .pre .1 .1 .1) _ _ (c .before .before .before .before .before .before .join .ensures) (not-false _ (c .before .before .before .if1 .left)) _ (c .before .leads-back .ensures) (c .if2 .taken)
 
-extend-copy-requires : tie.Need-extend-copy-requires
-extend-copy-requires c κs = search needs
+same-length-3 : tie.Need-same-length-3
+same-length-3 c = search needs
 
 returns-3 : tie.Need-returns-3
-returns-3 c = search needs
+returns-3 c =
+    let s = c .before .before .before .before .before .before .before .before .before .before .before in
+    extends-unified _ _ (s .pre .0) _ (s .pre .1 .0) (s .args .a .0) (s .args .b .0) (s .pre .1 .1 .0) (s .pre .1 .1 .1) _ _ (c .before .before .before .before .before .before .join .ensures) (not-false _ (c .before .before .before .if1 .left)) _ (c .before .leads-back .ensures) (c .if2 .left)
 
 pub extend-spec : {M : Type 1} → statement M
 extend-spec =
     tie.close
     (tie.spec
-    cast-i
-    cast-j
-    element-copy-out-node
-    node-requires
-    element-copy-out-node-2
-    node-requires-2
+    join-requires
+    same-length
     returns
-    differ-requires
+    leads-back-requires
+    same-length-2
     returns-2
-    extend-copy-requires
+    same-length-3
     returns-3)

@@ -1,100 +1,93 @@
--- `unify::words::bind` meets its contract: where no variable is present there are no words, and otherwise `write_bindings` writes
--- them for the heads of the classes. Assumes nothing.
-use Prim.Native.Nat.{ℕ, _-_}
-use mathlib.Core.Path.{_≡_, ap}
+-- `unify::words::bind` meets its contract: where no variable is present there are no words, and otherwise the heads that have arguments
+-- are put in order, and the words are found by names. Assumes nothing.
+use Prim.Native.Nat.{_-_}
+use mathlib.Core.Path.{_≡_, _∙_}
 use native.Mathlib.Omega.{arith}
-use native.Mathlib.Nat.{sub-zero}
 use borrow.Author.Needs.{needs}
-use lib.ListN.{length, take}
+use lib.ListN.{length, drop, replicate, length-append}
 use Rattle.table.specs.Limits.{maxNodes}
-use Rattle.table.specs.Layout.{nodeCount}
-use Rattle.unification.proofs.ListLaws.{part-long}
-use Rattle.unify.specs.Code.Present.{variableNames}
-use Rattle.unify.proofs.BindingLaws.{leaves, leaves-nothing}
+use Rattle.unification.proofs.ListLaws.{first-long}
+use Rattle.unify.proofs.BindingLaws.{nothing-placed, ordered-part, leaves-nothing}
 use Rattle.unify.proofs.words.bind.Statement.{statement}
 use Rattle.unify.proofs.words.bind.Tie as tie
 
--- the lists lent are as long as there can be nodes and variables
-of-long : (c : tie.Start) → length (c .args .classes .of) ≡ maxNodes
-of-long c = search needs
-
-order-long : (c : tie.Start) → length (c .args .classes .order) ≡ maxNodes
-order-long c = search needs
-
-list-long : (c : tie.Start) → length (c .args .variables .nodes) ≡ variableNames
-list-long c = search needs
-
--- where the nodes are counted, what the function was called with
-abbrev entry : tie.After-node-count → tie.Start
-entry c = c .before .before .before .before .before .before
-
--- as many heads are lent as there are nodes
-all : (c : tie.After-node-count) → c .node-count .result - 0 ≡ nodeCount (entry c .args .nodes .now)
-all c = omega (arith, c .node-count .ensures .0)
-
 returns : tie.Need-returns
-returns c =
-    let s = c .before .before .before .before .before in
-    leaves-nothing _ _ (s .args .variables) _ _ (s .pre .1 .1 .0) (c .if1 .taken)
+returns c = leaves-nothing _ _ _ _ _ (c .before .before .before .before .before .before .pre .1 .1 .0) (c .if1 .taken)
 
 node-count-requires : tie.Need-node-count-requires
 node-count-requires c κs = search needs
 
-sub-write-bindings : tie.Need-sub-write-bindings
-sub-write-bindings c = search needs
+sub-put-in-order : tie.Need-sub-put-in-order
+sub-put-in-order c = search needs
 
-part-write-bindings-start : tie.Need-part-write-bindings-start
-part-write-bindings-start c = search needs
+part-marks-start : tie.Need-part-marks-start
+part-marks-start c = search needs
 
-part-write-bindings-end : tie.Need-part-write-bindings-end
-part-write-bindings-end c =
-    let n = c .before .before .before .before in
-    let l = of-long (entry n) in
-    omega (arith, l, n .node-count .ensures .1)
+part-marks-end : tie.Need-part-marks-end
+part-marks-end c = search needs
 
-sub-write-bindings-2 : tie.Need-sub-write-bindings-2
-sub-write-bindings-2 c = search needs
+sub-put-in-order-2 : tie.Need-sub-put-in-order-2
+sub-put-in-order-2 c = search needs
 
-part-write-bindings-start-2 : tie.Need-part-write-bindings-start-2
-part-write-bindings-start-2 c = search needs
+part-order-start : tie.Need-part-order-start
+part-order-start c = search needs
 
-part-write-bindings-end-2 : tie.Need-part-write-bindings-end-2
-part-write-bindings-end-2 c =
-    let n = c .before .before .before .before .before .before in
-    let s = entry n in
-    let l = order-long s in
-    omega (arith, l, n .node-count .ensures .0, n .node-count .ensures .1, s .pre .1 .0 .counted)
+part-order-end : tie.Need-part-order-end
+part-order-end c = search needs
 
-sub-write-bindings-3 : tie.Need-sub-write-bindings-3
-sub-write-bindings-3 c = search needs
+put-in-order-requires : tie.Need-put-in-order-requires
+put-in-order-requires c κs =
+    let s = c .before .before .before .before .before .before .before .before .before in
+    let n = c .before .before .node-count in
+    (s .pre .0, (s .pre .1 .0, nothing-placed (n .result) _ (n .ensures .0) (n .ensures .1)))
 
-part-write-bindings-start-3 : tie.Need-part-write-bindings-start-3
-part-write-bindings-start-3 c = search needs
+sub-write-named : tie.Need-sub-write-named
+sub-write-named c = search needs
 
-part-write-bindings-end-3 : tie.Need-part-write-bindings-end-3
-part-write-bindings-end-3 c =
-    let s = entry (c .before .before .before .before .before .before .before .before) in
-    let l = list-long s in
-    omega (arith, l, s .pre .1 .1 .0 .within)
+part-write-named-start : tie.Need-part-write-named-start
+part-write-named-start c = search needs
 
-write-bindings-requires : tie.Need-write-bindings-requires
-write-bindings-requires c κs =
-    let n = c .before .before .before .before .before .before .before .before .before .before in
-    let s = entry n in
-    let z = all n in
-    let l = list-long s in
-    let v = s .pre .1 .1 .0 in
-    let p = part-long (s .args .variables .nodes) (s .args .variables .count) (omega (arith, l, v .within)) in
-    (s .pre .0, (rw z (s .pre .1 .0 .partition), (rw (z, sub-zero (s .args .classes .count)) (s .pre .1 .0 .ordered), (rw (sub-zero (s .args .variables .count)) (v .nodes), omega (arith, p)))))
+part-write-named-end : tie.Need-part-write-named-end
+part-write-named-end c =
+    let t = c .before .before .before .put-in-order in
+    let n = c .before .before .before .before .before .before .node-count in
+    let l : length (t .last .1 .1 .1 .1 .0) ≡ n .result = t .kept .1 .1 .1 .1 .0 ∙ first-long (n .result) (n .ensures .1) in
+    let k = length-append (t .last .1 .1 .1 .1 .0) (drop (n .result - 0) (replicate maxNodes 0)) in
+    omega (arith, l, k, t .ensures .0, n .ensures .0)
+
+sub-write-named-2 : tie.Need-sub-write-named-2
+sub-write-named-2 c = search needs
+
+part-names-start : tie.Need-part-names-start
+part-names-start c = search needs
+
+part-names-end : tie.Need-part-names-end
+part-names-end c = search needs
+
+sub-write-named-3 : tie.Need-sub-write-named-3
+sub-write-named-3 c = search needs
+
+part-by-start : tie.Need-part-by-start
+part-by-start c = search needs
+
+part-by-end : tie.Need-part-by-end
+part-by-end c = search needs
+
+write-named-requires : tie.Need-write-named-requires
+write-named-requires c κs =
+    let s = c .before .before .before .before .before .before .before .before .before .before .before .before .before .before .before .before .before in
+    let t = c .before .before .before .before .before .before .before .put-in-order in
+    let n = c .before .before .before .before .before .before .before .before .before .before .node-count in
+    let l = first-long (n .result) (n .ensures .1) ∙ n .ensures .0 in
+    let k : length (t .last .1 .1 .1 .1 .0) ≡ n .result = t .kept .1 .1 .1 .1 .0 ∙ first-long (n .result) (n .ensures .1) in
+    let o = ordered-part _ _ _ (t .last .1 .1 .1 .1 .0) (drop (n .result - 0) (replicate maxNodes 0)) (t .result) (omega (arith, k, t .ensures .0, n .ensures .0)) (t .ensures .1) in
+    (s .pre .0, (s .pre .1 .0 .partition, ((s .pre .1 .0 .constants, o), (s .pre .1 .1, (l, l)))))
 
 same-length : tie.Need-same-length
 same-length c = search needs
 
 returns-2 : tie.Need-returns-2
-returns-2 c =
-    let n = c .before .before .before .before .before .before .before .before .before .before .before .before .before in
-    let e = ap (λ (k : ℕ). take k (entry n .args .classes .of)) (all n) in
-    leaves _ _ _ _ _ _ e (c .before .before .write-bindings .ensures)
+returns-2 c = search needs
 
 pub bind-spec : {M : Type 1} → statement M
 bind-spec =
@@ -102,15 +95,22 @@ bind-spec =
     (tie.spec
     returns
     node-count-requires
-    sub-write-bindings
-    part-write-bindings-start
-    part-write-bindings-end
-    sub-write-bindings-2
-    part-write-bindings-start-2
-    part-write-bindings-end-2
-    sub-write-bindings-3
-    part-write-bindings-start-3
-    part-write-bindings-end-3
-    write-bindings-requires
+    sub-put-in-order
+    part-marks-start
+    part-marks-end
+    sub-put-in-order-2
+    part-order-start
+    part-order-end
+    put-in-order-requires
+    sub-write-named
+    part-write-named-start
+    part-write-named-end
+    sub-write-named-2
+    part-names-start
+    part-names-end
+    sub-write-named-3
+    part-by-start
+    part-by-end
+    write-named-requires
     same-length
     returns-2)

@@ -1,0 +1,51 @@
+-- `listing::partners::mark_pairs` meets its contract: the marks stay right with each row that is written. Assumes nothing.
+use Prim.Native.Nat.{_≤_, _-_}
+use mathlib.Core.Path.{_≡_}
+use borrow.Author.Needs.{needs}
+use lib.ListN.{length}
+use Rattle.listing.specs.Code.Partners.{MayPair}
+use Rattle.listing.proofs.partners.mark_pairs.Statement.{statement}
+use Rattle.listing.proofs.partners.mark_pairs.Tie as tie
+
+abbrev Inv-loop : tie.InvT-loop
+Inv-loop nodes arguments left right labels closed of may₀ i₀ may i = (i ≤ length left) × MayPair nodes arguments left right may × (length may ≡ length may₀)
+
+abbrev μ-loop : tie.MeasureT-loop
+μ-loop nodes arguments left right labels closed of may₀ i₀ may i = length left - i
+
+loop-holds : tie.Need-loop-holds Inv-loop μ-loop
+loop-holds c = search needs
+
+mark-row-requires : tie.Need-mark-row-requires Inv-loop μ-loop
+mark-row-requires c κs =
+    let p = c .before .before .before .before .before .before .before .before .before .before .pre in
+    (p .0, (p .1 .0, (c .before .before .loop .inv .1, c .before .loop-test .taken)))
+
+add-i : tie.Need-add-i Inv-loop μ-loop
+add-i c = search needs
+
+loop-less : tie.Need-loop-less Inv-loop μ-loop
+loop-less c = search needs
+
+loop-again : tie.Need-loop-again Inv-loop μ-loop
+loop-again c = search needs
+
+same-length : tie.Need-same-length Inv-loop μ-loop
+same-length c = search needs
+
+returns : tie.Need-returns Inv-loop μ-loop
+returns c = search needs
+
+pub mark-pairs-spec : {M : Type 1} → statement M
+mark-pairs-spec =
+    tie.close
+    (tie.spec
+    Inv-loop
+    μ-loop
+    loop-holds
+    mark-row-requires
+    add-i
+    loop-less
+    loop-again
+    same-length
+    returns)

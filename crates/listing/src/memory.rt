@@ -1,0 +1,79 @@
+// Binding words, kept for pairs that come again: where an entry with them lies in the lent words, by a key of the pairs.
+ghost use mathlib.Core.Path.{_≡_};
+ghost use Prim.Native.Nat.{_+_, _≤_, _<_, _^_};
+ghost use lib.ListN.{length};
+ghost use Rattle.table.specs.Limits.{maxTerms};
+ghost use Rattle.unification.specs.Code.Sections.{Sections, nodesFrom};
+ghost use Rattle.unify.specs.Code.Present.{leastNodes};
+ghost use Rattle.unify.specs.Code.Stands.{Formed};
+ghost use Rattle.listing.specs.Code.Branch.{Standing};
+ghost use Rattle.listing.specs.Code.Memory.{slots, slotOf, Keyed, Pairable, Remembers, Bound, Notes};
+use crate::writing;
+use unify::words::bind;
+
+// How many keys are kept.
+pub const SLOTS: usize = 64;
+
+// A prime: the slot of a key is its remainder.
+const SPREAD: usize = 61;
+
+// The slot of a key.
+fn slot(key: usize) -> usize
+    ensures { λ r. ⌜ (r ≡ slotOf key) × (r < slots) ⌝ }
+{
+    key % SPREAD
+}
+
+// Puts the binding words of the pairs of the first i left digits into an entry: those of an earlier entry with these pairs, or new ones.
+pub fn put_words(
+    nodes: &[u32],
+    arguments: &[u32],
+    left: &[u32],
+    right: &[u32],
+    list: &[u8],
+    of: &[u8],
+    key: usize,
+    i: usize,
+    entry: &mut [u32],
+    memory: &[usize],
+    out: &[u32],
+    at: usize,
+)
+    requires { ⌜ Sections (now nodes) (now arguments) × Formed (now nodes) (now arguments) (now of) ⌝ }
+    requires { ⌜ now list ≡ leastNodes (nodesFrom (now nodes) (now arguments)) ⌝ }
+    requires { ⌜ Standing (now nodes) (now arguments) (now left) (now right) (now of) (now entry) i ⌝ }
+    requires { ⌜ Pairable (now nodes) (now left) (now right) (now entry) i ⌝ }
+    requires { ⌜ Keyed (now left) (now right) (now entry) i key ⌝ }
+    requires { ⌜ Remembers (now nodes) (now arguments) (now left) (now right) (now memory) (now out) at ⌝ }
+    requires { ⌜ length (now entry) ≡ length (now left) + length (now right) + length (now list) ⌝ }
+    requires { ⌜ (length (now left) ≤ maxTerms) × (length (now right) ≤ maxTerms) ⌝ }
+    ensures { λ r. ⌜ Bound (now (nodes .entry)) (now (arguments .entry)) (now (left .entry)) (now (right .entry)) (now (entry .entry)) i (now (entry .exit)) ⌝ }
+{
+    let v = list.len();
+    if v == 0 {
+        return;
+    }
+    let words = left.len() + right.len();
+    let end = words + v;
+    let s = slot(key);
+    if memory[s] == key + 1 {
+        let from = memory[SLOTS + s] + words;
+        let to = from + v;
+        writing::copy(&out[from..to], entry, words);
+        return;
+    }
+    bind(nodes, arguments, list, of, &mut entry[words..end]);
+}
+
+// Notes where an entry lies that has the binding words of pairs with this key, if one was written from `at` on.
+pub fn note_place(memory: &mut [usize], key: usize, at: usize, used: usize)
+    requires { ⌜ (length (now memory) ≡ slots + slots) × (key + 1 < 2 ^ 64) ⌝ }
+    ensures { λ r. ⌜ Notes (now (memory .entry)) key at used (now (memory .exit)) ⌝ }
+{
+    if used <= at {
+        return;
+    }
+    let s = slot(key);
+    memory[s] = key + 1;
+    memory[SLOTS + s] = at;
+}
