@@ -35,6 +35,7 @@ use Rattle.multiset_unification.proofs.EntryLaws.{Choice, pairs-inside}
 use Rattle.listing.specs.Code.Writing.{marked}
 use Rattle.listing.specs.Code.Branch.{pairedBy}
 use Rattle.listing.specs.Code.Walk.{over, ifUnified, onDigit, below}
+use Rattle.listing.proofs.RightLaws.{marked-long}
 use Rattle.listing.proofs.HopelessLaws.{over-none}
 
 module _ {A B : Type 0} where
@@ -339,26 +340,6 @@ over-each P d (suc c) f h x m = go (over-each P (suc d) c f h x) (List·Memᴰ·
     go : (List·Memᴰ x (over (suc d) c f) → P x) → List·Memᴰ x (f d) ⊎ List·Memᴰ x (over (suc d) c f) → P x
     go r (inl n) = h d x n
     go r (inr n) = r n
-
--- the same of strings that branch
-branch-each : (P : List ℕ → Type 0) (d c : ℕ) (f : ℕ → List (List ℕ)) → ((e : ℕ) (x : List ℕ) → List·Memᴰ x (f e) → P (e ∷ x)) → (x : List ℕ) → List·Memᴰ x (branch d c f) → P x
-unfolding branch
-branch-each P d zero f h x m = absurd (List·Memᴰ·not-nil m)
-branch-each P d (suc c) f h x m = go (branch-each P (suc d) c f h x) (List·Memᴰ·append-cases (map (d ∷_) (f d)) m)
-  where
-    go : (List·Memᴰ x (branch (suc d) c f) → P x) → List·Memᴰ x (map (d ∷_) (f d)) ⊎ List·Memᴰ x (branch (suc d) c f) → P x
-    go r (inl n) = let s = Memᴰ·of-map (d ∷_) (f d) n in rw (← s .2) (h d (s .0) (s .1))
-    go r (inr n) = r n
-
--- there is a right digit for each mark
-marked-long : (k : ℕ) (marks es : List ℕ) → List·Memᴰ es (marked k marks) → length es ≡ length marks
-unfolding marked
-marked-long k [] es m = ap length (List·Memᴰ·eq-of-singleton m)
-marked-long k (z ∷ zs) es m = pick (eqb z 0) (λ e fs n. ap suc (marked-long k zs fs n)) m
-  where
-    pick : (b : Bool) → ((e : ℕ) (fs : List ℕ) → List·Memᴰ fs (marked k zs) → length (e ∷ fs) ≡ suc (length zs)) → List·Memᴰ es (cond b (branch 0 1 (λ d. marked k zs)) (branch 1 k (λ d. marked k zs))) → length es ≡ suc (length zs)
-    pick true h n = branch-each (λ fs. length fs ≡ suc (length zs)) 0 1 (λ d. marked k zs) h es n
-    pick false h n = branch-each (λ fs. length fs ≡ suc (length zs)) 1 k (λ d. marked k zs) h es n
 
 -- the same of what a digit has: it is what its pair or its label has, or nothing
 digit-each : (P : List ℕ → Type 0) (ns : List Node) (rs : List ℕ) (f : List ℕ → List (ℕ × ℕ) → List ℕ → List (List ℕ)) (ds : List ℕ) (ps : List (ℕ × ℕ)) (marks : List ℕ) (a d : ℕ) → ((x : List ℕ) → List·Memᴰ x (f (ds ++ d ∷ []) ((a, word rs (d - 1)) ∷ ps) (set marks (d - 1) 0)) → P x) → ((x : List ℕ) → List·Memᴰ x (f (ds ++ d ∷ []) ps marks) → P x) → (x : List ℕ) → List·Memᴰ x (onDigit ns rs f ds ps marks a d) → P x

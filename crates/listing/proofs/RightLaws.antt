@@ -224,7 +224,7 @@ branch-each P d (suc c) f h x m = go (branch-each P (suc d) c f h x) (List·Mem�
     go r (inr n) = r n
 
 -- there is a right digit for each mark
-marked-long : (k : ℕ) (marks es : List ℕ) → List·Memᴰ es (marked k marks) → length es ≡ length marks
+pub marked-long : (k : ℕ) (marks es : List ℕ) → List·Memᴰ es (marked k marks) → length es ≡ length marks
 unfolding marked
 marked-long k [] es m = ap length (List·Memᴰ·eq-of-singleton m)
 marked-long k (z ∷ zs) es m = pick (eqb z 0) (λ e fs n. ap suc (marked-long k zs fs n)) m

@@ -53,7 +53,7 @@ head-long at xs lent h =
     omega (arith, a, t)
 
 -- words put into lent words leave as many
-pub put-long : (at : ℕ) (xs lent : List ℕ) → at + length xs ≤ length lent → length (put at xs lent) ≡ length lent
+put-long : (at : ℕ) (xs lent : List ℕ) → at + length xs ≤ length lent → length (put at xs lent) ≡ length lent
 unfolding put
 put-long at xs lent h =
     let a = length-append (take at lent ++ xs) (drop (at + length xs) lent) in
@@ -69,7 +69,7 @@ put-none at lent =
     ap (λ (r : List ℕ). r ++ drop (at + 0) lent) (append-nil (take at lent)) ∙ ap (λ (n : ℕ). take at lent ++ drop n lent) z ∙ take-append-drop at lent
 
 -- words put behind words
-pub put-put : (at : ℕ) (xs ys lent : List ℕ) → at + length xs ≤ length lent → put (at + length xs) ys (put at xs lent) ≡ put at (xs ++ ys) lent
+put-put : (at : ℕ) (xs ys lent : List ℕ) → at + length xs ≤ length lent → put (at + length xs) ys (put at xs lent) ≡ put at (xs ++ ys) lent
 unfolding put
 put-put at xs ys lent h =
     let p = head-long at xs lent h in

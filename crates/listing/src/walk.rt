@@ -1,5 +1,8 @@
 // The walk over the choices: depth first over left digits, each pair on top of the pairs before it. A branch ends at its first pair that fails.
 // The branch stands in an entry: the digits of the left terms so far, and a mark for each right term, 0 where it is paired.
+// What goes along with it: the least nodes of the variables (`list`), the marks of the pairs of terms that may be (`may`), the heads of the
+// classes of its pairs (`of`), the key of these pairs and what the next digit counts in it (`key`, `weight`), how many right terms are not
+// paired, and what is remembered of binding words (`memory`).
 ghost use mathlib.Core.Path.{_≡_};
 ghost use mathlib.Core.Logic.{_⊎_};
 ghost use Prim.Native.Nat.{_+_, _<_, _≤_};

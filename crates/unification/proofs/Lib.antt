@@ -19,6 +19,7 @@ pub mod ReadingLaws
 pub mod WordLaws
 pub mod OutcomeLaws
 pub mod PairLaws
+pub mod TogetherLaws
 pub mod ValuedLaws
 pub mod AnswerLaws
 pub mod Calls

@@ -21,10 +21,10 @@ more-pairs ns ps qs h σ u a b m = u a b (h (a, b) m)
 pub more-none : (ns : List Node) (ps qs : List (ℕ × ℕ)) → Among ps qs → (Unifiable ns ps → ⊥) → Unifiable ns qs → ⊥
 more-none ns ps qs h n u = n (u .0, more-pairs ns ps qs h (u .0) (u .1))
 
-more-clash : (ns : List Node) (ps qs : List (ℕ × ℕ)) → Among ps qs → Clash ns ps → Clash ns qs
+pub more-clash : (ns : List Node) (ps qs : List (ℕ × ℕ)) → Among ps qs → Clash ns ps → Clash ns qs
 more-clash ns ps qs h (different q d e n) = different (more-joined qs h q) d e n
 
-more-reaches : {ns : List Node} {ps : List (ℕ × ℕ)} (qs : List (ℕ × ℕ)) → Among ps qs → {i j : ℕ} → Reaches ns ps i j → Reaches ns qs i j
+pub more-reaches : {ns : List Node} {ps : List (ℕ × ℕ)} (qs : List (ℕ × ℕ)) → Among ps qs → {i j : ℕ} → Reaches ns ps i j → Reaches ns qs i j
 more-reaches qs h (step p e m q) = step (more-joined qs h p) e m (more-joined qs h q)
 more-reaches qs h (steps p q) = steps (more-reaches qs h p) (more-reaches qs h q)
 

@@ -81,7 +81,7 @@ alike-was words args cs names news s t = alike-kept words args cs news names (λ
 -- The loop that makes a key.
 module _ (words args cs names : List ℕ) (h : ℕ) where
   -- the symbol
-  pub key-start : (name n : ℕ) → name ≡ nameOf words h → n ≡ countOf words h → ((name * 40503 % 65536 / 256 + n) % keys ≡ keyUpTo words args cs names h 0) × ((name * 40503 % 65536 / 256 + n) % keys < keys)
+  pub key-start : (name n : ℕ) → name ≡ nameOf words h → n ≡ countOf words h → ((name * 40503 % 65536 / 64 + n) % keys ≡ keyUpTo words args cs names h 0) × ((name * 40503 % 65536 / 64 + n) % keys < keys)
   unfolding keyUpTo
   key-start name n e d = (rw (e, d), mod-lt _ (omega arith))
 

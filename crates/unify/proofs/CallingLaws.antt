@@ -41,7 +41,7 @@ use Rattle.unify.specs.Code.Present.{leastNodes}
 use Rattle.unify.specs.Code.Stands.{Stands, extended, Extends, Lists, Leaves, BeginsShared}
 use Rattle.unify.specs.Code.Calling.{called, Answers}
 use Rattle.unify.proofs.LeastLaws.{least-long}
-use Rattle.unify.proofs.TogetherLaws.{outcome-together}
+use Rattle.unification.proofs.TogetherLaws.{outcome-together}
 
 module _ (t : List ℕ) (a b : ℕ) where
   -- a table that is refused gets its refusal

@@ -12,7 +12,6 @@ pub mod MendLaws
 pub mod ExtensionLaws
 pub mod AtOnceLaws
 pub mod AloneLaws
-pub mod TogetherLaws
 pub mod AlikeLaws
 pub mod ChainLaws
 pub mod FindLaws

@@ -15,9 +15,9 @@ use table::layout::index;
 use table::limits::MAX_NODES;
 
 // How many keys the table of applications has.
-const KEYS: usize = 256;
+const KEYS: usize = 1024;
 
-// 2^16 over the golden ratio: the upper half of a name's product with it, in 16 bits, spreads names that lie at equal distances.
+// 2^16 over the golden ratio: the upper ten of the 16 bits of a name's product with it spread names that lie at equal distances.
 const NAME_FACTOR: usize = 40503;
 
 // A factor by which the place of an argument counts in the key.
@@ -46,7 +46,7 @@ fn key(nodes: &[u32], arguments: &[u32], of: &[u8], names: &[u8], h: Node) -> us
     ensures { λ r. ⌜ (r ≡ keyOf (now (nodes .entry)) (now (arguments .entry)) (now (of .entry)) (now (names .entry)) (h .0)) × (r < keys) ⌝ }
 {
     let n = nodes::arity(nodes, arguments, h);
-    let mut x = (index(layout::name(nodes, h)) * NAME_FACTOR % 65536 / 256 + n) % KEYS;
+    let mut x = (index(layout::name(nodes, h)) * NAME_FACTOR % 65536 / 64 + n) % KEYS;
     let mut j: usize = 0;
     while j < n {
         let name = argument_name(nodes, arguments, of, names, h, j);

@@ -35,11 +35,11 @@ pub data Whole (words cs order names : List ℕ) : Type 0 where
 
 -- How many keys the table has.
 abbrev pub keys : ℕ
-keys = 256
+keys = 1024
 
 -- The key of node h, made of its symbol and the names of its first j arguments.
 unfoldable pub keyUpTo : List ℕ → List ℕ → List ℕ → List ℕ → ℕ → ℕ → ℕ
-keyUpTo words args cs names h zero = (nameOf words h * 40503 % 65536 / 256 + countOf words h) % keys
+keyUpTo words args cs names h zero = (nameOf words h * 40503 % 65536 / 64 + countOf words h) % keys
 keyUpTo words args cs names h (suc j) =
     (keyUpTo words args cs names h j * 31 + valueName cs names (argumentOf words args h j) + 1) % keys
 

@@ -11,16 +11,17 @@ use lib.ListN.{length}
 use Rattle.terms.specs.Term.{var, app}
 use Rattle.terms.specs.Substitution.{Substitution}
 use Rattle.terms.proofs.SubstitutionLaws.{sub-var}
 use Rattle.unification.specs.Node.{Node, variable, application, nodeAt, each, spell, termOf}
 use Rattle.unification.specs.Unifier.{Unifies}
 use Rattle.unification.specs.Closure.{OneSymbol, Joined, given, one-variable, arguments, same, back, on, Clash, different, Reaches, step, steps}
 use Rattle.unification.specs.Outcome.{Outcome, unified, clash, occurs}
 use Rattle.unification.specs.Computed.Unifying.{outcome}
 use Rattle.unification.specs.Code.Given.{WellFormed, Inside}
 use Rattle.unification.proofs.ListLaws.{zip-at, zip-left, zip-right, zip-through}
 use Rattle.unification.proofs.NodeLaws.{each-long, each-at, term-node}
-use Rattle.unification.proofs.JoinedLaws.{Rules, smallest, Among, more-joined, joined-inside}
+use Rattle.unification.proofs.JoinedLaws.{Rules, smallest, Among, joined-inside}
 use Rattle.unification.proofs.OutcomeLaws.{outcome-unified, outcome-clash, outcome-occurs}
+use Rattle.unification.proofs.PairLaws.{more-clash, more-reaches}
 
 -- Two nodes of one term.
 record OneTerm (ns : List Node) (i j : ℕ) : Type 0 where
@@ -199,15 +200,6 @@ module _ (ns : List Node) (w : WellFormed ns) where
             let m = meets (smallest (Chain ns ps) chain-rules q) f us d in
             n (different (m .joins) (m .applied) e (λ o. x (o .0, m .long ∙ o .1)))
 
--- with more pairs a class reaches more
-more-reached : {ns : List Node} {ps : List (ℕ × ℕ)} (qs : List (ℕ × ℕ)) → Among ps qs → {i j : ℕ} → Reaches ns ps i j → Reaches ns qs i j
-more-reached qs h (step p e m q) = step (more-joined qs h p) e m (more-joined qs h q)
-more-reached qs h (steps r s) = steps (more-reached qs h r) (more-reached qs h s)
-
--- and a clash stays one
-more-clash : {ns : List Node} {ps : List (ℕ × ℕ)} (qs : List (ℕ × ℕ)) → Among ps qs → Clash ns ps → Clash ns qs
-more-clash qs h (different q d e x) = different (more-joined qs h q) d e x
-
 -- pairs that every substitution unifies do not change what a pair comes to
 pub outcome-together : (ns : List Node) → WellFormed ns → (a b : ℕ) → a < length ns → b < length ns → (qs : List (ℕ × ℕ)) → Inside ns qs → ((σ : Substitution) → Unifies ns qs σ) → outcome ns ((a, b) ∷ qs) ≡ outcome ns ((a, b) ∷ [])
 outcome-together ns w a b p q qs h u = pick (outcome ns ((a, b) ∷ [])) refl
@@ -238,12 +230,12 @@ outcome-together ns w a b p q qs h u = pick (outcome ns ((a, b) ∷ [])) refl
         let s = outcome-unified ns w ((a, b) ∷ []) one-inside .0 e in
         outcome-unified ns w ((a, b) ∷ qs) all-inside .1 (s .0, all-unified (s .0) (s .1))
     pick clash e =
-        outcome-clash ns w ((a, b) ∷ qs) all-inside .1 (more-clash ((a, b) ∷ qs) among (outcome-clash ns w ((a, b) ∷ []) one-inside .0 e))
+        outcome-clash ns w ((a, b) ∷ qs) all-inside .1 (more-clash ns ((a, b) ∷ []) ((a, b) ∷ qs) among (outcome-clash ns w ((a, b) ∷ []) one-inside .0 e))
     pick occurs e =
         let o = outcome-occurs ns w ((a, b) ∷ []) one-inside .0 e in
         outcome-occurs ns w ((a, b) ∷ qs) all-inside .1
         (record {
           no-clash = none-together ns w ((a, b) ∷ []) one-inside (o .no-clash) ((a, b) ∷ qs) each-pair;
           class = o .class;
-          itself = more-reached ((a, b) ∷ qs) among (o .itself);
+          itself = more-reaches ((a, b) ∷ qs) among (o .itself);
         })
