@@ -1,17 +1,19 @@
 //! Times the listing of problem tables, beside another program where one is named.
 //!
 //!     bench [--baseline PROGRAM] [--rounds N] [--lent WORDS] FOLDER
+//!     bench --count WORDS CALLS <TABLE
 //!
-//! Every file of the folder whose name ends in `.tbl` is a table: words of 32 bits, lowest byte first. Each is listed
-//! again and again into as many lent words, in a warm loop; the time of a call is the least of several rounds.
+//! The second form lists a table so many times into so many lent words, in a warm loop, and prints the answer
+//! (`Entries(K)`, `Full(K)` or `Refused(N)`) and the nanoseconds of a call. The first times every file of the folder whose
+//! name ends in `.tbl` (words of 32 bits, lowest byte first) by calling itself so, in rounds, and the least round counts.
+//! Each round is a process of its own, since where stack and buffers happen to lie in memory makes a difference.
 //!
-//! The other program is called as `PROGRAM --count WORDS CALLS <TABLE`, and prints its answer (`Entries(K)`, `Full(K)` or
-//! `Refused(N)`) and the nanoseconds of a call. Its rounds and the library's take turns. On tables with `hopeless` in
-//! their names it is called as `PROGRAM --plain --count ..`: without looking ahead. An answer of its that is not the
-//! library's is an error.
+//! The other program is called in the same way, in turn. On tables with `hopeless` in their names it is called as
+//! `PROGRAM --plain --count ..`: without looking ahead. An answer of its that is not the library's is an error.
 
 use std::fs::{self, File};
 use std::hint::black_box;
+use std::io::Read;
 use std::path::{Path, PathBuf};
 use std::process::{exit, Command, Stdio};
 use std::time::Instant;
@@ -29,11 +31,12 @@ struct Options {
 }
 
 fn main() {
-    let options = options(std::env::args().skip(1)).unwrap_or_else(|why| {
-        eprintln!("{why}\nusage: bench [--baseline PROGRAM] [--rounds N] [--lent WORDS] FOLDER");
-        exit(2)
-    });
-    if let Err(why) = bench(&options) {
+    let words: Vec<String> = std::env::args().skip(1).collect();
+    let done = match words.first().map(String::as_str) {
+        Some("--count") => count(&words[1..]),
+        _ => options(words.into_iter()).and_then(|options| bench(&options)),
+    };
+    if let Err(why) = done {
         eprintln!("{why}");
         exit(1);
     }
@@ -51,7 +54,7 @@ fn options(mut words: impl Iterator<Item = String>) -> Result<Options, String> {
             _ => return Err(format!("{word} is not understood")),
         }
     }
-    let folder = folder.ok_or("no folder of tables is named")?;
+    let folder = folder.ok_or("usage: bench [--baseline PROGRAM] [--rounds N] [--lent WORDS] FOLDER")?;
     Ok(Options { baseline, rounds, lent, folder })
 }
 
@@ -59,24 +62,47 @@ fn number(word: &str) -> Result<usize, String> {
     word.parse().map_err(|_| format!("{word} is no number"))
 }
 
+/// Lists the table of the standard input again and again, and prints the answer and the nanoseconds of a call.
+fn count(words: &[String]) -> Result<(), String> {
+    let [lent, calls] = words else { return Err("usage: bench --count WORDS CALLS <TABLE".into()) };
+    let (mut lent, calls) = (vec![0; number(lent)?], number(calls)?.max(1));
+    let mut bytes = Vec::new();
+    std::io::stdin().read_to_end(&mut bytes).map_err(|why| format!("standard input: {why}"))?;
+    let table: Vec<u32> = bytes.chunks_exact(4).map(|w| u32::from_le_bytes([w[0], w[1], w[2], w[3]])).collect();
+    let mut answer = list(&table, &mut lent);
+    let start = Instant::now();
+    for _ in 0..calls {
+        answer = black_box(list(black_box(&table), black_box(&mut lent)));
+    }
+    let ns = start.elapsed().as_nanos() as f64 / calls as f64;
+    println!("{} {ns:.1} ns", spelt(answer));
+    Ok(())
+}
+
+fn spelt(answer: Listing) -> String {
+    match answer {
+        Listing::Finished(entries) => format!("Entries({entries})"),
+        Listing::Full(entries) => format!("Full({entries})"),
+        Listing::Refused(refusal) => format!("Refused({})", refusal.number()),
+    }
+}
+
 /// Times every table of the folder, and prints a line for each.
 fn bench(options: &Options) -> Result<(), String> {
+    let own = std::env::current_exe().map_err(|why| format!("this program: {why}"))?;
     let tables = tables(&options.folder)?;
     let width = tables.iter().map(|path| name(path).len()).max().unwrap_or(0).max(5);
-    print!("{:width$}  {:>12} {:>12} {:>10}", "table", "answer", "ns a call", "an entry");
+    print!("{:width$}  {:>14} {:>12} {:>10}", "table", "answer", "ns a call", "an entry");
     println!("{}", if options.baseline.is_some() { "     baseline  ratio" } else { "" });
     let mut logarithms = 0.0;
-    for path in &tables {
-        let table = words(path)?;
-        let mut lent = vec![0; options.lent];
-        let answer = list(&table, &mut lent);
-        let (own, other) = times(options, path, &table, &mut lent, answer)?;
-        print!("{:width$}  {:>12} {own:>12.1} {:>10}", name(path), spelt(answer), an_entry(own, answer));
+    for table in &tables {
+        let (answer, ns, other) = times(options, &own, table)?;
+        print!("{:width$}  {answer:>14} {ns:>12.1} {:>10}", name(table), an_entry(ns, &answer));
         match other {
-            Some(other) => println!(" {other:>12.1} {:>6.2}", own / other),
+            Some(other) => println!(" {other:>12.1} {:>6.2}", ns / other),
             None => println!(),
         }
-        logarithms += other.map_or(0.0, |other| (own / other).ln());
+        logarithms += other.map_or(0.0, |other| (ns / other).ln());
     }
     if options.baseline.is_some() {
         println!("geometric mean of the ratios: {:.2}", (logarithms / tables.len() as f64).exp());
@@ -84,54 +110,40 @@ fn bench(options: &Options) -> Result<(), String> {
     Ok(())
 }
 
-/// The nanoseconds of a call, the library's and the other program's: the least of rounds that take turns.
-fn times(
-    options: &Options,
-    path: &Path,
-    table: &[u32],
-    lent: &mut [u32],
-    answer: Listing,
-) -> Result<(f64, Option<f64>), String> {
+/// The answer, and the nanoseconds of a call, the library's and the other program's: the least of rounds that take turns.
+fn times(options: &Options, own: &Path, table: &Path) -> Result<(String, f64, Option<f64>), String> {
     let calls = |ns: f64| ((ROUND_NS / ns) as usize).clamp(3, 10_000_000);
-    let first = calls(round(table, lent, 3));
-    let mut least = (f64::INFINITY, None);
-    let mut theirs = 3;
+    let (answer, first) = round(own, false, table, options.lent, 3)?;
+    let (mut ns, mut other) = (first, None);
+    let (mut ours, mut theirs) = (calls(first), 3);
     for _ in 0..options.rounds {
-        least.0 = f64::min(least.0, round(table, lent, first));
-        if let Some(program) = &options.baseline {
-            let ns = other_round(program, path, options.lent, theirs, answer)?;
-            theirs = calls(ns);
-            least.1 = Some(least.1.map_or(ns, |before: f64| before.min(ns)));
+        let (_, time) = round(own, false, table, options.lent, ours)?;
+        ns = f64::min(ns, time);
+        ours = calls(ns);
+        let Some(program) = &options.baseline else { continue };
+        let (said, time) = round(program, name(table).contains("hopeless"), table, options.lent, theirs)?;
+        if said != answer {
+            return Err(format!("{}: the library answers {answer}, {} {said}", name(table), program.display()));
         }
+        other = Some(other.map_or(time, |before: f64| before.min(time)));
+        theirs = calls(time);
     }
-    Ok(least)
+    Ok((answer, ns, other))
 }
 
-/// The nanoseconds of a call of the library, over so many.
-fn round(table: &[u32], lent: &mut [u32], calls: usize) -> f64 {
-    let start = Instant::now();
-    for _ in 0..calls {
-        black_box(list(black_box(table), black_box(&mut *lent)));
-    }
-    start.elapsed().as_nanos() as f64 / calls as f64
-}
-
-/// The nanoseconds of a call of the other program, over so many, by its own account.
-fn other_round(program: &Path, table: &Path, lent: usize, calls: usize, answer: Listing) -> Result<f64, String> {
+/// What a program answers to a table, and its nanoseconds of a call over so many, by its own account.
+fn round(program: &Path, plain: bool, table: &Path, lent: usize, calls: usize) -> Result<(String, f64), String> {
     let file = File::open(table).map_err(|why| format!("{}: {why}", table.display()))?;
     let mut command = Command::new(program);
-    if name(table).contains("hopeless") {
-        command.arg("--plain");
-    }
+    command.args(plain.then_some("--plain"));
     command.args(["--count", &lent.to_string(), &calls.to_string()]).stdin(file).stderr(Stdio::inherit());
     let output = command.output().map_err(|why| format!("{}: {why}", program.display()))?;
     let line = String::from_utf8_lossy(&output.stdout);
-    let (said, time) = line.split_once(' ').ok_or(format!("{} prints {line:?}", program.display()))?;
-    if said != spelt(answer) {
-        return Err(format!("{}: the library answers {}, {} {said}", name(table), spelt(answer), program.display()));
-    }
-    let time = time.split_whitespace().next().and_then(|ns| ns.parse().ok());
-    time.ok_or(format!("{} prints {line:?}", program.display()))
+    let read = || -> Option<(String, f64)> {
+        let mut words = line.split_whitespace();
+        Some((words.next()?.into(), words.next()?.parse().ok()?))
+    };
+    read().ok_or_else(|| format!("{} prints {line:?}", program.display()))
 }
 
 /// The tables of a folder, by name.
@@ -146,27 +158,15 @@ fn tables(folder: &Path) -> Result<Vec<PathBuf>, String> {
     Ok(tables)
 }
 
-fn words(path: &Path) -> Result<Vec<u32>, String> {
-    let bytes = fs::read(path).map_err(|why| format!("{}: {why}", path.display()))?;
-    Ok(bytes.chunks_exact(4).map(|word| u32::from_le_bytes([word[0], word[1], word[2], word[3]])).collect())
-}
-
 fn name(path: &Path) -> String {
     path.file_stem().unwrap_or_default().to_string_lossy().into_owned()
 }
 
-fn spelt(answer: Listing) -> String {
-    match answer {
-        Listing::Finished(entries) => format!("Entries({entries})"),
-        Listing::Full(entries) => format!("Full({entries})"),
-        Listing::Refused(refusal) => format!("Refused({})", refusal.number()),
-    }
-}
-
 /// The nanoseconds of an entry, where there are any.
-fn an_entry(ns: f64, answer: Listing) -> String {
-    match answer.entries() {
-        0 => "-".into(),
-        entries => format!("{:.1}", ns / entries as f64),
+fn an_entry(ns: f64, answer: &str) -> String {
+    let entries = answer.split(['(', ')']).nth(1).and_then(|entries| entries.parse::<u64>().ok());
+    match entries {
+        Some(entries) if entries > 0 && !answer.starts_with("Refused") => format!("{:.1}", ns / entries as f64),
+        _ => "-".into(),
     }
 }
