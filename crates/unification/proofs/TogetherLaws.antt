@@ -13,7 +13,7 @@ use Rattle.terms.specs.Substitution.{Substitution}
 use Rattle.terms.proofs.SubstitutionLaws.{sub-var}
 use Rattle.unification.specs.Node.{Node, variable, application, nodeAt, each, spell, termOf}
 use Rattle.unification.specs.Unifier.{Unifies}
-use Rattle.unification.specs.Closure.{OneSymbol, Joined, given, one-variable, arguments, same, back, on, Clash, different, Reaches, step, steps}
+use Rattle.unification.specs.Closure.{OneSymbol, Joined, given, one-variable, arguments, same, back, on, Clash, different}
 use Rattle.unification.specs.Outcome.{Outcome, unified, clash, occurs}
 use Rattle.unification.specs.Computed.Unifying.{outcome}
 use Rattle.unification.specs.Code.Given.{WellFormed, Inside}

@@ -5,7 +5,7 @@ ghost use mathlib.Core.Bool.{false};
 ghost use lib.ListN.{length};
 ghost use Rattle.table.specs.Layout.{nodeCount};
 ghost use Rattle.unification.specs.Code.Sections.{Sections, nodesFrom};
-ghost use Rattle.unify.specs.Code.Stands.{Formed, StandsAlways, MarksClosed, BothClosed, Shared, Never, Extends};
+ghost use Rattle.unify.specs.Code.Stands.{Formed, StandsAlways, MarksClosed, BothClosed, Shared, Never};
 use crate::Extended;
 use crate::nodes;
 use crate::settle::extend_copy;

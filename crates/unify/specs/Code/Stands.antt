@@ -1,7 +1,7 @@
 -- Classes that stand for a list of pairs, and how they are extended by one pair more. The listing builds on these.
 use Prim.Native.Nat.{ℕ, _<_, _≤_}
-use mathlib.Core.Bool.{Bool, true, false}
-use mathlib.Core.List.{List, [], _∷_, _++_}
+use mathlib.Core.Bool.{Bool, true}
+use mathlib.Core.List.{List, _∷_, _++_}
 use mathlib.Core.Path.{_≡_}
 use lib.ListN.{length, take, drop}
 use Rattle.table.specs.Layout.{word, kindOf, nameOf, countOf, nodeCount}
