@@ -41,9 +41,9 @@ def numbered(pattern, count):
     return nest([pattern.replace("#", str(number)) for number in range(count)])
 
 
-def tuples(name, pattern, count):
-    """Applications of names of their own to eight terms each."""
-    return ", ".join(f"{name}{k % 4}({many(pattern, 8, 8 * k)})" for k in range(count))
+def tuples(name, pattern, count, names=4):
+    """Applications to eight terms each, of so many names in turn."""
+    return ", ".join(f"{name}{k % names}({many(pattern, 8, 8 * k)})" for k in range(count))
 
 
 PROBLEMS = {
@@ -87,7 +87,7 @@ def growth():
             many("f(g(c#),h(d#,g(e#)))", size) + " = " + ", ".join(f"f(g(c{k}),h(d{k},g(e{k})))" for k in range(size, 0, -1))
         )
     for count in (1, 2, 4, 8):
-        yield f"variables-{8 * count:02}", tuples("f", "x#", count) + " = " + tuples("f", "c#", count)
+        yield f"variables-{8 * count:02}", tuples("f", "x#", count, 8) + " = " + tuples("f", "c#", count, 8)
 
 
 def main(words):

@@ -6,7 +6,7 @@
 //! The second form lists a table so many times into so many lent words, in a warm loop, and prints the answer
 //! (`Entries(K)`, `Full(K)` or `Refused(N)`) and the nanoseconds of a call. The first times every file of the folder whose
 //! name ends in `.tbl` (words of 32 bits, lowest byte first) by calling itself so, in rounds, and the least round counts.
-//! Each round is a process of its own, since where stack and buffers happen to lie in memory makes a difference.
+//! Each round is a process of its own, so that the library and the other program are treated alike.
 //!
 //! The other program is called in the same way, in turn. On tables with `hopeless` in their names it is called as
 //! `PROGRAM --plain --count ..`: without looking ahead. An answer of its that is not the library's is an error.
