@@ -36,6 +36,11 @@ def nest(terms):
     return "f(" * (len(terms) - 1) + terms[0] + "".join(f",{term})" for term in terms[1:])
 
 
+def closed(size, number):
+    """A term without variables: a constant, or h(h(..(c,d1)..),d) for a size of 2 and more."""
+    return "h(" * (size - 1) + f"c{number}" + "".join(f",d{k})" for k in range(1, size))
+
+
 def numbered(pattern, count):
     """The pattern for each of so many numbers, nested."""
     return nest([pattern.replace("#", str(number)) for number in range(count)])
@@ -75,7 +80,7 @@ PROBLEMS = {
 
 
 def growth():
-    """Families that grow in the number of entries, of nodes and of variables."""
+    """Families that grow in the number of entries, of nodes, of terms and of variables."""
     for count in range(1, 9):
         yield f"entries-{4 ** count:05}", many("c#", count) + " = | M, N, P, Q"
     for depth in (7, 15, 31, 63, 126):
@@ -85,6 +90,24 @@ def growth():
     for size in (1, 2, 4, 8):
         yield f"nodes-ground-{8 * size:03}", (
             many("f(g(c#),h(d#,g(e#)))", size) + " = " + ", ".join(f"f(g(c{k}),h(d{k},g(e{k})))" for k in range(size, 0, -1))
+        )
+    for size in (1, 2, 4, 8, 15):
+        yield f"nodes-closed-{13 * size + 8:03}", "imp(x,y) | G, D = " + ", ".join(
+            f"imp({closed(size, 2 * k)},{closed(size, 2 * k + 1)})" for k in range(6)
+        )
+    for size in (1, 2, 4, 8, 15):
+        yield f"nodes-closed-twice-{4 * size + 5:02}", "imp(x,y), x | G = " + ", ".join(
+            [f"imp({closed(size, k)},{closed(size, k)})" for k in range(3)] + [closed(size, k) for k in range(3)]
+        )
+    for count in (4, 8, 16, 32, 63):
+        yield f"variables-chain-{count:02}", numbered("x#", count) + " = " + nest([f"x{k + 1}" for k in range(count)])
+    for count in range(2, 8):
+        yield f"terms-{count}", many("f(x#)", count) + " = " + many("f(c#)", count)
+    for count in range(2, 8):
+        yield f"terms-repeated-{count}", ", ".join(["a"] * count) + " = " + ", ".join(["a"] * count)
+    for count in range(2, 7):
+        yield f"terms-hopeless-{count}", (
+            many("x#", count) + ", f(" + many("x#", count) + ") = " + many("c#", count) + ", f(" + many("d", count) + ")"
         )
     for count in (1, 2, 4, 8):
         yield f"variables-{8 * count:02}", tuples("f", "x#", count, 8) + " = " + tuples("f", "c#", count, 8)

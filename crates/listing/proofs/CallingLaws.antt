@@ -29,7 +29,10 @@ use Rattle.unification.proofs.TableLaws.{sections-of, nodes-of-sections}
 use Rattle.unification.proofs.AnswerLaws.{words-counted}
 use Rattle.unify.specs.declared.Variables.{Variables}
 use Rattle.unify.specs.Code.Present.{leastNodes}
-use Rattle.unify.specs.Code.Stands.{Formed, StandsAlways, Shared, Lists, BeginsShared}
+use Rattle.unify.specs.Code.Open.{Counts}
+use Rattle.unify.specs.Code.Circle.{Circles}
+use Rattle.unify.specs.Code.Prepared.{Prepared}
+use Rattle.unify.specs.Code.Stands.{Formed, StandsAlways, Lists, BeginsShared}
 use Rattle.multiset_unification.specs.declared.Listing.{Listing}
 use Rattle.multiset_unification.specs.declared.Listing.the-variants.{Finished, Full, Refused}
 use Rattle.multiset_unification.specs.Answer.{told, fitting, listed, lentAfter}
@@ -41,12 +44,14 @@ use Rattle.multiset_unification.proofs.Page14.{page14-finished}
 use Rattle.listing.specs.declared.Labels.{Labels}
 use Rattle.listing.specs.declared.Written.{Written}
 use Rattle.listing.specs.Code.Writing.{put, Writes, marked}
-use Rattle.listing.specs.Code.Branch.{Listable, marksIn}
+use Rattle.listing.specs.Code.Branch.{Listable, marksIn, widthOf}
 use Rattle.listing.specs.Code.Memory.{keyOf}
-use Rattle.listing.specs.Code.Partners.{MayPair}
+use Rattle.listing.specs.Code.Partners.{Triable, MayPair}
+use Rattle.listing.specs.Code.Known.{knownBytes, mayIn, KnownOf, Completes}
 use Rattle.listing.specs.Code.Walk.{below, unpairedIn, Walking, Walked, allEntries}
 use Rattle.listing.specs.Code.Calling.{Answers}
 use Rattle.listing.proofs.MemoryLaws.{remembers-none}
+use Rattle.listing.proofs.KnownLaws.{variables-few, known-completed}
 use Rattle.listing.proofs.HopelessLaws.{unpaired-ones}
 use Rattle.listing.proofs.BelowLaws.{below-listing, below-long, flatten-long}
 use Rattle.listing.proofs.BranchLaws.{paired-none}
@@ -112,11 +117,11 @@ written-empty es lent e =
     rw e (record { answer = rw (f, n) refl; words = rw f refl })
 
 -- each entry of a table's sections has n + m + V words
-pub all-long : {words args : List ℕ} (left right : List ℕ) (labels : Labels) {v : Variables} → Lists words args v → (e : List ℕ) → List·Memᴰ e (allEntries words args left right labels) → length e ≡ length left + length right + v .count
-all-long {words} {args} left right labels s e m =
+pub all-long : (words args left right : List ℕ) (labels : Labels) (width : ℕ) → width ≡ widthOf words args left right → (e : List ℕ) → List·Memᴰ e (allEntries words args left right labels) → length e ≡ width
+all-long words args left right labels width w e m =
     let r = length-replicate {A = ℕ} (length right) 1 in
     let l = below-long (nodesFrom words args) right (labels .left) (labels .right) left [] [] (replicate (length right) 1) e m in
-    omega (arith, l, r, s .counted)
+    omega (arith, l, r, w)
 
 -- where that is none, there is one entry
 pub all-empty : {words args : List ℕ} (left right : List ℕ) (labels : Labels) {v : Variables} → Lists words args v → length left + length right + v .count ≡ 0 → allEntries words args left right labels ≡ [] ∷ []
@@ -136,12 +141,6 @@ variables-inside {words} {args} {v} s = go (decLt (length (v .nodes)) (v .count)
     go : Dec (length (v .nodes) < v .count) → v .count ≤ length (v .nodes)
     go (yes q) = let e = ap length (take-all (v .count) (v .nodes) (omega arith)) in omega (arith, e, long)
     go (no q) = omega arith
-
--- the classes that unifying begins with have a head for each node
-pub heads-begun : {words args left right : List ℕ} {labels : Labels} → Listable words args left right labels → (n : ℕ) → n ≡ nodeCount words → {long : ℕ} → long ≡ length {A = ℕ} (take (n - 0) (replicate maxNodes 0)) → long ≡ n - 0
-heads-begun g n e f =
-    let l = part-long (replicate maxNodes 0) n (omega (arith, e, g .sections .limit)) in
-    omega (arith, f, l)
 
 -- at first any two terms may be paired
 pub all-may : {words args left right : List ℕ} {labels : Labels} → Listable words args left right labels → MayPair words args left right (replicate (maxTerms * maxTerms) 1)
@@ -164,54 +163,91 @@ take-replicate (suc n) (suc m) x h = ap (x ∷_) (take-replicate n m x (omega ar
 drop-replicate : (n m x : ℕ) → drop n (replicate (n + m) x) ≡ replicate m x
 drop-replicate n m x = ap (drop n) (sym (replicate-append-replicate n m x)) ∙ drop-at (replicate n x) (replicate m x) n (length-replicate n x)
 
--- the branch without digits
+-- the classes that unifying begins with
 module _ {words args left right : List ℕ} {labels : Labels} (g : Listable words args left right labels) {v : Variables} {cs : List ℕ} (s : BeginsShared words args v cs) where
-  -- the classes that unifying begins with, where they stand in an array
-  pub first-classes : {cs′ : List ℕ} → cs′ ≡ cs → Formed words args cs′ × StandsAlways words args cs′ × Shared words args cs′
-  first-classes q = rw q (s .formed, record { pairs = s .pairs; stands = s .stands; same = s .same }, s .shared)
+  -- an entry has a word for each term and each variable
+  pub begun-width : length left + length right + v .count ≡ widthOf words args left right
+  begun-width = ap (λ (n : ℕ). length left + length right + n) (s .lists .counted)
 
-  -- The entry that it stands in.
-  abbrev first-entry : List ℕ
-  first-entry = take (length left + length right + v .count - 0) (replicate 80 1)
-
-  width-room : length left + length right + v .count ≤ 80
-  width-room = omega (arith, g .left-few, g .right-few, s .lists .within)
-
-  -- no right term is marked as paired
-  first-marks : marksIn left right first-entry ≡ replicate (length right) 1
-  first-marks =
-      let z : length left + length right + v .count - 0 ≡ length left + (length right + v .count) = omega arith in
-      let t : first-entry ≡ replicate (length left + (length right + v .count)) 1 = ap (λ (n : ℕ). take n (replicate 80 1)) z ∙ take-replicate (length left + (length right + v .count)) 80 1 (omega (arith, width-room)) in
-      ap (λ (e : List ℕ). take (length right) (drop (length left) e)) t
-      ∙ ap (take (length right)) (drop-replicate (length left) (length right + v .count) 1)
-      ∙ take-replicate (length right) (length right + v .count) 1 (omega arith)
-
-  -- what the walk needs to know of it
-  pub first-walking : {may cs′ : List ℕ} → MayPair words args left right may → cs′ ≡ cs → (lent : List ℕ) → Walking words args left right labels (take (v .count - 0) (v .nodes)) may cs′ 0 1 (length right) 0 first-entry (replicate 128 0) lent 0
-  unfolding keyOf
-  first-walking m q lent =
+  -- the least nodes of the variables, as they are lent
+  pub begun-list : (take (v .count - 0) (v .nodes) ≡ leastNodes (nodesFrom words args)) × (length (take (v .count - 0) (v .nodes)) ≤ 64)
+  begun-list =
       let z : v .count - 0 ≡ v .count = omega arith in
+      (ap (λ (n : ℕ). take n (v .nodes)) z ∙ s .lists .nodes, omega (arith, part-long (v .nodes) (v .count) (variables-inside (s .lists)), s .lists .within))
+
+  -- they stand for pairs that every substitution unifies
+  pub begun-always : StandsAlways words args cs
+  begun-always = record { pairs = s .pairs; stands = s .stands; same = s .same }
+
+  -- there are not too many
+  pub begun-few : length cs ≡ nodeCount words → length cs ≤ maxNodes
+  begun-few e = omega (arith, e, g .sections .limit)
+
+  -- a pair can be tried by itself
+  pub begun-triable : {counts next : List ℕ} → length cs ≡ nodeCount words → Counts words args counts (nodeCount words) → Circles (length cs) cs next → Triable words args counts cs next
+  begun-triable {counts} {next} e c o =
       record {
-        listable = g;
-        lists = ap (λ (n : ℕ). take n (v .nodes)) z ∙ s .lists .nodes;
-        partners = m;
-        formed = rw q (s .formed);
-        standing = record { pairs = s .pairs; stands = rw q (s .stands); unifiers = λ σ. rw (paired-none left right []) ((λ u a b n. absurd (List·Memᴰ·not-nil n)), (λ u. s .same σ)) };
-        branching = record {
-          size = part-long (replicate 80 1) (length left + length right + v .count) width-room ∙ ap (λ (n : ℕ). length left + length right + n) (s .lists .counted);
-          depth = omega arith;
-          positive = λ j h. absurd (omega arith);
-          counted = sym (unpaired-ones (length right)) ∙ ap unpairedIn (sym first-marks);
-          keyed = refl;
-          weighed = refl;
-        };
-        remembers = remembers-none words args left right lent;
-        room = omega arith;
+        sections = g .sections;
+        counts-right = c;
+        formed = s .formed counts c;
+        circles = rw e at o;
+        stands = begun-always;
       }
 
-  -- writes all entries
-  pub first-walked : {memory lent entry′ memory′ lent′ : List ℕ} {w : Written} → Walked words args left right labels 0 first-entry memory lent 0 entry′ memory′ lent′ w → Writes (allEntries words args left right labels) lent 0 lent′ w
-  first-walked r = rw (first-marks, paired-none left right []) at (r .writes)
+  -- what is known, and the classes, once the bytes are complete
+  pub begun-known : {known known′ next : List ℕ} → length cs ≡ nodeCount words → length known ≡ knownBytes → Counts words args known (nodeCount words) → Circles (length cs) cs next → Completes words args left right known known′ → (KnownOf words args known′ × MayPair words args left right (mayIn known′)) × (Formed words args known′ cs × StandsAlways words args cs × Circles (nodeCount words) cs next)
+  begun-known {known′ = known′} e l c o k =
+      let h = known-completed (g .sections) l c k in
+      ((h, k .partners), (s .formed known′ (h .counts), begun-always, rw e at o))
+
+-- the branch without digits
+module _ {words args left right : List ℕ} {labels : Labels} (g : Listable words args left right labels) (width : ℕ) (w : width ≡ widthOf words args left right) where
+  -- The entry that it stands in.
+  abbrev first-entry : List ℕ
+  first-entry = take (width - 0) (replicate 80 1)
+
+  -- there is room for it
+  pub width-room : {known : List ℕ} → KnownOf words args known → width ≤ 80
+  width-room k = omega (arith, g .left-few, g .right-few, variables-few k, w)
+
+  module _ (room : width ≤ 80) where
+    -- no right term is marked as paired
+    first-marks : marksIn left right first-entry ≡ replicate (length right) 1
+    first-marks =
+        let c = length (variablesOf (nodesFrom words args)) in
+        let z : width - 0 ≡ length left + (length right + c) = omega (arith, w) in
+        let t : first-entry ≡ replicate (length left + (length right + c)) 1 = ap (λ (n : ℕ). take n (replicate 80 1)) z ∙ take-replicate (length left + (length right + c)) 80 1 (omega (arith, room, w)) in
+        ap (λ (e : List ℕ). take (length right) (drop (length left) e)) t
+        ∙ ap (take (length right)) (drop-replicate (length left) (length right + c) 1)
+        ∙ take-replicate (length right) (length right + c) 1 (omega arith)
+
+    -- what the walk needs to know of it
+    pub first-walking : {known prepared cs next : List ℕ} → KnownOf words args known → MayPair words args left right (mayIn known) → Formed words args known cs → StandsAlways words args cs → Circles (nodeCount words) cs next → Prepared words args known cs prepared → (lent : List ℕ) → Walking words args left right labels known prepared cs next 0 1 (length right) 0 first-entry (replicate 128 0) lent 0
+    unfolding keyOf
+    first-walking k m f s o y lent =
+        record {
+          listable = g;
+          known-right = k;
+          partners = m;
+          formed = f;
+          circles = o;
+          ready = y;
+          standing = record { pairs = s .pairs; stands = s .stands; unifiers = λ σ. rw (paired-none left right []) ((λ u a b n. absurd (List·Memᴰ·not-nil n)), (λ u. s .same σ)) };
+          branching = record {
+            size = part-long (replicate 80 1) width room ∙ w;
+            depth = omega arith;
+            positive = λ j h. absurd (omega arith);
+            counted = sym (unpaired-ones (length right)) ∙ ap unpairedIn (sym first-marks);
+            keyed = refl;
+            weighed = refl;
+          };
+          remembers = remembers-none words args left right lent;
+          room = omega arith;
+        }
+
+    -- writes all entries
+    pub first-walked : {memory lent entry′ memory′ lent′ : List ℕ} {r : Written} → Walked words args left right labels 0 first-entry memory lent 0 entry′ memory′ lent′ r → Writes (allEntries words args left right labels) lent 0 lent′ r
+    first-walked r = rw (first-marks, paired-none left right []) at (r .writes)
 
 -- an accepted table can be listed by its sections
 pub listable : (t : List ℕ) → Accepted t → {labels : Labels} → labels .left ≡ length (leftLabelsOf t) → labels .right ≡ length (rightLabelsOf t) → Listable (nodesOf t) (argumentsOf t) (leftTermsOf t) (rightTermsOf t) labels

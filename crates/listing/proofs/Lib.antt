@@ -7,6 +7,7 @@ pub mod HopelessLaws
 pub mod BelowLaws
 pub mod PartnerLaws
 pub mod MemoryLaws
+pub mod KnownLaws
 pub mod BranchLaws
 pub mod StringLaws
 pub mod WalkLaws

@@ -11,21 +11,20 @@ use native.Mathlib.Omega.{arith}
 use borrow.Author.Tests.{le-leb, lt-leb, leb-true}
 use borrow.Rule.Slice.PartMut.{midOf, putMid, post-is, mid-len}
 use lib.Dec.{leb}
-use lib.ListN.{length, take, drop, set, replicate, length-append, length-take, length-drop, length-set, length-map, length-replicate, getD-replicate, take-append-drop, drop-of-length-le, List·getD-append}
+use lib.ListN.{length, take, drop, set, replicate, length-append, length-take, length-drop, length-set, length-replicate, getD-replicate, take-append-drop, drop-of-length-le, List·getD-append}
 use lib.Seq.{length-take-le, take-all, take-append-le, drop-append-le, drop-at, drop-drop, getD-append-add, getD-set-same, getD-set-other, getD-take}
-use Rattle.table.specs.Layout.{word}
+use Rattle.table.specs.Layout.{word, nodeCount}
 use Rattle.unification.specs.Node.{Node}
 use Rattle.unification.specs.Code.Given.{Inside}
 use Rattle.unification.specs.Code.Sections.{Sections, nodesFrom}
 use Rattle.unification.specs.Computed.Unifying.{wordsOf}
 use Rattle.unification.specs.Computed.Variables.{variablesOf}
-use Rattle.unification.specs.Computed.Solution.{nodeOf}
 use Rattle.unification.proofs.AnswerLaws.{words-counted}
 use Rattle.unification.proofs.ListLaws.{length-none}
 use Rattle.unification.proofs.OutcomeLaws.{outcome-unified}
 use Rattle.unification.proofs.PairLaws.{same-unifiers}
 use Rattle.unification.proofs.SectionLaws.{is-node, sections-well-formed}
-use Rattle.unify.specs.Code.Present.{leastNodes}
+use Rattle.unify.specs.Code.Open.{Counts}
 use Rattle.unify.specs.Code.Stands.{Formed, Leaves}
 use Rattle.multiset_unification.specs.Answer.{fitting}
 use Rattle.unify.proofs.AtOnceLaws.{formed-unified}
@@ -173,7 +172,7 @@ part-first v k xs ys h =
     ap (take v) (drop-append-le k xs ys (omega (arith, h))) ∙ take-append-le v (drop k xs) ys (omega (arith, h, length-drop k xs))
 
 -- words before those that are put are as they were
-part-put : (v k at : ℕ) (xs lent : List ℕ) → k + v ≤ at → at ≤ length lent → take v (drop k (put at xs lent)) ≡ take v (drop k lent)
+pub part-put : (v k at : ℕ) (xs lent : List ℕ) → k + v ≤ at → at ≤ length lent → take v (drop k (put at xs lent)) ≡ take v (drop k lent)
 unfolding put
 part-put v k at xs lent h l =
     let n = length-take-le at lent l in
@@ -319,15 +318,6 @@ paired-inside ns (a ∷ ls) rs (d ∷ ds) ps l r p h =
     pick true e x y (List·Memᴰ·tail m) = h x y m
     pick false e x y m = h x y m
 
--- there is a least node for each variable present
-least-long : (ns : List Node) (list : List ℕ) → list ≡ leastNodes ns → length list ≡ length (variablesOf ns)
-unfolding leastNodes
-least-long ns list e = ap length e ∙ length-map (variablesOf ns) (nodeOf ns)
-
--- an entry has a word for each term and each variable
-pub entry-wide : (words args left right list entry : List ℕ) → list ≡ leastNodes (nodesFrom words args) → length entry ≡ length left + length right + length list → length entry ≡ widthOf words args left right
-entry-wide words args left right list entry e l = omega (arith, l, least-long (nodesFrom words args) list e)
-
 -- an entry that is remembered lies in the lent words
 pub lies-within : {words args left right memory lent : List ℕ} {at : ℕ} → Remembers words args left right memory lent at → (s key : ℕ) → s < slots → word memory s ≡ key + 1 → word memory (slots + s) + widthOf words args left right ≤ length lent
 lies-within g s key h e =
@@ -363,18 +353,18 @@ module _ {words args left right entry : List ℕ} {i : ℕ} (long : length entry
       q
 
   -- words of the classes are those of the pairs
-  pub bound-new : {cs : List ℕ} → Sections words args → Formed words args cs → Standing words args left right cs entry i → Pairable words left right entry i → (v end : ℕ) → v ≡ length (variablesOf (nodesFrom words args)) → end ≡ length left + length right + v → (part : List ℕ) → Leaves words args cs (midOf (length left + length right) (end - (length left + length right)) entry) part → Bound words args left right entry i (putMid (length left + length right) (end - (length left + length right)) entry part)
-  bound-new {cs} s f g p v end a b part l =
+  pub bound-new : {counts cs : List ℕ} → Sections words args → Counts words args counts (nodeCount words) → Formed words args counts cs → Standing words args left right cs entry i → Pairable words left right entry i → (part : List ℕ) → Leaves words args cs (midOf (length left + length right) (length entry - (length left + length right)) entry) part → Bound words args left right entry i (putMid (length left + length right) (length entry - (length left + length right)) entry part)
+  bound-new {counts} {cs} s c f g p part l =
       let ns = nodesFrom words args in
       let n = length left + length right in
-      let o = formed-unified words args cs s f (g .pairs) (g .stands) in
+      let o = formed-unified words args counts cs s f c (g .pairs) (g .stands) in
       let inside = g .stands .inside in
       let others : Inside ns (pairsIn left right entry i) = paired-inside ns left right (take i entry) [] (λ j q. is-node words args (word left j) (p .left-nodes j q)) (λ j q. is-node words args (word right j) (p .right-nodes j q)) (first-positive entry i (p .positive)) (λ x y m. absurd (List·Memᴰ·not-nil m)) in
       let w = sections-well-formed words args s in
       let e = same-unifiers ns w (g .pairs) (pairsIn left right entry i) inside others (g .unifiers) (outcome-unified ns w (g .pairs) inside .0 o) in
-      let x = mid-len n end entry (omega (arith, long, a, b)) in
-      let y = drop-of-length-le (midOf n (end - n) entry) {i = length (variablesOf ns)} (omega (arith, x, a, b)) in
-      let z = post-is n end entry (omega (arith, b)) ∙ drop-of-length-le entry {i = end} (omega (arith, long, a, b)) in
+      let x = mid-len n (length entry) entry (omega (arith, long)) in
+      let y = drop-of-length-le (midOf n (length entry - n) entry) {i = length (variablesOf ns)} (omega (arith, x, long)) in
+      let z = post-is n (length entry) entry (omega (arith, long)) ∙ drop-of-length-le entry {i = length entry} (omega arith) in
       let t : part ≡ wordsOf ns (pairsIn left right entry i) = l (g .pairs) (g .stands) ∙ ap (λ (r : List ℕ). wordsOf ns (g .pairs) ++ r) y ∙ append-nil (wordsOf ns (g .pairs)) ∙ e in
       record {
         words-put = ap (λ (r : List ℕ). take n entry ++ (part ++ r)) z ∙ ap (λ (r : List ℕ). take n entry ++ r) (append-nil part ∙ t);

@@ -8,16 +8,13 @@ use mathlib.Core.Path.{_≡_, refl, sym, ap, _∙_}
 use native.Mathlib.Omega.{arith}
 use borrow.Author.Tests.{eqb-true}
 use lib.Dec.{eqb}
-use lib.ListN.{length, take, drop, length-append, length-drop, length-map}
+use lib.ListN.{length, take, drop, length-append, length-drop}
 use lib.Seq.{length-take-le, take-take, take-at, drop-at, take-append-le, take-add, drop-length}
 use Rattle.table.specs.Layout.{word}
 use Rattle.unification.specs.Node.{Node}
-use Rattle.unification.specs.Computed.Variables.{variablesOf}
-use Rattle.unification.specs.Computed.Solution.{nodeOf}
 use Rattle.unification.specs.Computed.Unifying.{wordsOf}
 use Rattle.unification.specs.Code.Sections.{nodesFrom}
 use Rattle.unification.proofs.AnswerLaws.{words-counted}
-use Rattle.unify.specs.Code.Present.{leastNodes}
 use Rattle.multiset_unification.specs.Computed.Choices.{branch}
 use Rattle.listing.specs.declared.Labels.{Labels}
 use Rattle.listing.specs.declared.Written.{Written}
@@ -93,14 +90,7 @@ pub other : {a b c : ℕ} → (a ≡ b) ⊎ (c ≡ 0) → (a ≡ b → ⊥) → 
 other (inl e) n = absurd (n e)
 other (inr e) n = e
 
-module _ {words args left right : List ℕ} {labels : Labels} {list may cs : List ℕ} {key weight unpaired i : ℕ} {entry memory lent : List ℕ} {at : ℕ} (g : Walking words args left right labels list may cs key weight unpaired i entry memory lent at) where
-  -- an entry has a word for each term and each variable
-  pub branch-width : length entry ≡ length left + length right + length list
-  unfolding leastNodes
-  branch-width =
-      let l : length list ≡ length (variablesOf (nodesFrom words args)) = ap length (g .lists) ∙ length-map (variablesOf (nodesFrom words args)) (nodeOf (nodesFrom words args)) in
-      omega (arith, l, g .branching .size)
-
+module _ {words args left right : List ℕ} {labels : Labels} {known prepared cs next : List ℕ} {key weight unpaired i : ℕ} {entry memory lent : List ℕ} {at : ℕ} (g : Walking words args left right labels known prepared cs next key weight unpaired i entry memory lent at) where
   -- its digits pair nodes
   pub branch-pairable : Pairable words left right entry i
   branch-pairable =

@@ -13,7 +13,7 @@ use lib.Dec.{eqb}
 use lib.ListN.{length, take, drop, set, replicate, length-set, length-drop, length-append}
 use lib.Seq.{length-take-le, drop-cons, take-take, take-at, set-set, set-getD}
 use Rattle.table.specs.Limits.{maxTerms, maxNodes}
-use Rattle.table.specs.Layout.{word}
+use Rattle.table.specs.Layout.{word, nodeCount}
 use Rattle.unification.specs.Node.{Node}
 use Rattle.unification.specs.Outcome.{unified}
 use Rattle.unification.specs.Computed.Classes.{classOf}
@@ -24,6 +24,8 @@ use Rattle.unification.proofs.ListLaws.{part-long}
 use Rattle.unification.proofs.SectionLaws.{is-node, sections-well-formed}
 use Rattle.unify.specs.declared.Extended.{Extended}
 use Rattle.unify.specs.declared.Extended.the-variants.{Unified, Clash, Occurs}
+use Rattle.unify.specs.Code.Circle.{Circles}
+use Rattle.unify.specs.Code.Prepared.{Prepared}
 use Rattle.unify.specs.Code.Stands.{Formed, Stands, Extends, extended}
 use Rattle.listing.specs.declared.Labels.{Labels}
 use Rattle.listing.specs.declared.Written.{Written}
@@ -31,8 +33,11 @@ use Rattle.listing.specs.Code.Writing.{Writes, Remains}
 use Rattle.listing.specs.Code.Branch.{Listable, pairedBy, pairsIn, marksIn}
 use Rattle.listing.specs.Code.Memory.{keyOf, Remembers}
 use Rattle.listing.specs.Code.Partners.{stuck}
+use Rattle.listing.specs.Code.Known.{mayIn}
 use Rattle.listing.specs.Code.Walk.{over, ifUnified, onDigit, below, unpairedIn, hopeless, Branching, Walking, Joining, branchEntries, digitEntries, KeepsBranch, WritesBelow, Walked, WalkedJoined, Stepped, Turning}
 use Rattle.unify.proofs.AtOnceLaws.{together, formed-unified}
+use Rattle.unify.proofs.PreparedLaws.{prepared-kept}
+use Rattle.listing.proofs.KnownLaws.{may-word}
 use Rattle.listing.proofs.MemoryLaws.{key-placed, key-paired, key-bound}
 use Rattle.listing.proofs.PartnerLaws.{below-stuck, may-none}
 use Rattle.listing.proofs.WritingLaws.{remains-whole, remains-next, remains-full, remains-done, writes-none}
@@ -80,7 +85,7 @@ branch-inside : {words args left right : List ℕ} {labels : Labels} {entry : Li
 branch-inside {words} {args} {left} {right} {labels} {entry} {i = i} l g =
     paired-inside (nodesFrom words args) right (λ j h. is-node words args (word right j) (l .right-nodes j h)) left (λ j h. is-node words args (word left j) (l .left-nodes j h)) (take i entry) (digits-positive g) [] (λ a b m. absurd (List·Memᴰ·not-nil m))
 
-module _ {words args left right : List ℕ} {labels : Labels} {list may cs : List ℕ} {key weight unpaired i : ℕ} {entry memory lent : List ℕ} {at : ℕ} (g : Walking words args left right labels list may cs key weight unpaired i entry memory lent at) where
+module _ {words args left right : List ℕ} {labels : Labels} {known prepared cs next : List ℕ} {key weight unpaired i : ℕ} {entry memory lent : List ℕ} {at : ℕ} (g : Walking words args left right labels known prepared cs next key weight unpaired i entry memory lent at) where
   -- a hopeless branch has no entries
   pub hopeless-walked : hopeless (labels .left) (labels .right) (length left - i) unpaired ≡ true → Walked words args left right labels i entry memory lent at entry memory lent (idle at)
   hopeless-walked h =
@@ -98,19 +103,21 @@ module _ {words args left right : List ℕ} {labels : Labels} {list may cs : Lis
   stuck-room = rw lent-marks (omega (arith, marks-long (g .branching), g .listable .right-few))
 
   -- nor has one with a term that must be paired and has no partner
-  pub stuck-walked : stuck (labels .left) (labels .right) may i (length left) (take (length left + length right - length left) (drop (length left) entry)) ≡ true → Walked words args left right labels i entry memory lent at entry memory lent (idle at)
+  pub stuck-walked : stuck (labels .left) (labels .right) (mayIn known) i (length left) (take (length left + length right - length left) (drop (length left) entry)) ≡ true → Walked words args left right labels i entry memory lent at entry memory lent (idle at)
   stuck-walked h =
-      let s : stuck (labels .left) (labels .right) may i (length left) (marksIn left right entry) ≡ true = rw (← lent-marks) h in
-      nothing-below (g .remembers) (g .room) (below-stuck words args left right may labels i (take i entry) (pairsIn left right entry i) (marksIn left right entry) (g .listable) (g .partners) (g .branching .depth) (marks-long (g .branching)) (branch-inside (g .listable) (g .branching)) s)
+      let s : stuck (labels .left) (labels .right) (mayIn known) i (length left) (marksIn left right entry) ≡ true = rw (← lent-marks) h in
+      nothing-below (g .remembers) (g .room) (below-stuck words args left right (mayIn known) labels i (take i entry) (pairsIn left right entry i) (marksIn left right entry) (g .listable) (g .partners) (g .branching .depth) (marks-long (g .branching)) (branch-inside (g .listable) (g .branching)) s)
 
   -- what is known of a branch stands where it is kept
-  walking-kept : {entry′ memory′ lent′ : List ℕ} {at′ : ℕ} → length entry′ ≡ length entry → KeepsBranch left right i entry entry′ → Remembers words args left right memory′ lent′ at′ → at′ ≤ length lent′ → Walking words args left right labels list may cs key weight unpaired i entry′ memory′ lent′ at′
+  walking-kept : {entry′ memory′ lent′ : List ℕ} {at′ : ℕ} → length entry′ ≡ length entry → KeepsBranch left right i entry entry′ → Remembers words args left right memory′ lent′ at′ → at′ ≤ length lent′ → Walking words args left right labels known prepared cs next key weight unpaired i entry′ memory′ lent′ at′
   walking-kept l k r h =
       record {
         listable = g .listable;
-        lists = g .lists;
+        known-right = g .known-right;
         partners = g .partners;
         formed = g .formed;
+        circles = g .circles;
+        ready = g .ready;
         standing = record { pairs = g .standing .pairs; stands = g .standing .stands; unifiers = λ σ. rw (k .digits) (g .standing .unifiers σ) };
         branching = branching-kept (g .branching) l k;
         remembers = r;
@@ -181,13 +188,15 @@ module _ {words args left right : List ℕ} {labels : Labels} {list may cs : Lis
       pairs-placed = rw digits-next (paired-placed left right (take i entry) d [] l)
 
       -- the walk goes on with it
-      pub placed-next : Walking words args left right labels list may cs key (weight * 16) unpaired (i + 1) (set entry i d) memory lent at
+      pub placed-next : Walking words args left right labels known prepared cs next key (weight * 16) unpaired (i + 1) (set entry i d) memory lent at
       placed-next =
           record {
             listable = g .listable;
-            lists = g .lists;
+            known-right = g .known-right;
             partners = g .partners;
             formed = g .formed;
+            circles = g .circles;
+            ready = g .ready;
             standing = record { pairs = g .standing .pairs; stands = g .standing .stands; unifiers = λ σ. rw pairs-placed (g .standing .unifiers σ) };
             branching = branching-next (g .branching) h p (length-set entry i d) digits-next (g .branching .keyed ∙ sym (key-placed (length right) (take i entry) d l)) (g .branching .counted ∙ ap unpairedIn (sym (set-marks left right entry i d h)));
             remembers = g .remembers;
@@ -213,22 +222,25 @@ module _ {words args left right : List ℕ} {labels : Labels} {list may cs : Lis
     -- a left term paired with the right term that the digit counts to: q is the place of its mark, m that of the mark of the two
     module _ (l : d ≤ length right) (q : ℕ) (e : q ≡ length left + d - 1) (m : ℕ) where
       -- it is paired already, or the two have no common value
-      pub refused-stepped : m ≡ maxTerms * i + (d - 1) → eqb (word entry q) 0 || eqb (word may m) 0 ≡ true → Stepped words args left right labels i d entry memory lent at entry memory lent (idle at)
-      refused-stepped f t = nothing-below (g .remembers) (g .room) (pick (eqb (word entry q) 0) refl (eqb (word may m) 0) refl t)
+      pub refused-stepped : m ≡ 256 + (maxTerms * i + (d - 1)) → eqb (word entry q) 0 || eqb (word known m) 0 ≡ true → Stepped words args left right labels i d entry memory lent at entry memory lent (idle at)
+      refused-stepped f t = nothing-below (g .remembers) (g .room) (pick (eqb (word entry q) 0) refl (eqb (word known m) 0) refl t)
         where
-          pick : (x : Bool) → eqb (word entry q) 0 ≡ x → (y : Bool) → eqb (word may m) 0 ≡ y → x || y ≡ true → digitEntries words args left right labels entry i d ≡ []
+          mark-known : word (mayIn known) (maxTerms * i + (d - 1)) ≡ word known (256 + (maxTerms * i + (d - 1)))
+          mark-known = may-word known (maxTerms * i + (d - 1)) (omega (arith, h, p, l, g .listable .left-few, g .listable .right-few))
+
+          pick : (x : Bool) → eqb (word entry q) 0 ≡ x → (y : Bool) → eqb (word known m) 0 ≡ y → x || y ≡ true → digitEntries words args left right labels entry i d ≡ []
           pick true z y u v =
               digit-taken (nodesFrom words args) right (below (nodesFrom words args) right (labels .left) (labels .right) (drop (i + 1) left)) (take i entry) (pairsIn left right entry i) (marksIn left right entry) (word left i) d l (mark-word left right entry q d e p l ∙ eqb-true (word entry q) 0 z)
           pick false z true u v =
-              may-none words args left right may labels i d (below (nodesFrom words args) right (labels .left) (labels .right) (drop (i + 1) left)) (take i entry) (pairsIn left right entry i) (marksIn left right entry) (g .listable) (g .partners) h p l (branch-inside (g .listable) (g .branching)) (ap (word may) (sym f) ∙ eqb-true (word may m) 0 u)
+              may-none words args left right (mayIn known) labels i d (below (nodesFrom words args) right (labels .left) (labels .right) (drop (i + 1) left)) (take i entry) (pairsIn left right entry i) (marksIn left right entry) (g .listable) (g .partners) h p l (branch-inside (g .listable) (g .branching)) (mark-known ∙ ap (word known) (sym f) ∙ eqb-true (word known m) 0 u)
           pick false z false u v = absurd (false≢true v)
 
-      module _ (n : eqb (word entry q) 0 || eqb (word may m) 0 ≡ false) where
+      module _ (n : eqb (word entry q) 0 || eqb (word known m) 0 ≡ false) where
         -- neither mark is 0, so the right term is not paired
         unmarked : word (marksIn left right entry) (d - 1) ≡ 0 → ⊥
         unmarked z = pick (eqb (word entry q) 0) refl n
           where
-            pick : (x : Bool) → eqb (word entry q) 0 ≡ x → x || eqb (word may m) 0 ≡ false → ⊥
+            pick : (x : Bool) → eqb (word entry q) 0 ≡ x → x || eqb (word known m) 0 ≡ false → ⊥
             pick true y f = false≢true (sym f)
             pick false y f = eqb-false (word entry q) 0 y (sym (mark-word left right entry q d e p l) ∙ z)
 
@@ -277,13 +289,15 @@ module _ {words args left right : List ℕ} {labels : Labels} {list may cs : Lis
 
         module _ {a b : ℕ} (x : a ≡ word left i) (y : b ≡ word right (d - 1)) where
           -- the pair is to be joined to the classes
-          pub joining : Joining words args left right labels list may cs (key + d * weight) (weight * 16) (unpaired - 1) i a b paired memory lent at
+          pub joining : Joining words args left right labels known prepared cs next (key + d * weight) (weight * 16) (unpaired - 1) i a b paired memory lent at
           joining =
               record {
                 listable = g .listable;
-                lists = g .lists;
+                known-right = g .known-right;
                 partners = g .partners;
                 formed = g .formed;
+                circles = g .circles;
+                ready = g .ready;
                 standing = record { pairs = g .standing .pairs; stands = g .standing .stands; unifiers = λ σ. rw pairs-before (g .standing .unifiers σ) };
                 branching = branching-next (g .branching) h p paired-long paired-digits keyed (omega (arith, unpaired-next));
                 pair = rw (pairs-next, pairs-before, x, y) refl;
@@ -340,7 +354,7 @@ module _ {words args left right : List ℕ} {labels : Labels} {i : ℕ} {entry�
   digit-kept = rw (t .keeps .digits, t .keeps .marks) refl
 
   -- what is known of the branch still stands
-  pub turning-walking : {list may cs : List ℕ} {key weight unpaired : ℕ} {memory₀ : List ℕ} → Walking words args left right labels list may cs key weight unpaired i entry₀ memory₀ lent₀ at₀ → Walking words args left right labels list may cs key weight unpaired i entry memory lent at
+  pub turning-walking : {known prepared cs next : List ℕ} {key weight unpaired : ℕ} {memory₀ : List ℕ} → Walking words args left right labels known prepared cs next key weight unpaired i entry₀ memory₀ lent₀ at₀ → Walking words args left right labels known prepared cs next key weight unpaired i entry memory lent at
   turning-walking g = walking-kept g (t .size) (t .keeps) (t .remembers) (t .remains .within)
 
   module _ (h : d ≤ length right + labels .right) where
@@ -388,7 +402,7 @@ pub part-reach : (n : ℕ) (part rest : List ℕ) → length part ≡ n - 0 → 
 part-reach n part rest e = omega (arith, e, length-append part rest)
 
 -- a pair is to be joined to the classes
-module _ {words args left right : List ℕ} {labels : Labels} {list may cs : List ℕ} {key weight unpaired i a b : ℕ} {entry memory lent : List ℕ} {at : ℕ} (g : Joining words args left right labels list may cs key weight unpaired i a b entry memory lent at) where
+module _ {words args left right : List ℕ} {labels : Labels} {known prepared cs next : List ℕ} {key weight unpaired i a b : ℕ} {entry memory lent : List ℕ} {at : ℕ} (g : Joining words args left right labels known prepared cs next key weight unpaired i a b entry memory lent at) where
   -- it fails or not, whichever of the two lists it comes to
   joined-unified : outcome (nodesFrom words args) ((a, b) ∷ g .standing .pairs) ≡ unified ↔ (outcome (nodesFrom words args) ((a, b) ∷ pairsIn left right entry i) ≡ unified)
   joined-unified =
@@ -401,13 +415,15 @@ module _ {words args left right : List ℕ} {labels : Labels} {list may cs : Lis
   failed f = nothing-below (g .remembers) (g .room) (not-unified _ _ (λ z. f (joined-unified .1 z)))
 
   -- one that does not is walked on with
-  walking-on : {cs′ : List ℕ} → Formed words args cs′ → Stands words args cs′ ((a, b) ∷ g .standing .pairs) → Walking words args left right labels list may cs′ key weight unpaired (i + 1) entry memory lent at
-  walking-on f s =
+  walking-on : {cs′ next′ : List ℕ} → Formed words args known cs′ → Circles (nodeCount words) cs′ next′ → Prepared words args known cs′ prepared → Stands words args cs′ ((a, b) ∷ g .standing .pairs) → Walking words args left right labels known prepared cs′ next′ key weight unpaired (i + 1) entry memory lent at
+  walking-on f o y s =
       record {
         listable = g .listable;
-        lists = g .lists;
+        known-right = g .known-right;
         partners = g .partners;
         formed = f;
+        circles = o;
+        ready = y;
         standing = record { pairs = (a, b) ∷ g .standing .pairs; stands = s; unifiers = λ σ. rw (g .pair) (same-more (nodesFrom words args) (a, b) (g .standing .pairs) (pairsIn left right entry i) (g .standing .unifiers) σ) };
         branching = g .branching;
         remembers = g .remembers;
@@ -423,15 +439,15 @@ module _ {words args left right : List ℕ} {labels : Labels} {list may cs : Lis
   module _ (e : classOf cs a ≡ classOf cs b) where
     -- the classes stand for the pair as well
     at-once : Stands words args cs ((a, b) ∷ g .standing .pairs)
-    at-once = together words args cs (g .listable .sections) (g .formed) a b (g .first) (g .second) e (g .standing .pairs) (g .standing .stands)
+    at-once = together words args known cs (g .listable .sections) (g .formed) a b (g .first) (g .second) e (g .standing .pairs) (g .standing .stands)
 
     -- so the walk goes on with them
-    pub same-next : Walking words args left right labels list may cs key weight unpaired (i + 1) entry memory lent at
-    same-next = walking-on (g .formed) at-once
+    pub same-next : Walking words args left right labels known prepared cs next key weight unpaired (i + 1) entry memory lent at
+    same-next = walking-on (g .formed) (g .circles) (g .ready) at-once
 
     -- and the pair has the entries below it
     pub same-joined : {entry′ memory′ lent′ : List ℕ} {w : Written} → Walked words args left right labels (i + 1) entry memory lent at entry′ memory′ lent′ w → WalkedJoined words args left right labels i a b entry memory lent at entry′ memory′ lent′ w
-    same-joined r = walked-on (formed-unified words args cs (g .listable .sections) (g .formed) ((a, b) ∷ g .standing .pairs) at-once) r
+    same-joined r = walked-on (formed-unified words args known cs (g .listable .sections) (g .formed) (g .known-right .counts) ((a, b) ∷ g .standing .pairs) at-once) r
 
   -- there are not too many classes
   pub heads-few : length cs ≤ maxNodes
@@ -441,12 +457,16 @@ module _ {words args left right : List ℕ} {labels : Labels} {list may cs : Lis
   pub heads-room : length cs ≡ length {A = ℕ} (take (length cs - 0) (replicate maxNodes 0))
   heads-room = sym (part-long (replicate maxNodes 0) (length cs) heads-few)
 
-  -- and come back as many
+  -- and so have the circles
+  pub circles-room : length next ≡ length {A = ℕ} (take (length cs - 0) (replicate maxNodes 0))
+  circles-room = g .circles .size ∙ sym (g .formed .partition .size) ∙ heads-room
+
+  -- what has room comes back as long
   pub heads-long : {n : ℕ} → n ≡ length {A = ℕ} (take (length cs - 0) (replicate maxNodes 0)) → n ≡ length cs - 0
   heads-long e = omega (arith, e, heads-room)
 
   -- the classes are extended
-  module _ {r : Extended} {cs′ : List ℕ} (x : Extends words args cs a b r cs′) where
+  module _ {r : Extended} {cs′ next′ : List ℕ} (x : Extends words args known cs a b r cs′ next′) where
     -- the answer is what the pairs come to
     came-to : outcome (nodesFrom words args) ((a, b) ∷ g .standing .pairs) ≡ extended r
     came-to = sym (x .answers (g .standing .pairs) (g .standing .stands))
@@ -461,8 +481,14 @@ module _ {words args left right : List ℕ} {labels : Labels} {list may cs : Lis
 
     module _ (e : r ≡ Unified) where
       -- the walk goes on with the extended classes
-      pub joined-next : {cs″ : List ℕ} → cs″ ≡ cs′ → Walking words args left right labels list may cs″ key weight unpaired (i + 1) entry memory lent at
-      joined-next q = walking-on (rw q (x .formed e (g .standing .pairs) (g .standing .stands))) (rw q (x .stands e (g .standing .pairs) (g .standing .stands)))
+      pub joined-next : {cs″ next″ : List ℕ} → cs″ ≡ cs′ → next″ ≡ next′ → Walking words args left right labels known prepared cs″ next″ key weight unpaired (i + 1) entry memory lent at
+      joined-next q u =
+          rw (q, u)
+          (walking-on
+          (x .formed e (g .standing .pairs) (g .standing .stands))
+          (x .circles e)
+          (prepared-kept words args known cs cs′ prepared (g .listable .sections) (g .known-right .counts) (x .kept e) (g .ready))
+          (x .stands e (g .standing .pairs) (g .standing .stands)))
 
       -- and the pair has the entries below it
       pub unified-joined : {entry′ memory′ lent′ : List ℕ} {w : Written} → Walked words args left right labels (i + 1) entry memory lent at entry′ memory′ lent′ w → WalkedJoined words args left right labels i a b entry memory lent at entry′ memory′ lent′ w

@@ -53,7 +53,7 @@ head-long at xs lent h =
     omega (arith, a, t)
 
 -- words put into lent words leave as many
-put-long : (at : ℕ) (xs lent : List ℕ) → at + length xs ≤ length lent → length (put at xs lent) ≡ length lent
+pub put-long : (at : ℕ) (xs lent : List ℕ) → at + length xs ≤ length lent → length (put at xs lent) ≡ length lent
 unfolding put
 put-long at xs lent h =
     let a = length-append (take at lent ++ xs) (drop (at + length xs) lent) in

@@ -3,5 +3,6 @@ pub mod Writing
 pub mod Branch
 pub mod Memory
 pub mod Partners
+pub mod Known
 pub mod Walk
 pub mod Calling

@@ -1,10 +1,24 @@
 // Listing an accepted table.
+ghost use mathlib.Core.Path.{_≡_};
+ghost use Prim.Native.Nat.{_≤_, _<_};
+ghost use lib.ListN.{length};
+ghost use Rattle.table.specs.Layout.{nodeCount};
 ghost use Rattle.table.specs.Code.Accepted.{Accepted};
+ghost use Rattle.unification.specs.Code.Sections.{nodesFrom};
+ghost use Rattle.unify.specs.Code.Present.{leastNodes};
+ghost use Rattle.unify.specs.Code.Circle.{Circles};
+ghost use Rattle.unify.specs.Code.Prepared.{Prepared};
+ghost use Rattle.unify.specs.Code.Stands.{Formed, StandsAlways};
 ghost use Rattle.multiset_unification.specs.Computed.Listing.{completeListing};
-ghost use Rattle.listing.specs.Code.Branch.{Listable};
+ghost use Rattle.listing.specs.Code.Branch.{Listable, widthOf};
+ghost use Rattle.listing.specs.Code.Known.{knownBytes, mayIn, KnownOf, Completes};
+ghost use Rattle.listing.specs.Code.Partners.{Triable, MayPair};
 ghost use Rattle.listing.specs.Code.Walk.{allEntries};
 ghost use Rattle.listing.specs.Code.Calling.{Answers};
 use crate::Labels;
+use crate::known::KNOWN;
+use crate::known::LIST;
+use crate::known::MAY;
 use crate::memory::SLOTS;
 use crate::partners::PAIRS;
 use crate::partners::find_partners;
@@ -14,9 +28,198 @@ use table::layout;
 use table::layout::index;
 use table::limits::MAX_NODES;
 use unify::beginning::begin_shared;
+use unify::beginning::make_circles;
+use unify::bytes::put_bytes;
+use unify::prepared::PREPARED;
+use unify::prepared::count_open;
+use unify::prepared::prepare;
 
 // Room for an entry: n + m digits and V binding words.
 const ENTRY_WORDS: usize = 80;
+
+// Finds the partners of the terms, and puts them and the least nodes of the variables into what is known.
+fn complete_known(
+    nodes: &[u32],
+    arguments: &[u32],
+    left: &[u32],
+    right: &[u32],
+    labels: Labels,
+    list: &[u8],
+    of: &[u8],
+    next: &[u8],
+    known: &mut [u8],
+)
+    requires { ⌜ Listable (now nodes) (now arguments) (now left) (now right) labels ⌝ }
+    requires { ⌜ Triable (now nodes) (now arguments) (now known) (now of) (now next) ⌝ }
+    requires { ⌜ (now list ≡ leastNodes (nodesFrom (now nodes) (now arguments))) × (length (now list) ≤ 64) × (length (now known) ≡ knownBytes) ⌝ }
+    ensures { λ r. ⌜ Completes (now (nodes .entry)) (now (arguments .entry)) (now (left .entry)) (now (right .entry)) (now (known .entry)) (now (known .exit)) ⌝ }
+{
+    let mut may = [1u8; PAIRS];
+    find_partners(
+        nodes,
+        arguments,
+        left,
+        right,
+        labels,
+        known,
+        of,
+        next,
+        &mut may,
+    );
+    put_bytes(&may, known, MAY);
+    put_bytes(list, known, LIST);
+}
+
+// Lists the sides of an accepted table by the walk, given what is known and prepared, and the classes of no pair.
+fn list_known(
+    nodes: &[u32],
+    arguments: &[u32],
+    left: &[u32],
+    right: &[u32],
+    labels: Labels,
+    known: &[u8],
+    prepared: &[u16],
+    of: &[u8],
+    next: &[u8],
+    words: usize,
+    out: &mut [u32],
+) -> Listing
+    requires { ⌜ Listable (now nodes) (now arguments) (now left) (now right) labels ⌝ }
+    requires { ⌜ KnownOf (now nodes) (now arguments) (now known) × MayPair (now nodes) (now arguments) (now left) (now right) (mayIn (now known)) ⌝ }
+    requires { ⌜ Formed (now nodes) (now arguments) (now known) (now of) × StandsAlways (now nodes) (now arguments) (now of) × Circles (nodeCount (now nodes)) (now of) (now next) ⌝ }
+    requires { ⌜ Prepared (now nodes) (now arguments) (now known) (now of) (now prepared) ⌝ }
+    requires { ⌜ (words ≡ widthOf (now nodes) (now arguments) (now left) (now right)) × (0 < words) ⌝ }
+    ensures { λ r. ⌜ Answers (allEntries (now (nodes .entry)) (now (arguments .entry)) (now (left .entry)) (now (right .entry)) labels) (now (out .entry)) r (now (out .exit)) ⌝ }
+{
+    let mut entry = [1u32; ENTRY_WORDS];
+    let mut memory = [0usize; SLOTS + SLOTS];
+    let w = walk(
+        nodes,
+        arguments,
+        left,
+        right,
+        labels,
+        known,
+        prepared,
+        of,
+        next,
+        0,
+        1,
+        right.len(),
+        0,
+        &mut entry[0..words],
+        &mut memory,
+        out,
+        0,
+    );
+    let entries = w.used / words;
+    if w.missed != 0 {
+        return Listing::Full(entries);
+    }
+    Listing::Finished(entries)
+}
+
+// The same where there are open applications: binding words are prepared for.
+fn list_open(
+    nodes: &[u32],
+    arguments: &[u32],
+    left: &[u32],
+    right: &[u32],
+    labels: Labels,
+    known: &[u8],
+    of: &[u8],
+    next: &[u8],
+    words: usize,
+    out: &mut [u32],
+) -> Listing
+    requires { ⌜ Listable (now nodes) (now arguments) (now left) (now right) labels ⌝ }
+    requires { ⌜ KnownOf (now nodes) (now arguments) (now known) × MayPair (now nodes) (now arguments) (now left) (now right) (mayIn (now known)) ⌝ }
+    requires { ⌜ Formed (now nodes) (now arguments) (now known) (now of) × StandsAlways (now nodes) (now arguments) (now of) × Circles (nodeCount (now nodes)) (now of) (now next) ⌝ }
+    requires { ⌜ (words ≡ widthOf (now nodes) (now arguments) (now left) (now right)) × (0 < words) ⌝ }
+    ensures { λ r. ⌜ Answers (allEntries (now (nodes .entry)) (now (arguments .entry)) (now (left .entry)) (now (right .entry)) labels) (now (out .entry)) r (now (out .exit)) ⌝ }
+{
+    let mut prepared = [0u16; PREPARED];
+    prepare(nodes, arguments, known, of, &mut prepared);
+    list_known(
+        nodes,
+        arguments,
+        left,
+        right,
+        labels,
+        known,
+        &prepared,
+        of,
+        next,
+        words,
+        out,
+    )
+}
+
+// Lists the sides of an accepted table, with room for the classes and for what is known.
+fn list_with_room(
+    nodes: &[u32],
+    arguments: &[u32],
+    left: &[u32],
+    right: &[u32],
+    labels: Labels,
+    of: &mut [u8],
+    next: &mut [u8],
+    known: &mut [u8],
+    out: &mut [u32],
+) -> Listing
+    requires { ⌜ Listable (now nodes) (now arguments) (now left) (now right) labels ⌝ }
+    requires { ⌜ (length (now of) ≡ nodeCount (now nodes)) × (length (now next) ≡ nodeCount (now nodes)) × (length (now known) ≡ knownBytes) ⌝ }
+    ensures { λ r. ⌜ Answers (allEntries (now (nodes .entry)) (now (arguments .entry)) (now (left .entry)) (now (right .entry)) labels) (now (out .entry)) r (now (out .exit)) ⌝ }
+{
+    let variables = begin_shared(nodes, arguments, of);
+    let list = variables.nodes;
+    let v = variables.count;
+    let words = left.len() + right.len() + v;
+    if words == 0 {
+        return Listing::Finished(1);
+    }
+    make_circles(of, next);
+    let some_open = count_open(nodes, arguments, known);
+    complete_known(
+        nodes,
+        arguments,
+        left,
+        right,
+        labels,
+        &list[0..v],
+        of,
+        next,
+        known,
+    );
+    if some_open {
+        return list_open(
+            nodes,
+            arguments,
+            left,
+            right,
+            labels,
+            known,
+            of,
+            next,
+            words,
+            out,
+        );
+    }
+    let none = [0u16; 1];
+    list_known(
+        nodes,
+        arguments,
+        left,
+        right,
+        labels,
+        known,
+        &none[0..0],
+        of,
+        next,
+        words,
+        out,
+    )
+}
 
 // Lists the sides of an accepted table, by its sections and the numbers of labels.
 fn list_sides(
@@ -32,40 +235,19 @@ fn list_sides(
 {
     let n = index(layout::node_count(nodes));
     let mut of = [0u8; MAX_NODES];
-    let variables = begin_shared(nodes, arguments, &mut of[0..n]);
-    let list = variables.nodes;
-    let v = variables.count;
-    let words = left.len() + right.len() + v;
-    if words == 0 {
-        return Listing::Finished(1);
-    }
-    let mut may = [1u8; PAIRS];
-    find_partners(nodes, arguments, left, right, labels, &of[0..n], &mut may);
-    let mut entry = [1u32; ENTRY_WORDS];
-    let mut memory = [0usize; SLOTS + SLOTS];
-    let w = walk(
+    let mut next = [0u8; MAX_NODES];
+    let mut known = [0u8; KNOWN];
+    list_with_room(
         nodes,
         arguments,
         left,
         right,
         labels,
-        &list[0..v],
-        &may,
-        &of[0..n],
-        0,
-        1,
-        right.len(),
-        0,
-        &mut entry[0..words],
-        &mut memory,
+        &mut of[0..n],
+        &mut next[0..n],
+        &mut known,
         out,
-        0,
-    );
-    let entries = w.used / words;
-    if w.missed != 0 {
-        return Listing::Full(entries);
-    }
-    Listing::Finished(entries)
+    )
 }
 
 // Lists an accepted table.

@@ -13,6 +13,9 @@ use table::Checked;
 // Entries, written into the lent words.
 mod writing;
 
+// What is known of nodes and of pairs of terms.
+mod known;
+
 // Binding words, kept for pairs that come again.
 mod memory;
 

@@ -3,11 +3,13 @@ ghost use mathlib.Core.Path.{_≡_};
 ghost use Prim.Native.Nat.{_+_, _≤_, _<_, _^_};
 ghost use lib.ListN.{length};
 ghost use Rattle.table.specs.Limits.{maxTerms};
-ghost use Rattle.unification.specs.Code.Sections.{Sections, nodesFrom};
-ghost use Rattle.unify.specs.Code.Present.{leastNodes};
+ghost use Rattle.unification.specs.Code.Sections.{Sections};
+ghost use Rattle.unify.specs.Code.Prepared.{Prepared};
 ghost use Rattle.unify.specs.Code.Stands.{Formed};
-ghost use Rattle.listing.specs.Code.Branch.{Standing};
+ghost use Rattle.listing.specs.Code.Branch.{Standing, widthOf};
+ghost use Rattle.listing.specs.Code.Known.{KnownOf};
 ghost use Rattle.listing.specs.Code.Memory.{slots, slotOf, Keyed, Pairable, Remembers, Bound, Notes};
+use crate::known::LIST;
 use crate::writing;
 use unify::words::bind;
 
@@ -30,7 +32,8 @@ pub fn put_words(
     arguments: &[u32],
     left: &[u32],
     right: &[u32],
-    list: &[u8],
+    known: &[u8],
+    prepared: &[u16],
     of: &[u8],
     key: usize,
     i: usize,
@@ -39,22 +42,22 @@ pub fn put_words(
     out: &[u32],
     at: usize,
 )
-    requires { ⌜ Sections (now nodes) (now arguments) × Formed (now nodes) (now arguments) (now of) ⌝ }
-    requires { ⌜ now list ≡ leastNodes (nodesFrom (now nodes) (now arguments)) ⌝ }
+    requires { ⌜ Sections (now nodes) (now arguments) × KnownOf (now nodes) (now arguments) (now known) ⌝ }
+    requires { ⌜ Formed (now nodes) (now arguments) (now known) (now of) × Prepared (now nodes) (now arguments) (now known) (now of) (now prepared) ⌝ }
     requires { ⌜ Standing (now nodes) (now arguments) (now left) (now right) (now of) (now entry) i ⌝ }
     requires { ⌜ Pairable (now nodes) (now left) (now right) (now entry) i ⌝ }
     requires { ⌜ Keyed (now left) (now right) (now entry) i key ⌝ }
     requires { ⌜ Remembers (now nodes) (now arguments) (now left) (now right) (now memory) (now out) at ⌝ }
-    requires { ⌜ length (now entry) ≡ length (now left) + length (now right) + length (now list) ⌝ }
+    requires { ⌜ length (now entry) ≡ widthOf (now nodes) (now arguments) (now left) (now right) ⌝ }
     requires { ⌜ (length (now left) ≤ maxTerms) × (length (now right) ≤ maxTerms) ⌝ }
     ensures { λ r. ⌜ Bound (now (nodes .entry)) (now (arguments .entry)) (now (left .entry)) (now (right .entry)) (now (entry .entry)) i (now (entry .exit)) ⌝ }
 {
-    let v = list.len();
-    if v == 0 {
+    let words = left.len() + right.len();
+    let end = entry.len();
+    if words == end {
         return;
     }
-    let words = left.len() + right.len();
-    let end = words + v;
+    let v = end - words;
     let s = slot(key);
     if memory[s] == key + 1 {
         let from = memory[SLOTS + s] + words;
@@ -62,7 +65,16 @@ pub fn put_words(
         writing::copy(&out[from..to], entry, words);
         return;
     }
-    bind(nodes, arguments, list, of, &mut entry[words..end]);
+    let list_end = LIST + v;
+    bind(
+        nodes,
+        arguments,
+        known,
+        prepared,
+        &known[LIST..list_end],
+        of,
+        &mut entry[words..end],
+    );
 }
 
 // Notes where an entry lies that has the binding words of pairs with this key, if one was written from `at` on.

@@ -5,17 +5,14 @@ ghost use lib.ListN.{length};
 ghost use Rattle.table.specs.Limits.{maxTerms};
 ghost use Rattle.table.specs.Layout.{nodeCount};
 ghost use Rattle.unification.specs.Code.Sections.{nodesFrom};
-ghost use Rattle.unify.specs.Code.Stands.{Formed, StandsAlways, Shared, Never};
+ghost use Rattle.unify.specs.Code.Stands.{Never};
 ghost use Rattle.listing.specs.Code.Branch.{Listable};
 ghost use Rattle.listing.specs.Code.Partners.{partnered, leftsStuck, someLeft, rightStuck, rightsStuck, stuck as stuckFor, Triable, MayPair};
 use crate::Labels;
 use table::Node;
 use table::layout;
-use table::layout::index;
-use table::limits::MAX_NODES;
 use table::limits::MAX_TERMS;
 use unify::alone::may_unify;
-use unify::beginning::mark_closed;
 
 // A mark for each pair of a left and a right term: 0 where they have no common value.
 pub const PAIRS: usize = MAX_TERMS * MAX_TERMS;
@@ -106,12 +103,20 @@ pub fn stuck(labels: Labels, may: &[u8], i: usize, n: usize, marks: &[u32]) -> b
 }
 
 // The mark of a pair of terms: 0 where they have no common value.
-fn pair_mark(nodes: &[u32], arguments: &[u32], closed: &[u8], of: &[u8], a: Node, b: Node) -> u8
-    requires { ⌜ Triable (now nodes) (now arguments) (now closed) (now of) ⌝ }
+fn pair_mark(
+    nodes: &[u32],
+    arguments: &[u32],
+    counts: &[u8],
+    of: &[u8],
+    next: &[u8],
+    a: Node,
+    b: Node,
+) -> u8
+    requires { ⌜ Triable (now nodes) (now arguments) (now counts) (now of) (now next) ⌝ }
     requires { ⌜ (a .0 < nodeCount (now nodes)) × (b .0 < nodeCount (now nodes)) ⌝ }
     ensures { λ r. ⌜ (r ≡ 0 → Never (nodesFrom (now (nodes .entry)) (now (arguments .entry))) (a .0) (b .0)) ⌝ }
 {
-    if may_unify(nodes, arguments, closed, of, a, b) {
+    if may_unify(nodes, arguments, counts, of, next, a, b) {
         return 1;
     }
     0
@@ -124,13 +129,14 @@ fn mark_row(
     left: &[u32],
     right: &[u32],
     labels: Labels,
-    closed: &[u8],
+    counts: &[u8],
     of: &[u8],
+    next: &[u8],
     may: &mut [u8],
     i: usize,
 )
     requires { ⌜ Listable (now nodes) (now arguments) (now left) (now right) labels ⌝ }
-    requires { ⌜ Triable (now nodes) (now arguments) (now closed) (now of) ⌝ }
+    requires { ⌜ Triable (now nodes) (now arguments) (now counts) (now of) (now next) ⌝ }
     requires { ⌜ MayPair (now nodes) (now arguments) (now left) (now right) (now may) ⌝ }
     requires { ⌜ i < length (now left) ⌝ }
     ensures { λ r. ⌜ MayPair (now (nodes .entry)) (now (arguments .entry)) (now (left .entry)) (now (right .entry)) (now (may .exit)) ⌝ }
@@ -139,53 +145,44 @@ fn mark_row(
     let mut j: usize = 0;
     while j < right.len() {
         let b = layout::node_at(right, j);
-        may[MAX_TERMS * i + j] = pair_mark(nodes, arguments, closed, of, a, b);
+        may[MAX_TERMS * i + j] = pair_mark(nodes, arguments, counts, of, next, a, b);
         j += 1;
     }
 }
 
-// Marks the pairs of all left terms, given the marks of closed nodes.
+// Marks the pairs of all left terms.
 fn mark_pairs(
     nodes: &[u32],
     arguments: &[u32],
     left: &[u32],
     right: &[u32],
     labels: Labels,
-    closed: &[u8],
+    counts: &[u8],
     of: &[u8],
+    next: &[u8],
     may: &mut [u8],
 )
     requires { ⌜ Listable (now nodes) (now arguments) (now left) (now right) labels ⌝ }
-    requires { ⌜ Triable (now nodes) (now arguments) (now closed) (now of) ⌝ }
+    requires { ⌜ Triable (now nodes) (now arguments) (now counts) (now of) (now next) ⌝ }
     requires { ⌜ MayPair (now nodes) (now arguments) (now left) (now right) (now may) ⌝ }
     ensures { λ r. ⌜ MayPair (now (nodes .entry)) (now (arguments .entry)) (now (left .entry)) (now (right .entry)) (now (may .exit)) ⌝ }
 {
     let mut i: usize = 0;
     while i < left.len() {
-        mark_row(nodes, arguments, left, right, labels, closed, of, may, i);
+        mark_row(
+            nodes,
+            arguments,
+            left,
+            right,
+            labels,
+            counts,
+            of,
+            next,
+            may,
+            i,
+        );
         i += 1;
     }
-}
-
-// Marks the closed nodes, and then the pairs of all left terms.
-fn mark_all(
-    nodes: &[u32],
-    arguments: &[u32],
-    left: &[u32],
-    right: &[u32],
-    labels: Labels,
-    closed: &mut [u8],
-    of: &[u8],
-    may: &mut [u8],
-)
-    requires { ⌜ Listable (now nodes) (now arguments) (now left) (now right) labels ⌝ }
-    requires { ⌜ Formed (now nodes) (now arguments) (now of) × StandsAlways (now nodes) (now arguments) (now of) × Shared (now nodes) (now arguments) (now of) ⌝ }
-    requires { ⌜ MayPair (now nodes) (now arguments) (now left) (now right) (now may) ⌝ }
-    requires { ⌜ length (now closed) ≡ nodeCount (now nodes) ⌝ }
-    ensures { λ r. ⌜ MayPair (now (nodes .entry)) (now (arguments .entry)) (now (left .entry)) (now (right .entry)) (now (may .exit)) ⌝ }
-{
-    mark_closed(nodes, arguments, closed);
-    mark_pairs(nodes, arguments, left, right, labels, closed, of, may);
 }
 
 // Marks the pairs of terms that have no common value with 0, given classes in which nodes of one term are together. One left term has
@@ -196,27 +193,18 @@ pub fn find_partners(
     left: &[u32],
     right: &[u32],
     labels: Labels,
+    counts: &[u8],
     of: &[u8],
+    next: &[u8],
     may: &mut [u8],
 )
     requires { ⌜ Listable (now nodes) (now arguments) (now left) (now right) labels ⌝ }
-    requires { ⌜ Formed (now nodes) (now arguments) (now of) × StandsAlways (now nodes) (now arguments) (now of) × Shared (now nodes) (now arguments) (now of) ⌝ }
+    requires { ⌜ Triable (now nodes) (now arguments) (now counts) (now of) (now next) ⌝ }
     requires { ⌜ MayPair (now nodes) (now arguments) (now left) (now right) (now may) ⌝ }
     ensures { λ r. ⌜ MayPair (now (nodes .entry)) (now (arguments .entry)) (now (left .entry)) (now (right .entry)) (now (may .exit)) ⌝ }
 {
     if left.len() < 2 {
         return;
     }
-    let n = index(layout::node_count(nodes));
-    let mut closed = [0u8; MAX_NODES];
-    mark_all(
-        nodes,
-        arguments,
-        left,
-        right,
-        labels,
-        &mut closed[0..n],
-        of,
-        may,
-    );
+    mark_pairs(nodes, arguments, left, right, labels, counts, of, next, may);
 }

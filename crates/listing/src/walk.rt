@@ -1,8 +1,8 @@
 // The walk over the choices: depth first over left digits, each pair on top of the pairs before it. A branch ends at its first pair that fails.
 // The branch stands in an entry: the digits of the left terms so far, and a mark for each right term, 0 where it is paired.
-// What goes along with it: the least nodes of the variables (`list`), the marks of the pairs of terms that may be (`may`), the heads of the
-// classes of its pairs (`of`), the key of these pairs and what the next digit counts in it (`key`, `weight`), how many right terms are not
-// paired, and what is remembered of binding words (`memory`).
+// What goes along with it: what is known of nodes and pairs of terms (`known`), what is prepared for binding words (`prepared`), the classes
+// of its pairs by heads and circles (`of`, `next`), the key of these pairs and what the next digit counts in it (`key`, `weight`), how many
+// right terms are not paired, and what is remembered of binding words (`memory`).
 ghost use mathlib.Core.Path.{_≡_};
 ghost use mathlib.Core.Logic.{_⊎_};
 ghost use Prim.Native.Nat.{_+_, _<_, _≤_};
@@ -10,6 +10,8 @@ ghost use lib.ListN.{length};
 ghost use Rattle.listing.specs.Code.Walk.{hopeless as hopelessFor, Walking, Walked, Stepped, Joining, WalkedJoined};
 use crate::Labels;
 use crate::Written;
+use crate::known::LIST;
+use crate::known::MAY;
 use crate::memory;
 use crate::partners::stuck;
 use crate::writing;
@@ -37,9 +39,10 @@ fn write_branch(
     left: &[u32],
     right: &[u32],
     labels: Labels,
-    list: &[u8],
-    may: &[u8],
+    known: &[u8],
+    prepared: &[u16],
     of: &[u8],
+    next: &[u8],
     key: usize,
     weight: usize,
     unpaired: usize,
@@ -49,7 +52,7 @@ fn write_branch(
     out: &mut [u32],
     at: usize,
 ) -> Written
-    requires { ⌜ Walking (now nodes) (now arguments) (now left) (now right) labels (now list) (now may) (now of) key weight unpaired i (now entry) (now memory) (now out) at ⌝ }
+    requires { ⌜ Walking (now nodes) (now arguments) (now left) (now right) labels (now known) (now prepared) (now of) (now next) key weight unpaired i (now entry) (now memory) (now out) at ⌝ }
     requires { ⌜ (i ≡ length (now left)) ⊎ (unpaired ≡ 0) ⌝ }
     ensures { λ r. ⌜ Walked (now (nodes .entry)) (now (arguments .entry)) (now (left .entry)) (now (right .entry)) labels i (now (entry .entry)) (now (memory .entry)) (now (out .entry)) at (now (entry .exit)) (now (memory .exit)) (now (out .exit)) r ⌝ }
 {
@@ -60,7 +63,8 @@ fn write_branch(
         arguments,
         left,
         right,
-        list,
+        known,
+        prepared,
         of,
         key,
         i,
@@ -86,9 +90,10 @@ fn walk_joined(
     left: &[u32],
     right: &[u32],
     labels: Labels,
-    list: &[u8],
-    may: &[u8],
+    known: &[u8],
+    prepared: &[u16],
     of: &[u8],
+    next: &[u8],
     key: usize,
     weight: usize,
     unpaired: usize,
@@ -100,12 +105,23 @@ fn walk_joined(
     out: &mut [u32],
     at: usize,
 ) -> Written
-    requires { ⌜ Joining (now nodes) (now arguments) (now left) (now right) labels (now list) (now may) (now of) key weight unpaired i (a .0) (b .0) (now entry) (now memory) (now out) at ⌝ }
+    requires { ⌜ Joining (now nodes) (now arguments) (now left) (now right) labels (now known) (now prepared) (now of) (now next) key weight unpaired i (a .0) (b .0) (now entry) (now memory) (now out) at ⌝ }
     ensures { λ r. ⌜ WalkedJoined (now (nodes .entry)) (now (arguments .entry)) (now (left .entry)) (now (right .entry)) labels i (a .0) (b .0) (now (entry .entry)) (now (memory .entry)) (now (out .entry)) at (now (entry .exit)) (now (memory .exit)) (now (out .exit)) r ⌝ }
 {
     let n = of.len();
     let mut heads = [0u8; MAX_NODES];
-    match extend_copy(nodes, arguments, of, &mut heads[0..n], a, b) {
+    let mut after = [0u8; MAX_NODES];
+    match extend_copy(
+        nodes,
+        arguments,
+        known,
+        of,
+        next,
+        &mut heads[0..n],
+        &mut after[0..n],
+        a,
+        b,
+    ) {
         Extended::Clash => Written {
             used: at,
             missed: 0,
@@ -120,9 +136,10 @@ fn walk_joined(
             left,
             right,
             labels,
-            list,
-            may,
+            known,
+            prepared,
             &heads[0..n],
+            &after[0..n],
             key,
             weight,
             unpaired,
@@ -142,9 +159,10 @@ fn step(
     left: &[u32],
     right: &[u32],
     labels: Labels,
-    list: &[u8],
-    may: &[u8],
+    known: &[u8],
+    prepared: &[u16],
     of: &[u8],
+    next: &[u8],
     key: usize,
     weight: usize,
     unpaired: usize,
@@ -155,7 +173,7 @@ fn step(
     out: &mut [u32],
     at: usize,
 ) -> Written
-    requires { ⌜ Walking (now nodes) (now arguments) (now left) (now right) labels (now list) (now may) (now of) key weight unpaired i (now entry) (now memory) (now out) at ⌝ }
+    requires { ⌜ Walking (now nodes) (now arguments) (now left) (now right) labels (now known) (now prepared) (now of) (now next) key weight unpaired i (now entry) (now memory) (now out) at ⌝ }
     requires { ⌜ (i < length (now left)) × (0 < d) × (d ≤ length (now right) + labels .right) ⌝ }
     ensures { λ r. ⌜ Stepped (now (nodes .entry)) (now (arguments .entry)) (now (left .entry)) (now (right .entry)) labels i d (now (entry .entry)) (now (memory .entry)) (now (out .entry)) at (now (entry .exit)) (now (memory .exit)) (now (out .exit)) r ⌝ }
 {
@@ -167,9 +185,10 @@ fn step(
             left,
             right,
             labels,
-            list,
-            may,
+            known,
+            prepared,
             of,
+            next,
             key,
             weight * BASE,
             unpaired,
@@ -182,7 +201,7 @@ fn step(
     }
     let p = left.len() + d - 1;
     let mark = entry[p];
-    if (mark == 0) | (may[MAX_TERMS * i + d - 1] == 0) {
+    if (mark == 0) | (known[MAY + MAX_TERMS * i + d - 1] == 0) {
         return Written {
             used: at,
             missed: 0,
@@ -199,9 +218,10 @@ fn step(
             left,
             right,
             labels,
-            list,
-            may,
+            known,
+            prepared,
             of,
+            next,
             key + d * weight,
             weight * BASE,
             unpaired - 1,
@@ -220,9 +240,10 @@ fn step(
         left,
         right,
         labels,
-        list,
-        may,
+        known,
+        prepared,
         of,
+        next,
         key + d * weight,
         weight * BASE,
         unpaired - 1,
@@ -245,9 +266,10 @@ pub fn walk(
     left: &[u32],
     right: &[u32],
     labels: Labels,
-    list: &[u8],
-    may: &[u8],
+    known: &[u8],
+    prepared: &[u16],
     of: &[u8],
+    next: &[u8],
     key: usize,
     weight: usize,
     unpaired: usize,
@@ -257,7 +279,7 @@ pub fn walk(
     out: &mut [u32],
     at: usize,
 ) -> Written
-    requires { ⌜ Walking (now nodes) (now arguments) (now left) (now right) labels (now list) (now may) (now of) key weight unpaired i (now entry) (now memory) (now out) at ⌝ }
+    requires { ⌜ Walking (now nodes) (now arguments) (now left) (now right) labels (now known) (now prepared) (now of) (now next) key weight unpaired i (now entry) (now memory) (now out) at ⌝ }
     ensures { λ r. ⌜ Walked (now (nodes .entry)) (now (arguments .entry)) (now (left .entry)) (now (right .entry)) labels i (now (entry .entry)) (now (memory .entry)) (now (out .entry)) at (now (entry .exit)) (now (memory .exit)) (now (out .exit)) r ⌝ }
 {
     let n = left.len();
@@ -275,9 +297,10 @@ pub fn walk(
             left,
             right,
             labels,
-            list,
-            may,
+            known,
+            prepared,
             of,
+            next,
             key,
             weight,
             unpaired,
@@ -289,7 +312,7 @@ pub fn walk(
         );
     }
     let end = n + m;
-    if stuck(labels, may, i, n, &entry[n..end]) {
+    if stuck(labels, &known[MAY..LIST], i, n, &entry[n..end]) {
         return Written {
             used: at,
             missed: 0,
@@ -305,9 +328,10 @@ pub fn walk(
             left,
             right,
             labels,
-            list,
-            may,
+            known,
+            prepared,
             of,
+            next,
             key,
             weight,
             unpaired,

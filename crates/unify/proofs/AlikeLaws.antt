@@ -81,12 +81,12 @@ alike-was words args cs names news s t = alike-kept words args cs news names (λ
 -- The loop that makes a key.
 module _ (words args cs names : List ℕ) (h : ℕ) where
   -- the symbol
-  pub key-start : (name n : ℕ) → name ≡ nameOf words h → n ≡ countOf words h → ((name * 40503 % 65536 / 64 + n) % keys ≡ keyUpTo words args cs names h 0) × ((name * 40503 % 65536 / 64 + n) % keys < keys)
+  pub key-start : (name n : ℕ) → name ≡ nameOf words h → n ≡ countOf words h → ((name * 40503 % 65536 / 256 + n) % keys ≡ keyUpTo words args cs names h 0) × ((name * 40503 % 65536 / 256 + n) % keys < keys)
   unfolding keyUpTo
   key-start name n e d = (rw (e, d), mod-lt _ (omega arith))
 
   -- one argument more
-  pub key-next : (x j v w : ℕ) → x ≡ keyUpTo words args cs names h j → w ≡ v → v ≡ valueName cs names (argumentOf words args h j) → ((x * 31 + w + 1) % keys ≡ keyUpTo words args cs names h (j + 1)) × ((x * 31 + w + 1) % keys < keys)
+  pub key-next : (x j v w : ℕ) → x ≡ keyUpTo words args cs names h j → w ≡ v → v ≡ valueName cs names (argumentOf words args h j) → ((x * 157 + w + 1) % keys ≡ keyUpTo words args cs names h (j + 1)) × ((x * 157 + w + 1) % keys < keys)
   unfolding keyUpTo
   key-next x j v w e d f = (rw (add-one j, e, d, f), mod-lt _ (omega arith))
 

@@ -13,6 +13,7 @@ use Rattle.unification.specs.Computed.Unifying.{outcome}
 use Rattle.unification.specs.Code.Sections.{nodesFrom, Sections, symbolTest, differTest}
 use Rattle.unification.proofs.CountLaws.{in-list}
 use Rattle.unification.proofs.SectionLaws.{is-node, application-from, symbols-differ}
+use Rattle.unify.specs.Code.Open.{Counts}
 use Rattle.unify.specs.Code.Stands.{Formed, Stands}
 use Rattle.unify.proofs.ClosingLaws.{already, heads-clash, closed-at-last}
 use Rattle.unify.proofs.OrderedLaws.{ordered-unified}
@@ -28,14 +29,14 @@ differ-means words g h = pick (eqb (kindOf words g) 0) refl (eqb (kindOf words h
     pick false d false e true t q = absurd (false≢true q)
     pick false d false e false t q = (eqb-false _ _ d, eqb-false _ _ e, t)
 
-module _ (words args cs : List ℕ) (s : Sections words args) (f : Formed words args cs) where
+module _ (words args counts cs : List ℕ) (s : Sections words args) (f : Formed words args counts cs) where
   module _ (a b : ℕ) (p : a < nodeCount words) (q : b < nodeCount words) where
     -- one head: the classes stand for the longer list too
     pub together : classOf cs a ≡ classOf cs b → (ps : List (ℕ × ℕ)) → Stands words args cs ps → Stands words args cs ((a, b) ∷ ps)
     together e ps d =
         record {
-          inside = longer words args s cs f a b p q ps d;
-          closed = closed-at-last (nodesFrom words args) ((a, b) ∷ ps) cs (already (nodesFrom words args) ((a, b) ∷ ps) cs a b [] (in-list (f .partition) a p) (in-list (f .partition) b q) e (waiting words args s cs f a b p q ps d));
+          inside = longer words args counts s cs f a b p q ps d;
+          closed = closed-at-last (nodesFrom words args) ((a, b) ∷ ps) cs (already (nodesFrom words args) ((a, b) ∷ ps) cs a b [] (in-list (f .partition) a p) (in-list (f .partition) b q) e (waiting words args counts s cs f a b p q ps d));
         }
 
     -- applications of different symbols: a clash
@@ -44,8 +45,9 @@ module _ (words args cs : List ℕ) (s : Sections words args) (f : Formed words 
         let k = differ-means words (classOf cs a) (classOf cs b) t in
         let g = f .partition .below a p in
         let h = f .partition .below b q in
-        heads-clash (nodesFrom words args) ((a, b) ∷ ps) cs a b [] (is-node words args a p) (is-node words args b q) _ _ _ _ (application-from words args (classOf cs a) g (k .0)) (application-from words args (classOf cs b) h (k .1)) (symbols-differ words args s (classOf cs a) (classOf cs b) g h (k .2)) (waiting words args s cs f a b p q ps d)
+        heads-clash (nodesFrom words args) ((a, b) ∷ ps) cs a b [] (is-node words args a p) (is-node words args b q) _ _ _ _ (application-from words args (classOf cs a) g (k .0)) (application-from words args (classOf cs b) h (k .1)) (symbols-differ words args s (classOf cs a) (classOf cs b) g h (k .2)) (waiting words args counts s cs f a b p q ps d)
 
   -- classes stand for pairs that have a unifier
-  pub formed-unified : (ps : List (ℕ × ℕ)) → Stands words args cs ps → outcome (nodesFrom words args) ps ≡ unified
-  formed-unified ps d = ordered-unified words args s cs ps (d .inside) (d .closed) (f .order) (f .ordered)
+  pub formed-unified : Counts words args counts (nodeCount words) → (ps : List (ℕ × ℕ)) → Stands words args cs ps → outcome (nodesFrom words args) ps ≡ unified
+  formed-unified k ps d =
+      ordered-unified words args s counts k cs (f .partition) (f .closed) ps (d .inside) (d .closed) (f .order) (f .ordered)

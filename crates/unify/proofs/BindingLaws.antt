@@ -1,6 +1,6 @@
 -- The words that are found by names are the binding words: the least application with a name, or the least node of the lowest
 -- variable with it, as the variables present are listed in rising order. Assumes nothing.
-use Prim.Native.Nat.{ℕ, suc, _-_, _<_, _≤_}
+use Prim.Native.Nat.{ℕ, suc, _+_, _-_, _<_, _≤_}
 use mathlib.Core.List.{List, [], _∷_, _++_, map, List·Memᴰ, map-map}
 use mathlib.Core.Path.{_≡_, refl, sym, ap, _∙_}
 use native.Mathlib.Decide.{ℕ-discrete}
@@ -27,15 +27,18 @@ use Rattle.unification.proofs.FirstLaws.{node-of}
 use Rattle.unification.proofs.SectionLaws.{run, nodes-long, application-from, from-application, sections-well-formed, counted, is-node}
 use Rattle.unification.proofs.ValuedLaws.{names-decide}
 use Rattle.unification.proofs.ListLaws.{placed, map-at, first-long}
-use Rattle.unify.specs.Code.Stands.{Leaves}
+use Rattle.unify.specs.Code.Stands.{Formed, Leaves}
+use Rattle.unify.specs.Code.Open.{Counts}
 use Rattle.unify.specs.Code.Order.{Ordered}
-use Rattle.unify.specs.Code.Ordering.{Starting}
+use Rattle.unify.specs.Code.Ordering.{Starting, OpenListed}
 use Rattle.unify.specs.Code.Kept.{Writes}
 use Rattle.unify.specs.Code.Present.{leastNodes}
-use Rattle.unify.specs.Code.Named.{valueName, Named}
-use Rattle.unify.specs.Code.Binding.{HeadNames, IsFree, nameAt, ApplicationsFrom, FreeFrom, readAt, AreNodes, WordsFound}
+use Rattle.unify.specs.Code.Named.{valueName, Applied, Named}
+use Rattle.unify.specs.Code.Binding.{HeadNames, NamesLeast, IsFree, nameAt, ApplicationsNoted, FreeFrom, readAt, AreNodes, WordsFound}
 use Rattle.unify.proofs.OrderedLaws.{rank, ordered-enough, ordered-solved}
-use Rattle.unify.proofs.NamedLaws.{variable-name, named-valued}
+use Rattle.unify.proofs.AlikeLaws.{alike-back, alike-on}
+use Rattle.unify.proofs.NamedLaws.{variable-name, named-valued, head-alike}
+use Rattle.unify.proofs.NotingLaws.{noted-all}
 use Rattle.unify.proofs.LeastLaws.{member-place, rising-places, least-long}
 
 module _ (words args list : List ℕ) (e : list ≡ leastNodes (nodesFrom words args)) where
@@ -73,7 +76,7 @@ module _ (words args list : List ℕ) (e : list ≡ leastNodes (nodesFrom words 
             rw (list-at k (rw list-long at h)) (rw (nodes-long words args) at (l .holds .0));
       }
 
-  module _ (cs names : List ℕ) (m : HeadNames words args cs names) (ps : List (ℕ × ℕ)) (c : Closed ns ps (classOf cs)) (by all : List ℕ) (a : ApplicationsFrom words cs names by 0) (f : FreeFrom words cs names list by all 0) where
+  module _ (cs names : List ℕ) (m : HeadNames words args cs names) (ps : List (ℕ × ℕ)) (c : Closed ns ps (classOf cs)) (by all : List ℕ) (a : ApplicationsNoted words cs names by) (f : FreeFrom words cs names list by all 0) where
     -- What stands at the name of variable x is its word by names.
     abbrev IsFound : ℕ → Type 0
     IsFound x = IsNamed ns (classOf cs) (valueName cs names) x (word all (valueName cs names (nodeOf ns x)))
@@ -82,16 +85,15 @@ module _ (words args list : List ℕ) (e : list ≡ leastNodes (nodesFrom words 
     named-bound : (x i g : ℕ) (us : List ℕ) → i < length ns → nodeAt ns i ≡ variable x → nodeAt ns (classOf cs i) ≡ application g us → IsNamed ns (classOf cs) (valueName cs names) x (word all (valueName cs names i))
     named-bound x i g us p v d =
         let n = counted words args i p in
-        let b = m .readable .partition .below i n in
-        let k = from-application words args (classOf cs i) b g us d .0 in
-        let o : valueName cs names (classOf cs i) ≡ valueName cs names i = ap (word names) (m .readable .partition .own i n) in
-        let r = a .kept .kept (classOf cs i) (omega arith) b k in
-        let q : word all (valueName cs names i) ≡ r .0 = f .applied (valueName cs names i) (m .named .application i n k) ∙ ap (word by) (sym o) ∙ r .2 in
+        let k = from-application words args (classOf cs i) (m .readable .partition .below i n) g us d .0 in
+        let w = word by (valueName cs names i) in
+        let r = a .least i n k in
+        let q : word all (valueName cs names i) ≡ w = f .applied (valueName cs names i) (m .named .application i n k) in
         rw q
-        (bound {i = i} {f = g} {w = r .0} {us = us} p v d
+        (bound {i = i} {f = g} {w = w} {us = us} p v d
         (record {
-          holds = (nameOf words (r .0), run words args (r .0), is-node words args (r .0) (r .1 .holds .1), application-from words args (r .0) (r .1 .holds .1) (r .1 .holds .2), r .1 .holds .3 ∙ o);
-          least = λ j t. r .1 .least j (omega arith, counted words args j (t .2), from-application words args j (counted words args j (t .2)) (t .0) (t .1) (t .3) .0, t .4 ∙ sym o);
+          holds = (nameOf words w, run words args w, is-node words args w (r .holds .0), application-from words args w (r .holds .0) (r .holds .1), r .holds .2);
+          least = λ j t. r .least j (counted words args j (t .2), from-application words args j (counted words args j (t .2)) (t .0) (t .1) (t .3) .0, t .4);
         }))
 
     -- where it is a variable
@@ -173,14 +175,24 @@ module _ (words args list : List ℕ) (e : list ≡ leastNodes (nodesFrom words 
 pub heads-named : (words args cs names : List ℕ) → Named words args cs names → Sections words args → Partition (nodeCount words) cs → length names ≡ nodeCount words → HeadNames words args cs names
 heads-named words args cs names m s p l = record { readable = record { sections = s; partition = p; long = l }; named = m }
 
+-- the name of an application names itself
+pub name-itself : (words args counts cs names : List ℕ) → HeadNames words args cs names → NamesLeast words args counts cs names → (ps : List (ℕ × ℕ)) → Closed (nodesFrom words args) ps (classOf cs) → (i : ℕ) → i < nodeCount words → Applied words cs i → valueName cs names (valueName cs names i) ≡ valueName cs names i
+name-itself words args counts cs names m t ps c i h n =
+    let v = valueName cs names i in
+    let l = m .named .node i h in
+    let x = head-alike words args cs names (m .readable .sections) (m .readable .partition) ps c v l (m .named .application i h n) in
+    sym (m .named .composed i v h l n (x .0) (alike-on (alike-back (t .alike i h n)) (x .1)))
+
 -- the words found are the binding words
-pub found-leaves : (words args cs order names list out out′ : List ℕ) → WordsFound words cs names list out out′ → HeadNames words args cs names → Ordered words args cs order → list ≡ leastNodes (nodesFrom words args) → Leaves words args cs out out′
-found-leaves words args cs order names list out out′ f m o e ps t =
+pub found-leaves : (words args counts cs names opens list out out′ : List ℕ) → WordsFound words cs names opens list out out′ → HeadNames words args cs names → NamesLeast words args counts cs names → Counts words args counts (nodeCount words) → OpenListed words counts opens → Formed words args counts cs → list ≡ leastNodes (nodesFrom words args) → Leaves words args cs out out′
+found-leaves words args counts cs names opens list out out′ f m l k o g e ps t =
     let s = m .readable .sections in
+    let p = m .readable .partition in
     let h = t .inside in
     let c = t .closed in
-    let d : wordsOf (nodesFrom words args) ps ≡ readAt cs names (f .all) list = names-decide (nodesFrom words args) (sections-well-formed words args s) ps h (classOf cs) (rank words order) (ordered-solved words args s cs ps h c order o) (suc (length order)) (ordered-enough words args s cs ps h c order o) (valueName cs names) (named-valued words args cs names s (m .readable .partition) (m .named)) (readAt cs names (f .all) list) (named-read words args list e cs names m ps c (f .applications) (f .all) (f .applied) (f .free)) in
-    f .words-read ∙ ap (λ (l : List ℕ). l ++ drop (length list) out) (sym d) ∙ ap (λ (n : ℕ). wordsOf (nodesFrom words args) ps ++ drop n out) (ap length e ∙ least-long words args)
+    let a = noted-all words args cs names m opens counts (f .applications) o l (name-itself words args counts cs names m l ps c) (f .noted) in
+    let d : wordsOf (nodesFrom words args) ps ≡ readAt cs names (f .all) list = names-decide (nodesFrom words args) (sections-well-formed words args s) ps h (classOf cs) (rank words counts (g .order)) (ordered-solved words args s counts k cs p (g .closed) ps h c (g .order) (g .ordered)) (suc (nodeCount words + suc (length (g .order)))) (ordered-enough words args s counts k cs p (g .closed) ps h c (g .order) (g .ordered)) (valueName cs names) (named-valued words args cs names s p (m .named)) (readAt cs names (f .all) list) (named-read words args list e cs names m ps c (f .applications) (f .all) a (f .free)) in
+    f .words-read ∙ ap (λ (n : List ℕ). n ++ drop (length list) out) (sym d) ∙ ap (λ (n : ℕ). wordsOf (nodesFrom words args) ps ++ drop n out) (ap length e ∙ least-long words args)
 
 -- the search for an order starts with no node placed
 pub nothing-placed : (n m : ℕ) → n ≡ m → n ≤ maxNodes → Starting m (take (n - 0) (replicate maxNodes 0)) (take (n - 0) (replicate maxNodes 0))
@@ -192,8 +204,8 @@ nothing-placed n m e l =
     }
 
 -- the order is the first part of a longer list
-pub ordered-part : (words args cs xs ys : List ℕ) (k : ℕ) → k ≤ length xs → Ordered words args cs (take k xs) → Ordered words args cs (take (k - 0) (xs ++ ys))
-ordered-part words args cs xs ys k h o = rw (sub-zero k, take-append-le k xs ys h) o
+pub ordered-part : (words args : List ℕ) (due : ℕ → ℕ) (cs xs ys : List ℕ) (k : ℕ) → k ≤ length xs → Ordered words args due cs (take k xs) → Ordered words args due cs (take (k - 0) (xs ++ ys))
+ordered-part words args due cs xs ys k h o = rw (sub-zero k, take-append-le k xs ys h) o
 
 -- where no variable is present there are no words, and nothing is written
 pub leaves-nothing : (words args cs list out : List ℕ) → list ≡ leastNodes (nodesFrom words args) → length list ≡ 0 → Leaves words args cs out out

@@ -12,6 +12,7 @@ use lib.ListN.{length, take}
 use Rattle.table.specs.declared.Refusal.{Refusal}
 use Rattle.table.specs.declared.Checked.{Checked}
 use Rattle.table.specs.Answer as table
+use Rattle.table.specs.Limits.{maxNodes}
 use Rattle.table.specs.Layout.{nodeCount}
 use Rattle.table.specs.Answer.{numberOf}
 use Rattle.table.specs.Refusal.{conditions, refusal}
@@ -37,6 +38,7 @@ use Rattle.unification.proofs.PairLaws.{same-unifiers}
 use Rattle.unification.proofs.AnswerLaws.{words-counted, refused-exactly, answered-exactly, unified-readable, unified-reading, clash-fails, occurs-fails}
 use Rattle.unify.specs.declared.Variables.{Variables}
 use Rattle.unify.specs.declared.Extended.{Extended}
+use Rattle.unify.specs.Code.Circle.{HeadsFirst}
 use Rattle.unify.specs.Code.Present.{leastNodes}
 use Rattle.unify.specs.Code.Stands.{Stands, extended, Extends, Lists, Leaves, BeginsShared}
 use Rattle.unify.specs.Code.Calling.{called, Answers}
@@ -125,7 +127,7 @@ module _ (words args : List ℕ) (s : Sections words args) (a b : ℕ) (h : (a <
       either x y u (inr m) = g .same σ x y m
 
   -- Enough words are lent, and the classes are extended by the pair.
-  module _ (l : v .count ≤ length lent) (r : Extended) (cs′ : List ℕ) (x : Extends words args cs a b r cs′) where
+  module _ (l : v .count ≤ length lent) (counts : List ℕ) (r : Extended) (cs′ next′ : List ℕ) (x : Extends words args counts cs a b r cs′ next′) where
     -- what unifying the two nodes comes to
     comes : extended r ≡ outcome ns ((a, b) ∷ [])
     comes =
@@ -167,6 +169,10 @@ module _ (words args : List ℕ) (s : Sections words args) (a b : ℕ) (h : (a <
       answers-unified lent′ w =
           answers-ended Unification.Unified lent′ (rw e)
           (rw (e, ← one-words, words-counted ns ((a, b) ∷ g .pairs)) (w ((a, b) ∷ g .pairs) unified-stands))
+
+-- what putting the members of each class into a circle asks, where there is room for m of them
+pub circles-ready : (n : ℕ) (cs : List ℕ) (m : ℕ) → n ≤ maxNodes → length cs ≡ n → m ≡ n → HeadsFirst n cs → (m ≡ length cs) × HeadsFirst (length cs) cs × (length cs ≤ maxNodes)
+circles-ready n cs m b e d h = (d ∙ sym e, rw e h, omega (arith, b, e))
 
 -- the least nodes of the variables present, for which enough words are lent
 pub list-given : (words args : List ℕ) (v : Variables) (n : ℕ) → Lists words args v → v .count ≤ n → (take (v .count - 0) (v .nodes) ≡ leastNodes (nodesFrom words args)) × (length (take (v .count - 0) (v .nodes)) ≤ n)

@@ -1,5 +1,5 @@
--- The table of representatives after one more place: it stays as it is, or a new representative is put in front of those with its
--- key. Assumes nothing.
+-- The table of representatives by other names, and after one more place: it stays as it is, or a new representative is put in front of
+-- those with its key. Assumes nothing.
 use Prim.Native.Nat.{ℕ, suc, _+_, _<_}
 use mathlib.Core.List.{List}
 use mathlib.Core.Path.{_≡_, sym, ap, _∙_}
@@ -12,23 +12,33 @@ use Rattle.unify.specs.Code.Naming.{keys, Chained}
 
 -- The table after place p by other names that keep the representatives before p and their keys.
 module _ (old new : ℕ → Type 0) (old-key new-key : ℕ → ℕ) (buckets earlier : List ℕ) (p : ℕ) (kept : (q : ℕ) → q < p → old q → new q) (was : (q : ℕ) → q < p → new q → old q) (one-key : (q : ℕ) → q < p → new-key q ≡ old-key q) (s : Chained old old-key buckets earlier p) where
+  -- the table before p stays
+  pub chained-same : Chained new new-key buckets earlier p
+  chained-same =
+      record {
+        bucket-reaches = λ q l r. rw (one-key q l) (s .bucket-reaches q l (was q l r));
+        bucket-is = λ x b h e.
+            let t = s .bucket-is x b h e in
+            (t .0, kept b (t .0) (t .1), one-key b (t .0) ∙ t .2);
+        earlier-reaches = λ r q l m rr rq k.
+            let o : r < p = omega (arith, l, m) in
+            s .earlier-reaches r q l m (was r o rr) (was q m rq) (sym (one-key r o) ∙ k ∙ one-key q m);
+        earlier-is = λ q b m r e.
+            let t = s .earlier-is q b m (was q m r) e in
+            let o : b < p = omega (arith, t .0, m) in
+            (t .0, kept b o (t .1), one-key b o ∙ t .2 ∙ sym (one-key q m));
+      }
+
   -- no representative stands at p
   pub chained-skip : (new p → ⊥) → Chained new new-key buckets earlier (p + 1)
   chained-skip n =
       record {
-        bucket-reaches = λ q h r. let l = not-last q h r in rw (one-key q l) (s .bucket-reaches q l (was q l r));
+        bucket-reaches = λ q h r. chained-same .bucket-reaches q (not-last q h r) r;
         bucket-is = λ x b h e.
-            let t = s .bucket-is x b h e in
-            (omega (arith, t .0), kept b (t .0) (t .1), one-key b (t .0) ∙ t .2);
-        earlier-reaches = λ r q l h rr rq k.
-            let m = not-last q h rq in
-            let o : r < p = omega (arith, l, m) in
-            s .earlier-reaches r q l m (was r o rr) (was q m rq) (sym (one-key r o) ∙ k ∙ one-key q m);
-        earlier-is = λ q b h r e.
-            let m = not-last q h r in
-            let t = s .earlier-is q b m (was q m r) e in
-            let o : b < p = omega (arith, t .0, m) in
-            (t .0, kept b o (t .1), one-key b o ∙ t .2 ∙ sym (one-key q m));
+            let t = chained-same .bucket-is x b h e in
+            (omega (arith, t .0), t .1, t .2);
+        earlier-reaches = λ r q l h rr rq k. chained-same .earlier-reaches r q l (not-last q h rq) rr rq k;
+        earlier-is = λ q b h r e. chained-same .earlier-is q b (not-last q h r) r e;
       }
     where
       not-last : (q : ℕ) → q < p + 1 → new q → q < p

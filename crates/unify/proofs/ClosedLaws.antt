@@ -1,66 +1,81 @@
--- A node is closed if it is an application and its arguments are: its value is made of theirs. Assumes nothing.
-use Prim.Native.Nat.{ℕ, _+_, _≤_, _<_}
-use mathlib.Core.Bool.{Bool, false}
+-- Closed applications by their terms: a node of the term of one is one, so classes in which nodes of one term are together give them
+-- closed heads. Assumes nothing.
+use Prim.Native.Nat.{ℕ, zero, suc, _≤_, _<_}
 use mathlib.Core.List.{List}
-use mathlib.Core.Path.{_≡_, sym, ap, _∙_}
-use native.Mathlib.Decide.{ℕ-discrete}
+use mathlib.Core.Path.{_≡_, refl, sym, _∙_}
 use native.Mathlib.Omega.{arith}
-use borrow.Author.Tests.{eqb-false}
-use lib.Dec.{eqb}
-use lib.ListN.{length, set, length-set}
-use lib.Seq.{getD-set-same, getD-set-other}
-use Rattle.table.specs.Layout.{word, kindOf, nameOf, countOf, nodeCount, argumentOf}
-use Rattle.terms.specs.Term.{app}
+use Rattle.table.specs.Layout.{kindOf, nameOf, countOf, nodeCount, argumentOf}
+use Rattle.terms.specs.Term.{var, app}
+use Rattle.unification.specs.Node.{Node, each}
 use Rattle.unification.specs.Unifier.{value}
+use Rattle.unification.specs.Computed.Classes.{classOf}
+use Rattle.unification.specs.Code.Given.{WellFormed}
 use Rattle.unification.specs.Code.Sections.{Sections, nodesFrom}
-use Rattle.unification.proofs.NodeLaws.{each-same, value-application}
-use Rattle.unification.proofs.SectionLaws.{run, is-node, application-from, argument-place, sections-well-formed}
-use Rattle.unify.specs.Code.Stands.{IsClosed, MarkedAt, MarksClosed}
+use Rattle.unification.specs.Code.Heads.{Partition}
+use Rattle.unification.proofs.NodeLaws.{each-long, each-at, value-variable, value-application}
+use Rattle.unification.proofs.SectionLaws.{run, run-long, pair-place, is-node, variable-from, application-from, sections-well-formed}
+use Rattle.unify.specs.Code.Open.{Marked, Counts, ClosedHeads}
 
--- The first j arguments of node i are closed.
-pub record ClosedBefore (words args : List ℕ) (i j : ℕ) : Type 0 where
-  pub closed : (q : ℕ) → q < j → IsClosed words args (argumentOf words args i q)
+module _ (words args : List ℕ) (s : Sections words args) (counts : List ℕ) (c : Counts words args counts (nodeCount words)) where
+  abbrev ns : List Node
+  ns = nodesFrom words args
 
--- at first none is asked for
-pub closed-none : (words args : List ℕ) (i : ℕ) → ClosedBefore words args i 0
-closed-none words args i = record { closed = λ q h. absurd (omega arith) }
+  w : WellFormed ns
+  w = sections-well-formed words args s
 
--- one argument more, by its mark
-pub closed-next : (words args closed : List ℕ) (i n j k : ℕ) → Sections words args → i < nodeCount words → n ≡ countOf words i → j < n → MarksClosed words args closed i → ClosedBefore words args i j → k ≡ argumentOf words args i j → (word closed k ≡ 0 → ⊥) → ClosedBefore words args i (j + 1)
-closed-next words args closed i n j k s h c p m b e z = record { closed = λ q r. go q r (ℕ-discrete q j) }
-  where
-    go : (q : ℕ) → q < j + 1 → Dec (q ≡ j) → IsClosed words args (argumentOf words args i q)
-    go q r (yes x) = rw (x, ← e) (m .marks k (rw e (s .smaller i j h (omega arith))) z)
-    go q r (no x) = b .closed q (omega arith)
+  -- the term of an application
+  term : (i : ℕ) → i < nodeCount words → (kindOf words i ≡ 0 → ⊥) → value ns var i ≡ app (nameOf words i) (each (value ns var) (run words args i))
+  term i h k =
+      value-application ns w var i (nameOf words i) (run words args i) (is-node words args i h) (application-from words args i h k)
 
--- an application with closed arguments is closed
-application-closed : (words args : List ℕ) (i : ℕ) → Sections words args → i < nodeCount words → (kindOf words i ≡ 0 → ⊥) → ((q : ℕ) → q < countOf words i → IsClosed words args (argumentOf words args i q)) → IsClosed words args i
-application-closed words args i s h k b σ τ =
-    let w = sections-well-formed words args s in
-    let p = is-node words args i h in
-    let e = application-from words args i h k in
-    value-application (nodesFrom words args) w σ i (nameOf words i) (run words args i) p e
-    ∙ ap (app (nameOf words i)) (each-same (value (nodesFrom words args) σ) (value (nodesFrom words args) τ) (run words args i) (λ a m. let r = argument-place words args s i h (nameOf words i) (run words args i) e a m in rw (r .2) (b (r .0) (r .1) σ τ)))
-    ∙ sym (value-application (nodesFrom words args) w τ i (nameOf words i) (run words args i) p e)
+  -- a node of the term of an application is one
+  applied-same : (i j : ℕ) → i < nodeCount words → j < nodeCount words → (kindOf words i ≡ 0 → ⊥) → value ns var i ≡ value ns var j → kindOf words j ≡ 0 → ⊥
+  applied-same i j h l k e z =
+      let d : app (nameOf words i) (each (value ns var) (run words args i)) ≡ var (nameOf words j) = sym (term i h k) ∙ e ∙ value-variable ns w var j (nameOf words j) (is-node words args j l) (variable-from words args j l z) in
+      let y : _≡_ {A = ℕ} 0 1 = cc in
+      omega arith
 
--- so it is once every argument was asked for
-pub closed-node : (words args : List ℕ) (i n j : ℕ) (v : Bool) → Sections words args → i < nodeCount words → v ≡ eqb (kindOf words i) 0 → v ≡ false → n ≡ countOf words i → n ≤ j → ClosedBefore words args i j → IsClosed words args i
-closed-node words args i n j v s h e f c p b =
-    application-closed words args i s h (eqb-false (kindOf words i) 0 (sym e ∙ f)) (λ q r. b .closed q (omega arith))
+  -- applications of one term have as many arguments
+  record SameArguments (i j : ℕ) : Type 0 where
+    count : countOf words i ≡ countOf words j
+    same : (q : ℕ) → q < countOf words j → value ns var (argumentOf words args i q) ≡ value ns var (argumentOf words args j q)
 
--- at first no node is marked
-pub marks-none : (words args closed : List ℕ) → length closed ≡ nodeCount words → MarksClosed words args closed 0
-marks-none words args closed e = record { long = e; marks = λ i h. absurd (omega arith) }
+  -- and arguments of the same terms
+  same-arguments : (i j : ℕ) → i < nodeCount words → j < nodeCount words → (kindOf words i ≡ 0 → ⊥) → (kindOf words j ≡ 0 → ⊥) → value ns var i ≡ value ns var j → SameArguments i j
+  same-arguments i j h l k m e =
+      let d : app (nameOf words i) (each (value ns var) (run words args i)) ≡ app (nameOf words j) (each (value ns var) (run words args j)) = sym (term i h k) ∙ e ∙ term j l m in
+      let a : each (value ns var) (run words args i) ≡ each (value ns var) (run words args j) = cc in
+      let n : countOf words i ≡ countOf words j = sym (run-long words args s i h) ∙ each-long (value ns var) (value ns var) (run words args i) (run words args j) a ∙ run-long words args s j l in
+      record {
+        count = n;
+        same = λ q b. each-at (value ns var) (value ns var) (run words args i) (run words args j) a (argumentOf words args i q) (argumentOf words args j q) (pair-place words args s i j h l (argumentOf words args i q) (argumentOf words args j q) .1 (q, rw n b, b, refl, refl));
+      }
 
--- one node more
-pub marks-next : (words args closed : List ℕ) (i r : ℕ) → i < nodeCount words → MarksClosed words args closed i → MarkedAt words args i r → MarksClosed words args (set closed i r) (i + 1)
-marks-next words args closed i r h m n =
-    record { long = length-set closed i r ∙ m .long; marks = λ q p. go q p (ℕ-discrete q i) }
-  where
-    go : (q : ℕ) → q < i + 1 → Dec (q ≡ i) → MarkedAt words args q (word (set closed i r) q)
-    go q p (yes x) = let l = m .long in rw (x, getD-set-same closed i r 0 (omega (arith, l))) n
-    go q p (no x) = rw (getD-set-other closed i q r 0 x) (m .marks q (omega arith))
+  -- a node of the term of a closed application is one
+  closed-same : (n i j : ℕ) → i < n → Marked words counts i → j < nodeCount words → value ns var i ≡ value ns var j → Marked words counts j
+  closed-same zero i j b m l e = absurd (omega arith)
+  closed-same (suc n) i j b m l e =
+      record { node = l; applied = k; none = c .above j l (argument (λ g h. closed-same n g h)) }
+    where
+      k : kindOf words j ≡ 0 → ⊥
+      k = applied-same i j (m .node) l (m .applied) e
 
--- the marks of as many nodes as there are
-pub marks-end : (words args closed : List ℕ) (i n : ℕ) → n ≡ nodeCount words → i ≤ n → n ≤ i → MarksClosed words args closed i → MarksClosed words args closed (nodeCount words)
-marks-end words args closed i n c a b m = let e : nodeCount words ≡ i = omega arith in rw e m
+      a : SameArguments i j
+      a = same-arguments i j (m .node) l (m .applied) k e
+
+      argument : ((g h : ℕ) → g < n → Marked words counts g → h < nodeCount words → value ns var g ≡ value ns var h → Marked words counts h) → (q : ℕ) → q < countOf words j → Marked words counts (argumentOf words args j q)
+      argument below q t =
+          let u : q < countOf words i = rw (a .count) t in
+          let x = s .smaller i q (m .node) u in
+          let y = s .smaller j q l t in
+          below (argumentOf words args i q) (argumentOf words args j q) (omega (arith, x)) (c .below i (m .node) m q u) (omega (arith, y)) (a .same q t)
+
+  -- closed heads, where heads are not after their nodes and nodes have one head exactly if they have one term
+  pub heads-closed : (cs : List ℕ) → Partition (nodeCount words) cs → ((i : ℕ) → i < nodeCount words → classOf cs i ≤ i) → ((i : ℕ) → i < nodeCount words → value (nodesFrom words args) var i ≡ value (nodesFrom words args) var (classOf cs i)) → ((i j : ℕ) → i < nodeCount words → j < nodeCount words → value (nodesFrom words args) var i ≡ value (nodesFrom words args) var j → classOf cs i ≡ classOf cs j) → ClosedHeads words args counts cs
+  heads-closed cs p low valued shared =
+      record {
+        closed = λ i m. closed-same (suc i) i (classOf cs i) (omega arith) m (p .below i (m .node)) (valued i (m .node));
+        least = λ i m. low i (m .node);
+        valued = λ i m. sym (valued i (m .node));
+        shared = λ i j m k e. shared i j (m .node) (k .node) e;
+      }

@@ -20,17 +20,19 @@ use Rattle.unification.proofs.ListLaws.{zip-right, zip-through}
 use Rattle.unification.proofs.JoinedLaws.{more-joined, joined-inside}
 use Rattle.unification.proofs.SolvedLaws.{closed-inside, joined-head}
 use Rattle.unification.proofs.SectionLaws.{is-node, counted, argument-place, sections-well-formed}
+use Rattle.unify.specs.Code.Open.{Counts, ClosedHeads}
 use Rattle.unify.specs.Code.Order.{Met, leaf, before, Listed, Ordered, OrderedBelow}
+use Rattle.unify.proofs.OrderedLaws.{looked-node, closed-argument}
 
 -- what is met before a place is met before a later one
-met-later : (words order : List ℕ) (p r g : ℕ) → p ≤ r → Met words order p g → Met words order r g
-met-later words order p r g l (leaf e) = leaf e
-met-later words order p r g l (before q k e) = before q (omega arith) e
+met-later : (due : ℕ → ℕ) (order : List ℕ) (p r g : ℕ) → p ≤ r → Met due order p g → Met due order r g
+met-later due order p r g l (leaf e) = leaf e
+met-later due order p r g l (before q k e) = before q (omega arith) e
 
 -- and in a longer list
-met-longer : (words order : List ℕ) (h p g : ℕ) → p ≤ length order → Met words order p g → Met words (order ++ (h ∷ [])) p g
-met-longer words order h p g l (leaf e) = leaf e
-met-longer words order h p g l (before q k e) = before q k (List·getD-append order (h ∷ []) 0 q (omega arith) ∙ e)
+met-longer : (due : ℕ → ℕ) (order : List ℕ) (h p g : ℕ) → p ≤ length order → Met due order p g → Met due (order ++ (h ∷ [])) p g
+met-longer due order h p g l (leaf e) = leaf e
+met-longer due order h p g l (before q k e) = before q k (List·getD-append order (h ∷ []) 0 q (omega arith) ∙ e)
 
 -- whether a number stands in a list
 stands : (order : List ℕ) (h : ℕ) → Dec ((q : ℕ) × (q < length order) × (word order q ≡ h))
@@ -47,8 +49,8 @@ stands (g ∷ order) h = go (ℕ-discrete g h) (stands order h)
         nowhere (suc q) l e = m (q, omega arith, e)
 
 -- one node more behind an order
-listed-more : (words args cs order : List ℕ) → Listed words args cs order → (h : ℕ) → h < nodeCount words → 0 < countOf words h → ((q : ℕ) → q < length order → word order q ≡ h → ⊥) → ((j : ℕ) → j < countOf words h → Met words order (length order) (classOf cs (argumentOf words args h j))) → Listed words args cs (order ++ (h ∷ []))
-listed-more words args cs order l h inside some new first = record { node = node; compound = compound; once = once; first = λ p q. firsts p q (at p q) }
+listed-more : (words args : List ℕ) (due : ℕ → ℕ) (cs order : List ℕ) → Listed words args due cs order → (h : ℕ) → h < nodeCount words → 0 < due h → ((q : ℕ) → q < length order → word order q ≡ h → ⊥) → ((j : ℕ) → j < due h → Met due order (length order) (classOf cs (argumentOf words args h j))) → Listed words args due cs (order ++ (h ∷ []))
+listed-more words args due cs order l h inside some new first = record { node = node; compound = compound; once = once; first = λ p q. firsts p q (at p q) }
   where
     longer : length (order ++ (h ∷ [])) ≡ suc (length order)
     longer = let e = length-append order (h ∷ []) in omega (arith, e)
@@ -73,10 +75,10 @@ listed-more words args cs order l h inside some new first = record { node = node
         go (inl r) = rw (old p r) (l .node p r)
         go (inr r) = rw (r, last) inside
 
-    compound : (p : ℕ) → p < length (order ++ (h ∷ [])) → 0 < countOf words (word (order ++ (h ∷ [])) p)
+    compound : (p : ℕ) → p < length (order ++ (h ∷ [])) → 0 < due (word (order ++ (h ∷ [])) p)
     compound p q = go (at p q)
       where
-        go : (p < length order) ⊎ (p ≡ length order) → 0 < countOf words (word (order ++ (h ∷ [])) p)
+        go : (p < length order) ⊎ (p ≡ length order) → 0 < due (word (order ++ (h ∷ [])) p)
         go (inl r) = rw (old p r) (l .compound p r)
         go (inr r) = rw (r, last) some
 
@@ -87,9 +89,9 @@ listed-more words args cs order l h inside some new first = record { node = node
         go (inl r) = l .once p q k r (sym (old p (omega arith)) ∙ e ∙ old q r)
         go (inr r) = new p (omega arith) (sym (old p (omega arith)) ∙ e ∙ ap (word (order ++ (h ∷ []))) r ∙ last)
 
-    firsts : (p : ℕ) → p < length (order ++ (h ∷ [])) → (p < length order) ⊎ (p ≡ length order) → (j : ℕ) → j < countOf words (word (order ++ (h ∷ [])) p) → Met words (order ++ (h ∷ [])) p (classOf cs (argumentOf words args (word (order ++ (h ∷ [])) p) j))
-    firsts p q (inl r) = rw (old p r) (λ j b. met-longer words order h p _ (omega arith) (l .first p r j b))
-    firsts p q (inr r) = rw (r, last) (λ j b. met-longer words order h (length order) _ (omega arith) (first j b))
+    firsts : (p : ℕ) → p < length (order ++ (h ∷ [])) → (p < length order) ⊎ (p ≡ length order) → (j : ℕ) → j < due (word (order ++ (h ∷ [])) p) → Met due (order ++ (h ∷ [])) p (classOf cs (argumentOf words args (word (order ++ (h ∷ [])) p) j))
+    firsts p q (inl r) = rw (old p r) (λ j b. met-longer due order h p _ (omega arith) (l .first p r j b))
+    firsts p q (inr r) = rw (r, last) (λ j b. met-longer due order h (length order) _ (omega arith) (first j b))
 
 module _ (words args : List ℕ) (s : Sections words args) (ps : List (ℕ × ℕ)) (inside : Inside (nodesFrom words args) ps) (a b : ℕ) (inside′ : Inside (nodesFrom words args) ((a, b) ∷ ps)) (old : List ℕ) (c : Closed (nodesFrom words args) ps (classOf old)) (cs : List ℕ) (c′ : Closed (nodesFrom words args) ((a, b) ∷ ps) (classOf cs)) where
   abbrev ns : List Node
@@ -101,15 +103,24 @@ module _ (words args : List ℕ) (s : Sections words args) (ps : List (ℕ × �
       joined-head ns (sections-well-formed words args s) ((a, b) ∷ ps) inside′ (classOf cs) c′
       (more-joined ((a, b) ∷ ps) (λ r m. List·Memᴰ·tail m) (on (rw e at (c .joined i p)) (back (c .joined j q))))
 
-  module _ (below : OrderedBelow words args cs a) where
+  module _ (counts : List ℕ) (k : Counts words args counts (nodeCount words)) (closed : ClosedHeads words args counts cs) (below : OrderedBelow words args (word counts) cs a) where
     -- The head of node i is met in the order of what the pair leads to.
     abbrev Reached : ℕ → Type 0
-    Reached i = Met words (below .order) (length (below .order)) (classOf cs i)
+    Reached i = Met (word counts) (below .order) (length (below .order)) (classOf cs i)
 
-    reached-argument : (g : ℕ) → Met words (below .order) (length (below .order)) g → (j : ℕ) → j < countOf words g → Reached (argumentOf words args g j)
-    reached-argument g (leaf e) j k = absurd (omega arith)
-    reached-argument g (before q l e) j k =
-        met-later words (below .order) q (length (below .order)) (classOf cs (argumentOf words args g j)) (omega arith) (rw e at (below .listed .first q l) j k)
+    -- an argument of a node that is met, if it is looked at
+    looked-reached : (g : ℕ) → Met (word counts) (below .order) (length (below .order)) g → (j : ℕ) → j < word counts g → Reached (argumentOf words args g j)
+    looked-reached g (leaf e) j l = absurd (omega arith)
+    looked-reached g (before q b e) j l =
+        met-later (word counts) (below .order) q (length (below .order)) (classOf cs (argumentOf words args g j)) (omega arith) (rw e at (below .listed .first q b) j l)
+
+    -- any argument: that of a closed application has a closed head
+    reached-argument : (g : ℕ) → g < nodeCount words → Met (word counts) (below .order) (length (below .order)) g → (j : ℕ) → j < countOf words g → Reached (argumentOf words args g j)
+    reached-argument g n m j l = go (k .some g n)
+      where
+        go : (word counts g ≡ 0) ⊎ (word counts g ≡ countOf words g) → Reached (argumentOf words args g j)
+        go (inl e) = leaf (closed .closed _ (closed-argument words args s counts k g j n l e) .none)
+        go (inr e) = looked-reached g m j (omega (arith, e, l))
 
     -- Nodes i and j had one head, or have one that is reached.
     abbrev Together : ℕ → ℕ → Type 0
@@ -146,7 +157,7 @@ module _ (words args : List ℕ) (s : Sections words args) (ps : List (ℕ × �
             let t = zip-through us (h .arguments) vs (h .as-long) (sym (h .as-long) ∙ l) x y m in
             let g : classOf cs i < nodeCount words = counted words args (classOf cs i) (closed-inside ns (sections-well-formed words args s) ((a, b) ∷ ps) inside′ (classOf cs) c′ i p) in
             let q = argument-place words args s (classOf cs i) g f (h .arguments) (h .applied) (t .0) (zip-right us (h .arguments) x (t .0) (t .1)) in
-            reached-same (argumentOf words args (classOf cs i) (q .0)) x (ap (classOf cs) (sym (q .2)) ∙ sym (h .one-head x (t .0) (t .1))) (reached-argument (classOf cs i) r (q .0) (q .1))
+            reached-same (argumentOf words args (classOf cs i) (q .0)) x (ap (classOf cs) (sym (q .2)) ∙ sym (h .one-head x (t .0) (t .1))) (reached-argument (classOf cs i) g r (q .0) (q .1))
 
     -- joined nodes are
     joined-together : {i j : ℕ} → Joined ns ((a, b) ∷ ps) i j → Together i j
@@ -183,18 +194,18 @@ module _ (words args : List ℕ) (s : Sections words args) (ps : List (ℕ × �
           go (inl e) = inl (e ∙ heads i p)
           go (inr (x, y, e)) = inr x
 
-      module _ (earlier : List ℕ) (o : Ordered words args old earlier) where
+      module _ (earlier : List ℕ) (o : Ordered words args (word counts) old earlier) where
         -- An order that has all that is reached, and the first p of the order before that are heads still.
         record Mended (p : ℕ) (order : List ℕ) : Type 0 where
-          listed : Listed words args cs order
-          reached : (g : ℕ) → Met words (below .order) (length (below .order)) g → Met words order (length order) g
-          kept : (q : ℕ) → q < p → classOf cs (word earlier q) ≡ word earlier q → Met words order (length order) (word earlier q)
+          listed : Listed words args (word counts) cs order
+          reached : (g : ℕ) → Met (word counts) (below .order) (length (below .order)) g → Met (word counts) order (length order) g
+          kept : (q : ℕ) → q < p → classOf cs (word earlier q) ≡ word earlier q → Met (word counts) order (length order) (word earlier q)
 
         -- what was met before place p is met
-        mended-met : (p : ℕ) (order : List ℕ) → Mended p order → (i : ℕ) → i < nodeCount words → Met words earlier p (classOf old i) → Met words order (length order) (classOf cs i)
+        mended-met : (p : ℕ) (order : List ℕ) → Mended p order → (i : ℕ) → i < nodeCount words → Met (word counts) earlier p (classOf old i) → Met (word counts) order (length order) (classOf cs i)
         mended-met p order m i l t = go (kept-or-reached i l) t
           where
-            go : (classOf old i ≡ classOf cs i) ⊎ Reached i → Met words earlier p (classOf old i) → Met words order (length order) (classOf cs i)
+            go : (classOf old i ≡ classOf cs i) ⊎ Reached i → Met (word counts) earlier p (classOf old i) → Met (word counts) order (length order) (classOf cs i)
             go (inr r) u = m .reached (classOf cs i) r
             go (inl e) (leaf z) = leaf (rw e at z)
             go (inl e) (before q k z) =
@@ -206,10 +217,10 @@ module _ (words args : List ℕ) (s : Sections words args) (ps : List (ℕ × �
         mended-none = record { listed = below .listed; reached = λ g m. m; kept = λ q l. absurd (omega arith) }
 
         -- what stands at a place is no head any more, or is met
-        mended-passed : (p : ℕ) (order : List ℕ) → Mended p order → (classOf cs (word earlier p) ≡ word earlier p → Met words order (length order) (word earlier p)) → Mended (suc p) order
+        mended-passed : (p : ℕ) (order : List ℕ) → Mended p order → (classOf cs (word earlier p) ≡ word earlier p → Met (word counts) order (length order) (word earlier p)) → Mended (suc p) order
         mended-passed p order m t = record { listed = m .listed; reached = m .reached; kept = λ q l. go q l (decLt q p) }
           where
-            go : (q : ℕ) → q < suc p → Dec (q < p) → classOf cs (word earlier q) ≡ word earlier q → Met words order (length order) (word earlier q)
+            go : (q : ℕ) → q < suc p → Dec (q < p) → classOf cs (word earlier q) ≡ word earlier q → Met (word counts) order (length order) (word earlier q)
             go q l (yes k) = m .kept q k
             go q l (no k) = let e : q ≡ p = omega arith in rw e t
 
@@ -218,7 +229,7 @@ module _ (words args : List ℕ) (s : Sections words args) (ps : List (ℕ × �
         mended-put p order l m new =
             mended-passed p (order ++ (word earlier p ∷ []))
             (record {
-              listed = listed-more words args cs order (m .listed) (word earlier p) (o .listed .node p l) (o .listed .compound p l) new (λ j k. mended-met p order m (argumentOf words args (word earlier p) j) (argument-inside j k) (o .listed .first p l j k));
+              listed = listed-more words args (word counts) cs order (m .listed) (word earlier p) (o .listed .node p l) (o .listed .compound p l) new (λ j q. mended-met p order m (argumentOf words args (word earlier p) j) (looked-node words args s counts k (word earlier p) j (o .listed .node p l) q) (o .listed .first p l j q));
               reached = λ g r. still g (m .reached g r);
               kept = λ q k e. still (word earlier q) (m .kept q k e);
             })
@@ -227,15 +238,9 @@ module _ (words args : List ℕ) (s : Sections words args) (ps : List (ℕ × �
             longer : length (order ++ (word earlier p ∷ [])) ≡ suc (length order)
             longer = let e = length-append order (word earlier p ∷ []) in omega (arith, e)
 
-            argument-inside : (j : ℕ) → j < countOf words (word earlier p) → argumentOf words args (word earlier p) j < nodeCount words
-            argument-inside j k =
-                let h = o .listed .node p l in
-                let r = s .smaller (word earlier p) j h k in
-                omega (arith, h, r)
-
-            still : (g : ℕ) → Met words order (length order) g → Met words (order ++ (word earlier p ∷ [])) (length (order ++ (word earlier p ∷ []))) g
+            still : (g : ℕ) → Met (word counts) order (length order) g → Met (word counts) (order ++ (word earlier p ∷ [])) (length (order ++ (word earlier p ∷ []))) g
             still g t =
-                met-later words (order ++ (word earlier p ∷ [])) (length order) (length (order ++ (word earlier p ∷ []))) g (omega (arith, longer)) (met-longer words order (word earlier p) (length order) g (omega arith) t)
+                met-later (word counts) (order ++ (word earlier p ∷ [])) (length order) (length (order ++ (word earlier p ∷ []))) g (omega (arith, longer)) (met-longer (word counts) order (word earlier p) (length order) g (omega arith) t)
 
         -- one place more
         mended-next : (p : ℕ) → p < length earlier → (order : List ℕ) × Mended p order → (order : List ℕ) × Mended (suc p) order
@@ -251,7 +256,7 @@ module _ (words args : List ℕ) (s : Sections words args) (ps : List (ℕ × �
         mended-to (suc p) l = mended-next p (omega arith) (mended-to p (omega arith))
 
         -- the order mended
-        pub mended : (order : List ℕ) × Ordered words args cs order
+        pub mended : (order : List ℕ) × Ordered words args (word counts) cs order
         mended =
             let r = mended-to (length earlier) (omega arith) in (
               r .0,

@@ -4,15 +4,16 @@ use mathlib.Core.List.{List}
 use mathlib.Core.Path.{_≡_, refl, sym, ap, _∙_}
 use native.Mathlib.Omega.{arith}
 use lib.ListN.{length}
-use Rattle.table.specs.Layout.{word, kindOf, countOf, nodeCount, argumentOf}
+use Rattle.table.specs.Layout.{word, kindOf, nameOf, countOf, nodeCount, argumentOf}
 use Rattle.unification.specs.Node.{variable, application, nodeAt}
 use Rattle.unification.specs.Closure.{OneSymbol}
 use Rattle.unification.specs.Computed.Classes.{classOf}
 use Rattle.unification.specs.Code.Sections.{nodesFrom, Sections}
 use Rattle.unification.specs.Code.Heads.{Partition}
+use Rattle.unification.specs.Code.Solved.{Closed}
 use Rattle.unification.specs.Code.Valued.{SameNames, Valued}
-use Rattle.unification.proofs.SectionLaws.{from-variable, from-application, run-long, pair-place, counted}
-use Rattle.unify.specs.Code.Named.{valueName, Alike, Named, Readable}
+use Rattle.unification.proofs.SectionLaws.{run, is-node, application-from, from-variable, from-application, run-long, pair-place, counted}
+use Rattle.unify.specs.Code.Named.{valueName, Alike, Applied, Named, Readable}
 
 -- a node has a head, and the head a place among the names
 pub name-inside : (words args cs names : List ℕ) → Readable words args cs names → (i : ℕ) → i < nodeCount words → (i < length cs) × (classOf cs i < length names)
@@ -75,3 +76,18 @@ module _ (words args cs names : List ℕ) (s : Sections words args) (p : Partiti
     where
       applied : (i f : ℕ) (us : List ℕ) → i < length (nodesFrom words args) → nodeAt (nodesFrom words args) (classOf cs i) ≡ application f us → kindOf words (classOf cs i) ≡ 0 → ⊥
       applied i f us h d = from-application words args (classOf cs i) (inside i h) f us d .0
+
+-- an application has a head with its symbol, and arguments with the names of its arguments
+pub head-alike : (words args cs names : List ℕ) → Sections words args → Partition (nodeCount words) cs → (ps : List (ℕ × ℕ)) → Closed (nodesFrom words args) ps (classOf cs) → (i : ℕ) → i < nodeCount words → (kindOf words i ≡ 0 → ⊥) → Applied words cs i × Alike words args cs names i (classOf cs i)
+head-alike words args cs names s p ps c i h n =
+    let x = c .applications i (nameOf words i) (run words args i) (is-node words args i h) (application-from words args i h n) in
+    let b = p .below i h in
+    let q = from-application words args (classOf cs i) b (nameOf words i) (x .arguments) (x .applied) in
+    let l : countOf words i ≡ countOf words (classOf cs i) = sym (run-long words args s i h) ∙ x .as-long ∙ ap length (q .2) ∙ run-long words args s (classOf cs i) b in (
+      q .0,
+      record {
+        name = q .1;
+        count = l;
+        arguments = λ j k. ap (word names) (x .one-head (argumentOf words args i j) (argumentOf words args (classOf cs i) j) (rw (q .2) (pair-place words args s i (classOf cs i) h b (argumentOf words args i j) (argumentOf words args (classOf cs i) j) .1 (j, k, rw l at k, refl, refl))));
+      },
+    )

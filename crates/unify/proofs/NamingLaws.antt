@@ -3,6 +3,7 @@
 use Prim.Native.Nat.{ℕ, suc, _+_, _-_, _<_, _≤_}
 use mathlib.Core.Bool.{Bool, true, false}
 use mathlib.Core.List.{List}
+use mathlib.Core.Logic.{_⊎_, inl, inr}
 use mathlib.Core.Path.{_≡_, refl, sym, ap, _∙_}
 use native.Mathlib.Decide.{ℕ-discrete}
 use native.Mathlib.Omega.{arith}
@@ -16,10 +17,9 @@ use Rattle.table.specs.Layout.{word, kindOf, countOf, nodeCount, argumentOf}
 use Rattle.unification.specs.Computed.Classes.{classOf}
 use Rattle.unification.specs.Code.Sections.{Sections}
 use Rattle.unification.specs.Code.Heads.{Partition}
-use Rattle.unify.specs.Code.Order.{Met, leaf, before, Ordered}
-use Rattle.unify.specs.Code.Named.{valueName, Readable, Alike, Applied, Themselves}
+use Rattle.unify.specs.Code.Named.{valueName, Readable, Alike, Applied}
 use Rattle.unify.specs.Code.Naming.{Nameable, IsPlaced, Compounds, Whole, all, compounds, keys, keyOf, keyAt, Representative, Represented, NamedBefore, Naming, NamedEarlier, NamedAlong, Found}
-use Rattle.unify.specs.Code.Stands.{IsConstant, OneConstant}
+use Rattle.unify.specs.Code.Stands.{IsConstant}
 use Rattle.unify.proofs.AlikeLaws.{NamesKept, alike-same, alike-back, alike-on, alike-kept, alike-was, key-kept}
 use Rattle.unify.proofs.ChainLaws.{chained-skip, chained-add}
 use Rattle.unify.proofs.FindLaws.{order-short}
@@ -383,43 +383,25 @@ module _ (words args cs order names : List ℕ) (o : Nameable words args cs orde
           taken-apart = λ i j h l. named-apart i j (standing i h) (standing j l);
         };
         along = named-earlier;
+        outside = λ i h. pick i (standing i h);
+        alike = λ i h. like i (standing i h);
       }
+    where
+      pick : (i : ℕ) → Standing i → IsPlaced order (classOf cs i) ⊎ (valueName cs names i ≡ classOf cs i)
+      pick i (at p) = inl p
+      pick i (outside b) = inr (b .itself)
+
+      like : (i : ℕ) → Standing i → Applied words cs i → Alike words args cs names (valueName cs names i) (classOf cs i)
+      like i (at p) n =
+          let t = class-named i p n in
+          rw (t .named) (t .alike)
+      like i (outside b) n = rw (b .itself) (alike-same (classOf cs i))
 
 -- so it is where the last place is passed
 pub naming-end : (words args cs order names buckets earlier : List ℕ) (p : ℕ) → Naming words args cs order names buckets earlier p → p ≤ length order → length order ≤ p → NamedAlong words args cs order names
 naming-end words args cs order names buckets earlier p s l m =
     let e : p ≡ length order = omega arith in
     named-end words args cs order names (s .ordered) (s .readable .partition) (s .whole) (rw e at (s .named))
-
--- An order of the heads that have arguments.
-module _ (words args cs order : List ℕ) (o : Ordered words args cs order) where
-  -- nodes can be named along it
-  pub ordered-nameable : Nameable words args cs order
-  ordered-nameable =
-      record {
-        node = o .listed .node;
-        once = o .listed .once;
-        first = λ p q j l h c e. met p q l h (rw e at (o .listed .first q (omega arith) j c));
-      }
-    where
-      met : (p q : ℕ) → q ≤ p → p < length order → Met words order q (word order p) → ⊥
-      met p q l h (leaf z) = let c = o .listed .compound p h in omega (arith, c, z)
-      met p q l h (before r k e) = o .listed .once r p (omega arith) h e
-
-  -- and the other heads name themselves
-  pub ordered-whole : (names : List ℕ) → length names ≡ nodeCount words → Themselves names → OneConstant words cs → Whole words cs order names
-  ordered-whole names l t c =
-      compounds
-      (record {
-        compound = o .listed .compound;
-        placed = λ i h k. met (classOf cs i) k (o .whole i h);
-        itself = λ i h z. t .itself i (omega arith);
-        constants = c;
-      })
-    where
-      met : (g : ℕ) → 0 < countOf words g → Met words order (length order) g → IsPlaced order g
-      met g k (leaf z) = absurd (omega (arith, k, z))
-      met g k (before q l e) = (q, l, e)
 
 -- one more number names itself
 pub itself-next : (names : List ℕ) (i : ℕ) → i < length names → ((k : ℕ) → k < i → word names k ≡ k) → (k : ℕ) → k < i + 1 → word (set names i i) k ≡ k

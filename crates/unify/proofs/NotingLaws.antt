@@ -1,30 +1,41 @@
--- Nodes noted by the names of their values, from the last place down, and read again: one law for each way on. Assumes nothing.
+-- Nodes noted by the names of their values, open applications if they are smaller, variables from the last place down, and read again:
+-- one law for each way on. Assumes nothing.
 use Prim.Native.Nat.{ℕ, suc, _+_, _-_, _<_, _≤_}
 use mathlib.Core.Bool.{true, false, cond}
 use mathlib.Core.List.{List, [], _∷_, _++_, map, map-append}
 use mathlib.Core.Path.{_≡_, refl, sym, ap, _∙_}
-use native.Mathlib.Decide.{ℕ-discrete}
+use native.Mathlib.Decide.{ℕ-discrete, decLt}
 use native.Mathlib.Omega.{arith}
 use native.Mathlib.Numerals.{add-one}
-use borrow.Author.Tests.{eq-eqb, ne-eqb}
-use lib.Dec.{eqb}
+use borrow.Author.Count.{below-more}
+use borrow.Author.Tests.{eq-eqb, ne-eqb, lt-ltb, le-ltb}
+use lib.Dec.{eqb, ltb}
 use lib.ListN.{length, set, take, drop, length-set, length-map}
-use lib.Seq.{getD-set-other, take-suc, drop-cons, set-at, take-length, length-take-le, append-snoc}
+use lib.Seq.{getD-set-same, getD-set-other, take-suc, drop-cons, set-at, take-length, length-take-le, append-snoc}
 use Rattle.table.specs.Layout.{word, kindOf, nodeCount}
 use Rattle.unification.specs.Computed.Classes.{classOf}
-use Rattle.unify.specs.Code.Named.{valueName}
-use Rattle.unify.specs.Code.Binding.{HeadNames, applicationNoted, freeNoted, IsApplied, IsFree, nameAt, ApplicationsFrom, FreeFrom, readAt, AreNodes}
+use Rattle.unify.specs.Code.Named.{valueName, Applied, Themselves}
+use Rattle.unify.specs.Code.Ordering.{OpenListed}
+use Rattle.unify.specs.Code.Binding.{HeadNames, AreApplied, NamesLeast, applicationNoted, freeNoted, IsApplied, IsFree, nameAt, OpenNoted, ApplicationsNoted, FreeFrom, readAt, AreNodes}
 use Rattle.unify.proofs.KeptLaws.{kept-none, kept-skip, kept-set}
 
--- a variable is not noted as an application
-pub application-other : (words cs names by : List ℕ) (i : ℕ) → eqb (kindOf words i) 0 ≡ true → by ≡ applicationNoted words cs names by i
+-- an application is noted at its name, where a greater node stands there
+pub application-noted : (cs names by : List ℕ) (i s m : ℕ) → s ≡ valueName cs names i → m ≡ word by s → i < m → set by s i ≡ applicationNoted cs names by i
 unfolding applicationNoted
-application-other words cs names by i k = rw k
+application-noted cs names by i s m e d l =
+    let y : ltb i (word by (valueName cs names i)) ≡ true = rw (d, e) at (lt-ltb i m l) in
+    rw (y, e)
 
--- an application is, at its name
-pub application-noted : (words cs names by : List ℕ) (i s : ℕ) → eqb (kindOf words i) 0 ≡ false → s ≡ valueName cs names i → set by s i ≡ applicationNoted words cs names by i
+-- and is not, where none does
+pub application-other : (cs names by : List ℕ) (i s m : ℕ) → s ≡ valueName cs names i → m ≡ word by s → m ≤ i → by ≡ applicationNoted cs names by i
 unfolding applicationNoted
-application-noted words cs names by i s k e = rw (k, e)
+application-other cs names by i s m e d l =
+    let y : ltb i (word by (valueName cs names i)) ≡ false = rw (d, e) at (le-ltb i m l) in
+    rw y
+
+-- open applications are applications
+pub open-applied : (words counts opens : List ℕ) → OpenListed words counts opens → AreApplied words opens
+open-applied words counts opens o = record { node = o .node; applied = o .applied }
 
 -- a node whose head is an application is not noted as a free variable
 pub free-other : (words cs names list by : List ℕ) (k v h : ℕ) → v ≡ word list k → h ≡ classOf cs v → eqb (kindOf words h) 0 ≡ false → by ≡ freeNoted words cs names list by k
@@ -54,40 +65,100 @@ module _ (words args cs names : List ℕ) (m : HeadNames words args cs names) wh
   pub name-node : (i r : ℕ) → i < nodeCount words → r ≡ valueName cs names i → r < nodeCount words
   name-node i r h e = rw e (m .named .node i h)
 
-  -- no application is noted yet
-  pub applications-none : (by : List ℕ) (i : ℕ) → nodeCount words ≡ i → length by ≡ nodeCount words → ApplicationsFrom words cs names by i
-  applications-none by i e l =
-      record { long = l; kept = kept-none (IsApplied words) (valueName cs names) (λ k. k) (nodeCount words) i (omega arith) by }
+  -- where each stands at its own number, none is noted yet
+  pub noted-none : (opens by : List ℕ) → length by ≡ nodeCount words → Themselves by → OpenNoted words cs names opens by 0
+  noted-none opens by l t =
+      record {
+        long = l;
+        named = λ s h a e.
+            let d : word by s ≡ s = t .itself s (omega arith) in
+            (omega (arith, d), rw d a, ap (valueName cs names) d ∙ e, omega (arith, d));
+        least = λ p h. absurd (omega arith);
+      }
 
-  applications-next : (by : List ℕ) (i : ℕ) → i < nodeCount words → ApplicationsFrom words cs names by (suc i) → ApplicationsFrom words cs names (applicationNoted words cs names by i) i
-  unfolding applicationNoted
-  applications-next by i h r = pick (ℕ-discrete (kindOf words i) 0)
-    where
-      pick : Dec (kindOf words i ≡ 0) → ApplicationsFrom words cs names (cond (eqb (kindOf words i) 0) by (set by (valueName cs names i) i)) i
-      pick (yes k) =
-          rw (eq-eqb (kindOf words i) 0 k)
-          (record {
-            long = r .long;
-            kept = kept-skip (IsApplied words) (valueName cs names) (λ j. j) (nodeCount words) i by (λ z. z k) (r .kept);
-          })
-      pick (no k) =
-          let b = m .named .node i h in
+  module _ (opens : List ℕ) where
+    module _ (o : AreApplied words opens) (by : List ℕ) (k : ℕ) (h : k < length opens) (r : OpenNoted words cs names opens by k) where
+      -- The node that is noted, and its name.
+      abbrev node : ℕ
+      node = word opens k
+
+      abbrev name : ℕ
+      name = valueName cs names node
+
+      inside : name < length by
+      inside =
+          let b = m .named .node node (o .node k h) in
           let l = r .long in
-          rw (ne-eqb (kindOf words i) 0 k)
-          (record {
-            long = length-set by (valueName cs names i) i ∙ r .long;
-            kept = kept-set (IsApplied words) (valueName cs names) (λ j. j) (nodeCount words) i by h k (omega (arith, b, l)) (r .kept);
-          })
+          omega (arith, b, l)
 
-  -- one node more
-  pub applications-down : (by : List ℕ) (i : ℕ) → 0 < i → i ≤ nodeCount words → ApplicationsFrom words cs names by i → ApplicationsFrom words cs names (applicationNoted words cs names by (i - 1)) (i - 1)
-  applications-down by i h l r =
-      let e : i ≡ suc (i - 1) = omega arith in
-      applications-next by (i - 1) (omega arith) (rw e at r)
+      here : word (set by name node) name ≡ node
+      here = getD-set-same by name node 0 inside
 
-  -- all are noted
-  pub applications-all : (by : List ℕ) (i : ℕ) → i ≤ 0 → ApplicationsFrom words cs names by i → ApplicationsFrom words cs names by 0
-  applications-all by i z r = let e : i ≡ 0 = omega arith in rw e at r
+      elsewhere : (s : ℕ) → (s ≡ name → ⊥) → word (set by name node) s ≡ word by s
+      elsewhere s n = getD-set-other by name s node 0 n
+
+      -- a smaller one is put in its place
+      noted-smaller : node < word by name → OpenNoted words cs names opens (set by name node) (k + 1)
+      noted-smaller l =
+          record {
+            long = length-set by name node ∙ r .long;
+            named = λ s b a e. named-at s b a e (ℕ-discrete s name);
+            least = below-more (λ p. word (set by name node) (valueName cs names (word opens p)) ≤ word opens p) k (λ p b. least-at p b (ℕ-discrete (valueName cs names (word opens p)) name)) (omega (arith, here));
+          }
+        where
+          named-at : (s : ℕ) → s < nodeCount words → IsApplied words s → valueName cs names s ≡ s → Dec (s ≡ name) → (word (set by name node) s < nodeCount words) × IsApplied words (word (set by name node) s) × (valueName cs names (word (set by name node) s) ≡ s) × (word (set by name node) s ≤ s)
+          named-at s b a e (yes z) =
+              let d : word (set by name node) s ≡ node = ap (word (set by name node)) z ∙ here in
+              let n = o .node k h in
+              let u = r .named s b a e .3 in
+              let w : word by s ≡ word by name = ap (word by) z in
+              (omega (arith, d, n), rw d (o .applied k h), ap (valueName cs names) d ∙ sym z, omega (arith, d, u, w, l))
+          named-at s b a e (no z) = rw (elsewhere s z) (r .named s b a e)
+
+          least-at : (p : ℕ) → p < k → Dec (valueName cs names (word opens p) ≡ name) → word (set by name node) (valueName cs names (word opens p)) ≤ word opens p
+          least-at p b (yes z) =
+              let d : word (set by name node) (valueName cs names (word opens p)) ≡ node = ap (word (set by name node)) z ∙ here in
+              let u = r .least p b in
+              let w : word by (valueName cs names (word opens p)) ≡ word by name = ap (word by) z in
+              omega (arith, d, u, w, l)
+          least-at p b (no z) = rw (elsewhere (valueName cs names (word opens p)) z) (r .least p b)
+
+      -- one open application more
+      pub noted-next : OpenNoted words cs names opens (applicationNoted cs names by node) (k + 1)
+      unfolding applicationNoted
+      noted-next = pick (decLt node (word by name))
+        where
+          pick : Dec (node < word by name) → OpenNoted words cs names opens (cond (ltb node (word by name)) (set by name node) by) (k + 1)
+          pick (yes l) = rw (lt-ltb node (word by name) l) (noted-smaller l)
+          pick (no n) =
+              let l : word by name ≤ node = omega (arith, n) in
+              rw (le-ltb node (word by name) l)
+              (record {
+                long = r .long;
+                named = r .named;
+                least = below-more (λ p. word by (valueName cs names (word opens p)) ≤ word opens p) k (r .least) l;
+              })
+
+    -- where all are, and names of applications name themselves, each stands at its name
+    pub noted-all : (counts by : List ℕ) → OpenListed words counts opens → NamesLeast words args counts cs names → ((i : ℕ) → i < nodeCount words → Applied words cs i → valueName cs names (valueName cs names i) ≡ valueName cs names i) → OpenNoted words cs names opens by (length opens) → ApplicationsNoted words cs names by
+    noted-all counts by o t itself r =
+        record {
+          least = λ i h n.
+              let v = r .named (valueName cs names i) (m .named .node i h) (m .named .application i h n) (itself i h n) in
+              record {
+                holds = (v .0, v .1, v .2);
+                least = λ k w. lower (valueName cs names i) k (w .0) (w .1) (w .2) (v .3) (ℕ-discrete (word counts k) 0);
+              };
+        }
+      where
+        lower : (s k : ℕ) → k < nodeCount words → IsApplied words k → valueName cs names k ≡ s → word by s ≤ s → Dec (word counts k ≡ 0) → word by s ≤ k
+        lower s k h a e l (yes z) =
+            let x = t .least k (record { node = h; applied = a; none = z }) in
+            omega (arith, x, e, l)
+        lower s k h a e l (no z) =
+            let p = o .whole k h (omega (arith, z)) in
+            let x = r .least (p .0) (p .1) in
+            rw (p .2, e) at x
 
   module _ (list : List ℕ) (nodes : AreNodes words list) (by : List ℕ) where
     -- no free variable is noted yet

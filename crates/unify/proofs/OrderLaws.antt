@@ -1,5 +1,5 @@
--- Laws of the search that puts the heads that have arguments in order, over plain lists and numbers. A head is put behind the others
--- when the heads of its arguments are done, if they have arguments. Assumes nothing.
+-- Laws of the search that puts the heads with arguments that are looked at in order, over plain lists and numbers. A head is put behind
+-- the others when the heads of its arguments are done, if arguments of theirs are looked at. Assumes nothing.
 use Prim.Native.Nat.{ℕ, _+_, _<_, _≤_, _-_}
 use mathlib.Core.Bool.{Bool, true, false, not, _&&_, false≢true}
 use mathlib.Core.List.{List, []}
@@ -12,21 +12,24 @@ use lib.Dec.{eqb}
 use lib.ListN.{length, set, take, length-set, replicate, getD-replicate}
 use lib.Seq.{getD-set-same, getD-set-other, getD-take, length-take-le}
 use Rattle.table.specs.Limits.{maxNodes}
-use Rattle.table.specs.Layout.{word, countOf, nodeCount, argumentOf}
+use Rattle.table.specs.Layout.{word, nodeCount, argumentOf}
 use Rattle.unification.specs.Computed.Classes.{classOf}
 use Rattle.unification.specs.Code.Heads.{Partition, countBelow}
 use Rattle.unification.specs.Code.Sections.{Sections}
 use Rattle.unification.proofs.CountLaws.{count-most, count-le, count-less}
 use Rattle.unification.proofs.ListLaws.{first-long}
 use Rattle.unify.specs.declared.order.Placed.the-variants.{Cycle, Count}
+use Rattle.unify.specs.Code.Open.{Counts}
 use Rattle.unify.specs.Code.Order.{Leads, next, further, Looped, Met, leaf, before, Listed, Ordered, OrderedBelow, Searched}
-use Rattle.unify.specs.Code.Ordering.{isNew, isDone, Ordering, Visiting, Later, Passed, Settled, Turn, Visited, Starting, Sweep}
+use Rattle.unify.specs.Code.Ordering.{isNew, isDone, Ordering, Visiting, Later, Passed, Settled, Turn, Visited, Starting, OpenListed, Sweep}
+use Rattle.unify.proofs.OrderedLaws.{looked-node}
 
 -- A place of a list in which place i is written.
 data Written (l : List ℕ) (i a k : ℕ) : Type 0 where
   here : k ≡ i → word (set l i a) k ≡ a → Written l i a k
   other : (k ≡ i → ⊥) → word (set l i a) k ≡ word l k → Written l i a k
 
+-- each place is one or the other
 written : (l : List ℕ) (i a k : ℕ) → i < length l → Written l i a k
 written l i a k h = go (ℕ-discrete k i)
   where
@@ -43,12 +46,12 @@ written-range n l i a h b r k q = go (written l i a k h)
     go (other d w) = let z = r k q in omega (arith, w, z)
 
 -- a visit that ends at a cycle
-pub visited-cycle : {words args cs marks later order : List ℕ} {h : ℕ} → Looped words args cs → Visited words args cs marks h Cycle later order
+pub visited-cycle : {words args cs marks later order : List ℕ} {due : ℕ → ℕ} {h : ℕ} → Looped words args due cs → Visited words args due cs marks h Cycle later order
 visited-cycle l = record { cycle = λ e. l; counted = λ c e. absurd (let z : _≡_ {A = ℕ} 0 1 = cc in omega arith) }
 
 -- a visit that passes
-pub visited-count : {words args cs marks later order : List ℕ} {h c : ℕ} → Passed words args cs marks h later order c → Visited words args cs marks h (Count c) later order
-visited-count {words} {args} {cs} {marks} {later} {order} {h} {c} p =
+pub visited-count : {words args cs marks later order : List ℕ} {due : ℕ → ℕ} {h c : ℕ} → Passed words args due cs marks h later order c → Visited words args due cs marks h (Count c) later order
+visited-count {c = c} p =
     record {
       cycle = λ e. absurd (let z : _≡_ {A = ℕ} 0 1 = cc in omega arith);
       counted = λ d e. let z : c ≡ d = cc in rw (← z) p;
@@ -67,16 +70,6 @@ head-inside {a = a} p l e =
     let b = p .below a l in
     omega (arith, b, e)
 
--- the arguments of a node are nodes
-argument-node : {words args : List ℕ} {h : ℕ} → Sections words args → h < nodeCount words → (i : ℕ) → i < countOf words h → argumentOf words args h i < nodeCount words
-argument-node {h = h} s n i l =
-    let a = s .smaller h i n l in
-    omega (arith, a, n)
-
--- so are their heads
-heads-nodes : {words args cs : List ℕ} {h : ℕ} → Sections words args → Partition (nodeCount words) cs → h < nodeCount words → (i : ℕ) → i < countOf words h → classOf cs (argumentOf words args h i) < nodeCount words
-heads-nodes s p n i l = p .below _ (argument-node s n i l)
-
 -- no node is visited
 later-same : (n : ℕ) (marks : List ℕ) → Later n marks marks
 later-same n marks = record { kept = λ k l d. refl; none-opened = λ k l e. e }
@@ -89,47 +82,47 @@ later-on {n} {marks} {after} {then} p q =
       none-opened = λ k l e. p .none-opened k l (q .none-opened k l e);
     }
 
--- one more of the nodes that are to be visited is done, if it has arguments
-settled-next : {n : ℕ} (words : List ℕ) {marks later : List ℕ} (node : ℕ → ℕ) (j h : ℕ) → h ≡ node j → Settled words later h → Later n marks later → ((i : ℕ) → i < j → node i < n) → ((i : ℕ) → i < j → Settled words marks (node i)) → (i : ℕ) → i < j + 1 → Settled words later (node i)
-settled-next words {marks} {later} node j h e z l below done =
-    below-more (λ i. Settled words later (node i)) j kept (rw (← e) z)
+-- one more of the nodes that are to be visited is done, if arguments of it are looked at
+settled-next : {n : ℕ} (due : ℕ → ℕ) {marks later : List ℕ} (node : ℕ → ℕ) (j h : ℕ) → h ≡ node j → Settled due later h → Later n marks later → ((i : ℕ) → i < j → node i < n) → ((i : ℕ) → i < j → Settled due marks (node i)) → (i : ℕ) → i < j + 1 → Settled due later (node i)
+settled-next due {marks} {later} node j h e z l below done =
+    below-more (λ i. Settled due later (node i)) j kept (rw (← e) z)
   where
-    kept : (i : ℕ) → i < j → Settled words later (node i)
+    kept : (i : ℕ) → i < j → Settled due later (node i)
     kept i b a =
         let y : word marks (node i) ≡ 2 = done i b a in
         l .kept (node i) (below i b) (λ x. omega (arith, x, y)) ∙ y
 
--- a node that is due has arguments
-pub due : (words marks : List ℕ) (g : ℕ) (x : Bool) → x ≡ not (eqb (word marks g) 2) && not (eqb (countOf words g) 0) → x ≡ true → 0 < countOf words g
-due words marks g x e t = go (eqb (word marks g) 2) (eqb (countOf words g) 0) refl (sym e ∙ t)
+-- arguments of a node that is due are looked at
+pub due-some : (due : ℕ → ℕ) (marks : List ℕ) (g : ℕ) (x : Bool) → x ≡ not (eqb (word marks g) 2) && not (eqb (due g) 0) → x ≡ true → 0 < due g
+due-some due marks g x e t = go (eqb (word marks g) 2) (eqb (due g) 0) refl (sym e ∙ t)
   where
-    go : (a b : Bool) → eqb (countOf words g) 0 ≡ b → not a && not b ≡ true → 0 < countOf words g
+    go : (a b : Bool) → eqb (due g) 0 ≡ b → not a && not b ≡ true → 0 < due g
     go true b q z = absurd (false≢true z)
     go false true q z = absurd (false≢true z)
-    go false false q z = let d : countOf words g ≡ 0 → ⊥ = eqb-false _ _ q in omega arith
+    go false false q z = let d : due g ≡ 0 → ⊥ = eqb-false _ _ q in omega arith
 
--- any other is done, if it has arguments
-pub not-due : (words marks : List ℕ) (g : ℕ) (x : Bool) → x ≡ not (eqb (word marks g) 2) && not (eqb (countOf words g) 0) → x ≡ false → Settled words marks g
-not-due words marks g x e t a = go (eqb (word marks g) 2) refl (sym e ∙ t)
+-- any other node is done, if arguments of it are looked at
+pub not-due : (due : ℕ → ℕ) (marks : List ℕ) (g : ℕ) (x : Bool) → x ≡ not (eqb (word marks g) 2) && not (eqb (due g) 0) → x ≡ false → Settled due marks g
+not-due due marks g x e t a = go (eqb (word marks g) 2) refl (sym e ∙ t)
   where
-    go : (b : Bool) → eqb (word marks g) 2 ≡ b → not b && not (eqb (countOf words g) 0) ≡ false → word marks g ≡ 2
+    go : (b : Bool) → eqb (word marks g) 2 ≡ b → not b && not (eqb (due g) 0) ≡ false → word marks g ≡ 2
     go true q z = eqb-true _ _ q
-    go false q z = absurd (let y : countOf words g ≡ 0 = eqb-true _ _ (not-false _ z) in omega (arith, y))
+    go false q z = absurd (let y : due g ≡ 0 = eqb-true _ _ (not-false _ z) in omega (arith, y))
 
 -- a node that is not done is not listed
-other-listed : {words args cs marks order : List ℕ} {count h m : ℕ} → Ordering words args cs marks order count → word marks h ≡ m → (m ≡ 2 → ⊥) → (p : ℕ) → p < count → word order p ≡ h → ⊥
+other-listed : {words args cs marks order : List ℕ} {due : ℕ → ℕ} {count h m : ℕ} → Ordering words args due cs marks order count → word marks h ≡ m → (m ≡ 2 → ⊥) → (p : ℕ) → p < count → word order p ≡ h → ⊥
 other-listed {marks = marks} o e d p l q = d (sym e ∙ ap (λ (k : ℕ). word marks k) (sym q) ∙ o .listed p l .1)
 
--- a node that is done, if it has arguments, is met
-settled-met : {words args cs marks order : List ℕ} {count g : ℕ} → Ordering words args cs marks order count → g < nodeCount words → Settled words marks g → Met words order count g
-settled-met {words} {order = order} {count} {g} o l s = go (ℕ-discrete (countOf words g) 0)
+-- a node that is done, if arguments of it are looked at, is met
+settled-met : {words args cs marks order : List ℕ} {due : ℕ → ℕ} {count g : ℕ} → Ordering words args due cs marks order count → g < nodeCount words → Settled due marks g → Met due order count g
+settled-met {order = order} {due} {count} {g} o l s = go (ℕ-discrete (due g) 0)
   where
-    go : Dec (countOf words g ≡ 0) → Met words order count g
+    go : Dec (due g ≡ 0) → Met due order count g
     go (yes e) = leaf e
     go (no d) = let f = o .done g l (s (omega arith)) in before (f .0) (f .1) (f .2)
 
 -- A node that is not done is put behind the others.
-module _ {words args cs marks order : List ℕ} {count h : ℕ} (o : Ordering words args cs marks order count) (node : h < nodeCount words) (not-done : word marks h ≡ 2 → ⊥) where
+module _ {words args cs marks order : List ℕ} {due : ℕ → ℕ} {count h : ℕ} (o : Ordering words args due cs marks order count) (node : h < nodeCount words) (not-done : word marks h ≡ 2 → ⊥) where
   within : h < length marks
   within = rw (o .marks-size) node
 
@@ -157,9 +150,9 @@ module _ {words args cs marks order : List ℕ} {count h : ℕ} (o : Ordering wo
       (λ p b. rw (stays p b) (o .listed p b .0, getD-set-other marks h (word order p) 2 0 (other-listed o refl not-done p b) ∙ o .listed p b .1))
       (rw newest (node, getD-set-same marks h 2 0 within))
 
-  behind-compound : 0 < countOf words h → (p : ℕ) → p < count + 1 → 0 < countOf words (word (set order count h) p)
+  behind-compound : 0 < due h → (p : ℕ) → p < count + 1 → 0 < due (word (set order count h) p)
   behind-compound a =
-      below-more (λ p. 0 < countOf words (word (set order count h) p)) count (λ p b. rw (stays p b) (o .compound p b)) (rw newest a)
+      below-more (λ p. 0 < due (word (set order count h) p)) count (λ p b. rw (stays p b) (o .compound p b)) (rw newest a)
 
   behind-once : (p q : ℕ) → p < q → q < count + 1 → word (set order count h) p ≡ word (set order count h) q → ⊥
   behind-once p q l m e = go (ℕ-discrete q count)
@@ -175,17 +168,17 @@ module _ {words args cs marks order : List ℕ} {count h : ℕ} (o : Ordering wo
           o .once p q l c (sym (stays p b) ∙ e ∙ stays q c)
 
   -- what is met stays so
-  still-met : (p : ℕ) → p ≤ count → (g : ℕ) → Met words order p g → Met words (set order count h) p g
+  still-met : (p : ℕ) → p ≤ count → (g : ℕ) → Met due order p g → Met due (set order count h) p g
   still-met p l g (leaf e) = leaf e
   still-met p l g (before q b e) = before q b (stays q (omega arith) ∙ e)
 
-  -- so is a node that is done, if it has arguments
-  argument-met : (g : ℕ) → g < nodeCount words → Settled words marks g → Met words (set order count h) count g
+  -- so is a node that is done, if arguments of it are looked at
+  argument-met : (g : ℕ) → g < nodeCount words → Settled due marks g → Met due (set order count h) count g
   argument-met g l s = still-met count (omega arith) g (settled-met o l s)
 
-  behind-first : ((i : ℕ) → i < countOf words h → classOf cs (argumentOf words args h i) < nodeCount words) → ((i : ℕ) → i < countOf words h → Settled words marks (classOf cs (argumentOf words args h i))) → (p : ℕ) → p < count + 1 → (j : ℕ) → j < countOf words (word (set order count h) p) → Met words (set order count h) p (classOf cs (argumentOf words args (word (set order count h) p) j))
+  behind-first : ((i : ℕ) → i < due h → classOf cs (argumentOf words args h i) < nodeCount words) → ((i : ℕ) → i < due h → Settled due marks (classOf cs (argumentOf words args h i))) → (p : ℕ) → p < count + 1 → (j : ℕ) → j < due (word (set order count h) p) → Met due (set order count h) p (classOf cs (argumentOf words args (word (set order count h) p) j))
   behind-first below arguments =
-      below-more (λ p. (j : ℕ) → j < countOf words (word (set order count h) p) → Met words (set order count h) p (classOf cs (argumentOf words args (word (set order count h) p) j))) count
+      below-more (λ p. (j : ℕ) → j < due (word (set order count h) p) → Met due (set order count h) p (classOf cs (argumentOf words args (word (set order count h) p) j))) count
       (λ p b. rw (stays p b) (λ j m. still-met p (omega arith) _ (o .first p b j m)))
       (rw newest (λ j m. argument-met _ (below j m) (arguments j m)))
 
@@ -214,7 +207,7 @@ module _ {words args cs marks order : List ℕ} {count h : ℕ} (o : Ordering wo
       omega (arith, r, l)
 
   -- it is listed, where the heads of its arguments are
-  put-behind : 0 < countOf words h → ((i : ℕ) → i < countOf words h → classOf cs (argumentOf words args h i) < nodeCount words) → ((i : ℕ) → i < countOf words h → Settled words marks (classOf cs (argumentOf words args h i))) → Ordering words args cs (set marks h 2) (set order count h) (count + 1)
+  put-behind : 0 < due h → ((i : ℕ) → i < due h → classOf cs (argumentOf words args h i) < nodeCount words) → ((i : ℕ) → i < due h → Settled due marks (classOf cs (argumentOf words args h i))) → Ordering words args due cs (set marks h 2) (set order count h) (count + 1)
   put-behind some below arguments =
       record {
         marks-size = length-set marks h 2 ∙ o .marks-size;
@@ -229,7 +222,7 @@ module _ {words args cs marks order : List ℕ} {count h : ℕ} (o : Ordering wo
       }
 
 -- A new node is opened.
-module _ {words args cs marks order : List ℕ} {count h : ℕ} (o : Ordering words args cs marks order count) (node : h < nodeCount words) (new : word marks h ≡ 0) where
+module _ {words args cs marks order : List ℕ} {due : ℕ → ℕ} {count h : ℕ} (o : Ordering words args due cs marks order count) (node : h < nodeCount words) (new : word marks h ≡ 0) where
   inside : h < length marks
   inside = rw (o .marks-size) node
 
@@ -262,7 +255,7 @@ module _ {words args cs marks order : List ℕ} {count h : ℕ} (o : Ordering wo
           go (other d w) = eq-eqb _ _ (w ∙ e)
 
   -- it is open, and none of its arguments is visited
-  pub opened : Turn words args cs (set marks h 1) h (set marks h 1) order count 0
+  pub opened : Turn words args due cs (set marks h 1) h (set marks h 1) order count 0
   opened =
       record {
         ordering = record {
@@ -281,7 +274,7 @@ module _ {words args cs marks order : List ℕ} {count h : ℕ} (o : Ordering wo
       }
 
 -- A node that was new is open, and argument j of it is to be visited.
-module _ {words args cs marks order : List ℕ} {count h : ℕ} (v : Visiting words args cs marks order count h) (new : word marks h ≡ 0) {after then : List ℕ} {now j : ℕ} (t : Turn words args cs (set marks h 1) h after then now j) where
+module _ {words args counts cs marks order : List ℕ} {count h : ℕ} (v : Visiting words args counts cs marks order count h) (new : word marks h ≡ 0) {after then : List ℕ} {now j : ℕ} (t : Turn words args (word counts) cs (set marks h 1) h after then now j) where
   there : h < length marks
   there = rw (v .ordering .marks-size) (v .node)
 
@@ -307,10 +300,11 @@ module _ {words args cs marks order : List ℕ} {count h : ℕ} (v : Visiting wo
       count-less (isNew marks) (isNew after) (nodeCount words) (λ k l e. eq-eqb _ _ (was-new k l (eqb-true _ _ e))) h (v .node) (eq-eqb _ _ new) (ne-eqb (word after h) 0 (λ z. omega (arith, z, still-open)))
 
   -- every open node leads to the head of its argument
-  pub visit-next : (g : ℕ) → j < countOf words h → g ≡ classOf cs (argumentOf words args h j) → g < nodeCount words → 0 < countOf words g → Visiting words args cs after then now g
+  pub visit-next : (g : ℕ) → j < word counts h → g ≡ classOf cs (argumentOf words args h j) → g < nodeCount words → 0 < word counts g → Visiting words args counts cs after then now g
   visit-next g l e i a =
       record {
         sections = v .sections;
+        counts-right = v .counts-right;
         partition = v .partition;
         ordering = t .ordering;
         node = i;
@@ -318,40 +312,40 @@ module _ {words args cs marks order : List ℕ} {count h : ℕ} (v : Visiting wo
         leads = leads-on;
       }
     where
-      step : Leads words args cs h g
+      step : Leads words args (word counts) cs h g
       step = next j (v .node) l (sym e)
 
-      leads-on : (k : ℕ) → k < nodeCount words → word after k ≡ 1 → Leads words args cs k g
+      leads-on : (k : ℕ) → k < nodeCount words → word after k ≡ 1 → Leads words args (word counts) cs k g
       leads-on k q z = go (written marks h 1 k there)
         where
-          go : Written marks h 1 k → Leads words args cs k g
+          go : Written marks h 1 k → Leads words args (word counts) cs k g
           go (here d w) = rw d step
           go (other d w) = further (v .leads k q (sym w ∙ t .later .none-opened k q z)) step
 
   -- the heads of its arguments are nodes
-  head-node : (i : ℕ) → i < countOf words h → classOf cs (argumentOf words args h i) < nodeCount words
-  head-node = heads-nodes (v .sections) (v .partition) (v .node)
+  head-node : (i : ℕ) → i < word counts h → classOf cs (argumentOf words args h i) < nodeCount words
+  head-node i l = v .partition .below _ (looked-node words args (v .sections) counts (v .counts-right) h i (v .node) l)
 
-  -- the head of argument j is done, if it has arguments
-  turn-on : (g : ℕ) → j < countOf words h → g ≡ classOf cs (argumentOf words args h j) → (later order′ : List ℕ) (c : ℕ) → Ordering words args cs later order′ c → Later (nodeCount words) after later → Settled words later g → Turn words args cs (set marks h 1) h later order′ c (j + 1)
+  -- the head of argument j is done, if arguments of it are looked at
+  turn-on : (g : ℕ) → j < word counts h → g ≡ classOf cs (argumentOf words args h j) → (later order′ : List ℕ) (c : ℕ) → Ordering words args (word counts) cs later order′ c → Later (nodeCount words) after later → Settled (word counts) later g → Turn words args (word counts) cs (set marks h 1) h later order′ c (j + 1)
   turn-on g b e later order′ c o l s =
       record {
         ordering = o;
         later = later-on (t .later) l;
-        arguments = settled-next words (λ i. classOf cs (argumentOf words args h i)) j g e s l (λ i z. head-node i (omega arith)) (t .arguments);
+        arguments = settled-next (word counts) (λ i. classOf cs (argumentOf words args h i)) j g e s l (λ i z. head-node i (omega arith)) (t .arguments);
       }
 
   -- it is not due
-  pub turned-over : (g : ℕ) → j < countOf words h → g ≡ classOf cs (argumentOf words args h j) → Settled words after g → {later order′ : List ℕ} {c : ℕ} → later ≡ after → order′ ≡ then → c ≡ now → Turn words args cs (set marks h 1) h later order′ c (j + 1)
+  pub turned-over : (g : ℕ) → j < word counts h → g ≡ classOf cs (argumentOf words args h j) → Settled (word counts) after g → {later order′ : List ℕ} {c : ℕ} → later ≡ after → order′ ≡ then → c ≡ now → Turn words args (word counts) cs (set marks h 1) h later order′ c (j + 1)
   turned-over g b e s x y z = rw (x, y, z) (turn-on g b e after then now (t .ordering) (later-same _ _) s)
 
   -- it is visited
-  pub turned : (g : ℕ) → j < countOf words h → g ≡ classOf cs (argumentOf words args h j) → (passed placed : List ℕ) (n : ℕ) → Passed words args cs after g passed placed n → {later order′ : List ℕ} {c : ℕ} → later ≡ passed → order′ ≡ placed → c ≡ n → Turn words args cs (set marks h 1) h later order′ c (j + 1)
+  pub turned : (g : ℕ) → j < word counts h → g ≡ classOf cs (argumentOf words args h j) → (passed placed : List ℕ) (n : ℕ) → Passed words args (word counts) cs after g passed placed n → {later order′ : List ℕ} {c : ℕ} → later ≡ passed → order′ ≡ placed → c ≡ n → Turn words args (word counts) cs (set marks h 1) h later order′ c (j + 1)
   turned g b e passed placed n p x y z = rw (x, y, z) (turn-on g b e passed placed n (p .ordering) (p .later) (λ a. p .passed))
 
   -- Every argument is visited: the node is put into the order.
-  module _ (whole : countOf words h ≤ j) where
-    o : Ordering words args cs after then now
+  module _ (whole : word counts h ≤ j) where
+    o : Ordering words args (word counts) cs after then now
     o = t .ordering
 
     not-done : word after h ≡ 2 → ⊥
@@ -376,7 +370,7 @@ module _ {words args cs marks order : List ℕ} {count h : ℕ} (v : Visiting wo
         go (other d w) = sym (getD-set-other marks h k 1 0 d) ∙ t .later .none-opened k l (sym w ∙ e)
 
     -- the node is done
-    pub finished : Passed words args cs marks h (set after h 2) (set then now h) (now + 1)
+    pub finished : Passed words args (word counts) cs marks h (set after h 2) (set then now h) (now + 1)
     finished =
         record {
           ordering = put-behind o (v .node) not-done (v .compound) head-node (λ i l. t .arguments i (omega arith));
@@ -385,13 +379,13 @@ module _ {words args cs marks order : List ℕ} {count h : ℕ} (v : Visiting wo
         }
 
 -- What the mark of a node says before its visit.
-module _ {words args cs marks order : List ℕ} {count h : ℕ} (v : Visiting words args cs marks order count h) where
+module _ {words args counts cs marks order : List ℕ} {count h : ℕ} (v : Visiting words args counts cs marks order count h) where
   -- it stands in the order
-  pub met-done : word marks h ≡ 2 → Passed words args cs marks h marks order count
+  pub met-done : word marks h ≡ 2 → Passed words args (word counts) cs marks h marks order count
   met-done e = record { ordering = v .ordering; passed = e; later = later-same _ _ }
 
   -- it leads to itself
-  pub met-open : word marks h ≡ 1 → Looped words args cs
+  pub met-open : word marks h ≡ 1 → Looped words args (word counts) cs
   met-open e = (h, v .node, v .leads h (v .node) e)
 
   -- it is new
@@ -401,7 +395,7 @@ module _ {words args cs marks order : List ℕ} {count h : ℕ} (v : Visiting wo
       omega (arith, r)
 
 -- with new marks nothing is listed
-ordering-none : {words args cs marks order : List ℕ} → Starting (nodeCount words) marks order → Ordering words args cs marks order 0
+ordering-none : {words args cs marks order : List ℕ} {due : ℕ → ℕ} → Starting (nodeCount words) marks order → Ordering words args due cs marks order 0
 ordering-none s =
     record {
       marks-size = s .marks-size;
@@ -415,11 +409,12 @@ ordering-none s =
       room = omega arith;
     }
 
--- so any node that has arguments can be visited
-pub visit-first : {words args cs marks order : List ℕ} {h : ℕ} → Sections words args → Partition (nodeCount words) cs → Starting (nodeCount words) marks order → h < nodeCount words → 0 < countOf words h → Visiting words args cs marks order 0 h
-visit-first s p n l a =
+-- so any node with arguments that are looked at can be visited
+pub visit-first : {words args counts cs marks order : List ℕ} {h : ℕ} → Sections words args → Counts words args counts (nodeCount words) → Partition (nodeCount words) cs → Starting (nodeCount words) marks order → h < nodeCount words → 0 < word counts h → Visiting words args counts cs marks order 0 h
+visit-first s k p n l a =
     record {
       sections = s;
+      counts-right = k;
       partition = p;
       ordering = ordering-none n;
       node = l;
@@ -428,7 +423,7 @@ visit-first s p n l a =
     }
 
 -- The first places of the order, as a list.
-module _ {words args cs marks order : List ℕ} {count : ℕ} (o : Ordering words args cs marks order count) where
+module _ {words args cs marks order : List ℕ} {due : ℕ → ℕ} {count : ℕ} (o : Ordering words args due cs marks order count) where
   placed-most : count ≤ nodeCount words
   placed-most =
       let r = o .room in
@@ -445,18 +440,18 @@ module _ {words args cs marks order : List ℕ} {count : ℕ} (o : Ordering word
   in-place q l = let e = placed-length in omega (arith, e, l)
 
   -- what is met in the order is met in the list
-  placed-met : (p : ℕ) → p ≤ count → (g : ℕ) → Met words order p g → Met words (take count order) p g
+  placed-met : (p : ℕ) → p ≤ count → (g : ℕ) → Met due order p g → Met due (take count order) p g
   placed-met p l g (leaf e) = leaf e
   placed-met p l g (before q b e) = before q b (placed-at q (omega arith) ∙ e)
 
   -- the nodes there are listed
-  placed-listed : Listed words args cs (take count order)
+  placed-listed : Listed words args due cs (take count order)
   placed-listed = record { node = node-at; compound = compound-at; once = once-at; first = first-at }
     where
       node-at : (q : ℕ) → q < length (take count order) → word (take count order) q < nodeCount words
       node-at q l = let b = in-place q l in rw (placed-at q b) (o .listed q b .0)
 
-      compound-at : (q : ℕ) → q < length (take count order) → 0 < countOf words (word (take count order) q)
+      compound-at : (q : ℕ) → q < length (take count order) → 0 < due (word (take count order) q)
       compound-at q l = let b = in-place q l in rw (placed-at q b) (o .compound q b)
 
       once-at : (q r : ℕ) → q < r → r < length (take count order) → word (take count order) q ≡ word (take count order) r → ⊥
@@ -465,48 +460,53 @@ module _ {words args cs marks order : List ℕ} {count : ℕ} (o : Ordering word
           let a : q < count = omega (arith, b, l) in
           o .once q r l b (sym (placed-at q a) ∙ e ∙ placed-at r b)
 
-      first-at : (q : ℕ) → q < length (take count order) → (j : ℕ) → j < countOf words (word (take count order) q) → Met words (take count order) q (classOf cs (argumentOf words args (word (take count order) q) j))
+      first-at : (q : ℕ) → q < length (take count order) → (j : ℕ) → j < due (word (take count order) q) → Met due (take count order) q (classOf cs (argumentOf words args (word (take count order) q) j))
       first-at q l =
           let b = in-place q l in
           rw (placed-at q b) (λ j t. placed-met q (omega (arith, b)) _ (o .first q b j t))
 
-  -- a node that is done, if it has arguments, is met there
-  placed-settled : (g : ℕ) → g < nodeCount words → Settled words marks g → Met words (take count order) (length (take count order)) g
+  -- a node that is done, if arguments of it are looked at, is met there
+  placed-settled : (g : ℕ) → g < nodeCount words → Settled due marks g → Met due (take count order) (length (take count order)) g
   placed-settled g l s = rw placed-length (placed-met count (omega arith) g (settled-met o l s))
 
--- Node i is looked at.
-module _ {words args cs marks order : List ℕ} {count i : ℕ} (s : Sections words args) (p : Partition (nodeCount words) cs) (w : Sweep words args cs marks order count i) (l : i < nodeCount words) where
-  -- its head can be visited: no node is open
-  pub sweep-next : (h : ℕ) → h ≡ classOf cs i → 0 < countOf words h → Visiting words args cs marks order count h
+-- Node g, at place i of the list, is looked at.
+module _ {words args counts cs list marks order : List ℕ} {count i : ℕ} (s : Sections words args) (k : Counts words args counts (nodeCount words)) (p : Partition (nodeCount words) cs) (t : OpenListed words counts list) (w : Sweep words args (word counts) cs list marks order count i) (l : i < length list) (g : ℕ) (d : g ≡ word list i) where
+  -- its head is a node
+  pub sweep-node : (h : ℕ) → h ≡ classOf cs g → h < nodeCount words
+  sweep-node h e = head-inside p (rw d (t .node i l)) e
+
+  -- it can be visited: no node is open
+  pub sweep-next : (h : ℕ) → h ≡ classOf cs g → 0 < word counts h → Visiting words args counts cs marks order count h
   sweep-next h e a =
       record {
         sections = s;
+        counts-right = k;
         partition = p;
         ordering = w .ordering;
-        node = head-inside p l e;
+        node = sweep-node h e;
         compound = a;
         leads = λ k q z. absurd (w .none-open k q z);
       }
 
-  -- its head is done, if it has arguments
-  sweep-on : (h : ℕ) → h ≡ classOf cs i → (later order′ : List ℕ) (c : ℕ) → Ordering words args cs later order′ c → Later (nodeCount words) marks later → Settled words later h → Sweep words args cs later order′ c (i + 1)
-  sweep-on h e later order′ c o t z =
+  -- it is done, if arguments of it are looked at
+  sweep-on : (h : ℕ) → h ≡ classOf cs g → (later order′ : List ℕ) (c : ℕ) → Ordering words args (word counts) cs later order′ c → Later (nodeCount words) marks later → Settled (word counts) later h → Sweep words args (word counts) cs list later order′ c (i + 1)
+  sweep-on h e later order′ c o q z =
       record {
         ordering = o;
-        none-open = λ k b y. w .none-open k b (t .none-opened k b y);
-        heads = settled-next words (classOf cs) i h e z t (λ k b. p .below k (omega arith)) (w .heads);
+        none-open = λ k b y. w .none-open k b (q .none-opened k b y);
+        heads = settled-next (word counts) (λ k. classOf cs (word list k)) i h (e ∙ ap (classOf cs) d) z q (λ k b. p .below (word list k) (t .node k (omega arith))) (w .heads);
       }
 
   -- it is not due
-  pub swept-over : (h : ℕ) → h ≡ classOf cs i → Settled words marks h → {later order′ : List ℕ} {c : ℕ} → later ≡ marks → order′ ≡ order → c ≡ count → Sweep words args cs later order′ c (i + 1)
+  pub swept-over : (h : ℕ) → h ≡ classOf cs g → Settled (word counts) marks h → {later order′ : List ℕ} {c : ℕ} → later ≡ marks → order′ ≡ order → c ≡ count → Sweep words args (word counts) cs list later order′ c (i + 1)
   swept-over h e s x y z = rw (x, y, z) (sweep-on h e marks order count (w .ordering) (later-same _ _) s)
 
   -- it is visited
-  pub swept : (h : ℕ) → h ≡ classOf cs i → (passed placed : List ℕ) (n : ℕ) → Passed words args cs marks h passed placed n → {later order′ : List ℕ} {c : ℕ} → later ≡ passed → order′ ≡ placed → c ≡ n → Sweep words args cs later order′ c (i + 1)
+  pub swept : (h : ℕ) → h ≡ classOf cs g → (passed placed : List ℕ) (n : ℕ) → Passed words args (word counts) cs marks h passed placed n → {later order′ : List ℕ} {c : ℕ} → later ≡ passed → order′ ≡ placed → c ≡ n → Sweep words args (word counts) cs list later order′ c (i + 1)
   swept h e passed placed n q x y z = rw (x, y, z) (sweep-on h e passed placed n (q .ordering) (q .later) (λ a. q .passed))
 
 -- with new marks no head is visited
-pub swept-none : {words args cs marks order : List ℕ} → Starting (nodeCount words) marks order → Sweep words args cs marks order 0 0
+pub swept-none : {words args cs list marks order : List ℕ} {due : ℕ → ℕ} → Starting (nodeCount words) marks order → Sweep words args due cs list marks order 0 0
 swept-none s =
     record {
       ordering = ordering-none s;
@@ -514,22 +514,29 @@ swept-none s =
       heads = λ k l. absurd (omega arith);
     }
 
--- every node is looked at: the heads that have arguments stand in order
-pub swept-all : {words args cs marks order : List ℕ} {count i : ℕ} → Partition (nodeCount words) cs → Sweep words args cs marks order count i → nodeCount words ≤ i → (count ≤ nodeCount words) × Ordered words args cs (take count order)
-swept-all {cs = cs} p w a =
-    (placed-most (w .ordering), record { listed = placed-listed (w .ordering); whole = λ i l. placed-settled (w .ordering) (classOf cs i) (p .below i l) (w .heads i (omega arith)) })
+-- every node of the list is looked at: the heads with arguments that are looked at stand in order
+pub swept-all : {words args counts cs list marks order : List ℕ} {count i : ℕ} → Partition (nodeCount words) cs → OpenListed words counts list → Sweep words args (word counts) cs list marks order count i → length list ≤ i → (count ≤ nodeCount words) × Ordered words args (word counts) cs (take count order)
+swept-all {words} {counts = counts} {cs} {list} {marks} p t w a =
+    (placed-most (w .ordering), record { listed = placed-listed (w .ordering); whole = λ i l. placed-settled (w .ordering) (classOf cs i) (p .below i l) (settled i l) })
+  where
+    -- a head with arguments that are looked at stands in the list itself
+    settled : (i : ℕ) → i < nodeCount words → Settled (word counts) marks (classOf cs i)
+    settled i l b =
+        let f = t .whole (classOf cs i) (p .below i l) b in
+        let e : classOf cs (word list (f .0)) ≡ classOf cs i = ap (classOf cs) (f .2) ∙ p .own i l in
+        rw e at (w .heads (f .0) (omega (arith, f .1))) b
 
 -- a search that ends at a cycle
-pub searched-cycle : {words args cs : List ℕ} {a : ℕ} → Looped words args cs → Searched words args cs a true
+pub searched-cycle : {words args cs : List ℕ} {due : ℕ → ℕ} {a : ℕ} → Looped words args due cs → Searched words args due cs a true
 searched-cycle l = record { cycle = λ e. l; ordered = λ e. absurd (let z : _≡_ {A = ℕ} 0 1 = cc in omega arith) }
 
 -- a search that passes
-searched-order : {words args cs : List ℕ} {a : ℕ} → OrderedBelow words args cs a → Searched words args cs a false
+searched-order : {words args cs : List ℕ} {due : ℕ → ℕ} {a : ℕ} → OrderedBelow words args due cs a → Searched words args due cs a false
 searched-order o = record { cycle = λ e. absurd (let z : _≡_ {A = ℕ} 0 1 = cc in omega arith); ordered = λ e. o }
 
--- the head of node a has no arguments
-pub searched-leaf : (words args cs : List ℕ) (a h : ℕ) → h ≡ classOf cs a → countOf words h ≡ 0 → Searched words args cs a false
-searched-leaf words args cs a h e z =
+-- no argument of the head of node a is looked at
+pub searched-leaf : (words args : List ℕ) (due : ℕ → ℕ) (cs : List ℕ) (a h : ℕ) → h ≡ classOf cs a → due h ≡ 0 → Searched words args due cs a false
+searched-leaf words args due cs a h e z =
     searched-order
     (record {
       order = [];
@@ -543,7 +550,7 @@ searched-leaf words args cs a h e z =
     })
 
 -- the head of node a is visited
-pub searched-passed : {words args cs marks later order : List ℕ} {a h c : ℕ} → h ≡ classOf cs a → h < nodeCount words → Passed words args cs marks h later order c → Searched words args cs a false
+pub searched-passed : {words args cs marks later order : List ℕ} {due : ℕ → ℕ} {a h c : ℕ} → h ≡ classOf cs a → h < nodeCount words → Passed words args due cs marks h later order c → Searched words args due cs a false
 searched-passed {order = order} {h = h} {c} e l p =
     searched-order
     (record { order = take c order; listed = placed-listed (p .ordering); from = rw (← e) (placed-settled (p .ordering) h l (λ a. p .passed)) })

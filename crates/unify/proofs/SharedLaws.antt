@@ -12,7 +12,7 @@ use borrow.Author.Count.{below-more}
 use lib.Dec.{eqb, ltb}
 use lib.ListN.{length, set, length-map}
 use lib.Seq.{getD-set-same, getD-set-other, ext-getD}
-use Rattle.table.specs.Layout.{word, kindOf, countOf, nodeCount, argumentOf}
+use Rattle.table.specs.Layout.{word, kindOf, nodeCount, argumentOf}
 use Rattle.table.proofs.BoolLaws.{and-true-right}
 use Rattle.terms.specs.Term.{var, app}
 use Rattle.terms.specs.Substitution.{Substitution, sub}
@@ -32,12 +32,15 @@ use Rattle.unification.proofs.SectionLaws.{counted, is-node, sections-well-form
 use Rattle.unification.proofs.SolvedLaws.{solution-first}
 use Rattle.unification.proofs.ValuedLaws.{values-named}
 use Rattle.unify.specs.declared.Variables.{Variables}
+use Rattle.unify.specs.Code.Open.{Counts}
 use Rattle.unify.specs.Code.Order.{Met, leaf, before, Ordered}
 use Rattle.unify.specs.Code.Named.{valueName, Alike}
 use Rattle.unify.specs.Code.Naming.{NamedAlong}
 use Rattle.unify.specs.Code.Start.{Started, HeadsNamed, Together}
 use Rattle.unify.specs.Code.Stands.{OneConstant, Lists, BeginsShared}
 use Rattle.unify.proofs.LeastLaws.{member-place, rising-places, selected, selected-from, selected-member, selected-rises}
+use Rattle.unify.proofs.OpenLaws.{looked-at}
+use Rattle.unify.proofs.ClosedLaws.{heads-closed}
 use Rattle.unify.proofs.StartLaws.{below, itself, start-partition, start-solved}
 use Rattle.unify.proofs.NamedLaws.{named-valued}
 
@@ -62,25 +65,25 @@ named-inside n cs names p l =
           omega (arith, b, l);
     }
 
--- Heads that are not above their nodes: those that have arguments, in rising order.
-module _ (words args : List ℕ) (s : Sections words args) (cs : List ℕ) (p : Partition (nodeCount words) cs) (low : (i : ℕ) → i < nodeCount words → classOf cs i ≤ i) where
-  -- Whether node i is its own head and has arguments.
-  compoundHead : ℕ → Bool
-  compoundHead i = eqb (classOf cs i) i && ltb 0 (countOf words i)
+-- Heads that are not above their nodes: those that have arguments that are looked at, in rising order.
+module _ (words args : List ℕ) (s : Sections words args) (counts : List ℕ) (c : Counts words args counts (nodeCount words)) (cs : List ℕ) (p : Partition (nodeCount words) cs) (low : (i : ℕ) → i < nodeCount words → classOf cs i ≤ i) where
+  -- Whether node i is its own head and has such arguments.
+  dueHead : ℕ → Bool
+  dueHead i = eqb (classOf cs i) i && ltb 0 (word counts i)
 
   -- Those that are.
   rising : List ℕ
-  rising = selected compoundHead (nodeCount words)
+  rising = selected dueHead (nodeCount words)
 
-  compound-at : (q : ℕ) → q < length rising → (word rising q < nodeCount words) × (0 < countOf words (word rising q))
-  unfolding rising compoundHead
-  compound-at q h =
-      let r = selected-from compoundHead (nodeCount words) (word rising q) (placed rising q h) in
-      (r .0, ltb-true 0 (countOf words (word rising q)) (and-true-right (eqb (classOf cs (word rising q)) (word rising q)) (ltb 0 (countOf words (word rising q))) (r .1)))
+  due-at : (q : ℕ) → q < length rising → (word rising q < nodeCount words) × (0 < word counts (word rising q))
+  unfolding rising dueHead
+  due-at q h =
+      let r = selected-from dueHead (nodeCount words) (word rising q) (placed rising q h) in
+      (r .0, ltb-true 0 (word counts (word rising q)) (and-true-right (eqb (classOf cs (word rising q)) (word rising q)) (ltb 0 (word counts (word rising q))) (r .1)))
 
   rises : (q r : ℕ) → q < r → r < length rising → word rising q < word rising r
   unfolding rising
-  rises q r l h = rising-places rising (selected-rises compoundHead (nodeCount words)) q r l h
+  rises q r l h = rising-places rising (selected-rises dueHead (nodeCount words)) q r l h
 
   -- a place comes first if its node is lower
   lower : (q r : ℕ) → q < length rising → word rising q < word rising r → q < r
@@ -92,32 +95,32 @@ module _ (words args : List ℕ) (s : Sections words args) (cs : List ℕ) (p : 
           let u : r < q → ⊥ = λ z. let y = rises r q z h in omega (arith, l, y) in
           omega (arith, n, u)
 
-  head-at : (i : ℕ) → i < nodeCount words → 0 < countOf words (classOf cs i) → (q : ℕ) × (q < length rising) × (classOf cs i ≡ word rising q)
-  unfolding rising compoundHead
-  head-at i h c =
-      member-place rising (classOf cs i) (selected-member compoundHead (nodeCount words) (classOf cs i) (p .below i h) (rw (eq-eqb (classOf cs (classOf cs i)) (classOf cs i) (p .own i h), lt-ltb 0 (countOf words (classOf cs i)) c)))
+  head-at : (i : ℕ) → i < nodeCount words → 0 < word counts (classOf cs i) → (q : ℕ) × (q < length rising) × (classOf cs i ≡ word rising q)
+  unfolding rising dueHead
+  head-at i h d =
+      member-place rising (classOf cs i) (selected-member dueHead (nodeCount words) (classOf cs i) (p .below i h) (rw (eq-eqb (classOf cs (classOf cs i)) (classOf cs i) (p .own i h), lt-ltb 0 (word counts (classOf cs i)) d)))
 
   -- a head is met before every place that it must be before
-  head-met : (i r : ℕ) → i < nodeCount words → ((q : ℕ) → q < length rising → classOf cs i ≡ word rising q → q < r) → Met words rising r (classOf cs i)
-  head-met i r h b = go (ℕ-discrete (countOf words (classOf cs i)) 0)
+  head-met : (i r : ℕ) → i < nodeCount words → ((q : ℕ) → q < length rising → classOf cs i ≡ word rising q → q < r) → Met (word counts) rising r (classOf cs i)
+  head-met i r h b = go (ℕ-discrete (word counts (classOf cs i)) 0)
     where
-      go : Dec (countOf words (classOf cs i) ≡ 0) → Met words rising r (classOf cs i)
+      go : Dec (word counts (classOf cs i) ≡ 0) → Met (word counts) rising r (classOf cs i)
       go (yes z) = leaf z
       go (no n) =
           let q = head-at i h (omega (arith, n)) in
           before (q .0) (b (q .0) (q .1) (q .2)) (sym (q .2))
 
   -- they are in an order in which those of arguments come first
-  rising-ordered : Ordered words args cs rising
+  rising-ordered : Ordered words args (word counts) cs rising
   rising-ordered =
       record {
         listed = record {
-          node = λ q h. compound-at q h .0;
-          compound = λ q h. compound-at q h .1;
+          node = λ q h. due-at q h .0;
+          compound = λ q h. due-at q h .1;
           once = λ q r l h e. let x = rises q r l h in omega (arith, x, e);
-          first = λ q h j c.
-              let g = compound-at q h .0 in
-              let a = s .smaller (word rising q) j g c in
+          first = λ q h j d.
+              let g = due-at q h .0 in
+              let a = s .smaller (word rising q) j g (looked-at c (word rising q) j g d) in
               let k : argumentOf words args (word rising q) j < nodeCount words = omega (arith, a, g) in
               let b = low (argumentOf words args (word rising q) j) k in
               head-met (argumentOf words args (word rising q) j) q k (λ r l e. lower r q l (omega (arith, a, b, e)));
@@ -302,11 +305,12 @@ pub shared-together : (words args cs order names heads : List ℕ) → Sections 
 shared-together words args cs order names heads s l d t m e =
     rw e
     (record {
-      formed = record {
-        partition = shared-partition words args s cs order l d t names m;
+      formed = λ counts c. record {
+        partition = parts;
         constants = shared-constants words args s cs order l d t names m;
-        order = rising words args s (map (word names) cs) (shared-partition words args s cs order l d t names m) low;
-        ordered = rising-ordered words args s (map (word names) cs) (shared-partition words args s cs order l d t names m) low;
+        closed = heads-closed words args s counts c (map (word names) cs) parts low (λ i h. ap (sub var) (head-term words args s cs order l d t names m i (is-node words args i h))) one-head;
+        order = rising words args s counts c (map (word names) cs) parts low;
+        ordered = rising-ordered words args s counts c (map (word names) cs) parts low;
       };
       pairs = pairs words args s cs order l d t names m;
       stands = record {
@@ -314,11 +318,18 @@ shared-together words args cs order names heads s l d t m e =
         closed = shared-closed words args s cs order l d t names m;
       };
       same = pairs-same words args s cs order l d t names m;
-      shared = λ i j h k q. term-head words args s cs order l d t names m i j (is-node words args i h) (is-node words args j k) (sym (sub-var (termOf (nodesFrom words args) i)) ∙ q ∙ sub-var (termOf (nodesFrom words args) j));
+      first = record { first = low; own = own words args s cs order l d t names m };
     })
   where
     low : (i : ℕ) → i < nodeCount words → classOf (map (word names) cs) i ≤ i
     low i h = head-of words args s cs order l d t names m i h .low
+
+    parts : Partition (nodeCount words) (map (word names) cs)
+    parts = shared-partition words args s cs order l d t names m
+
+    one-head : (i j : ℕ) → i < nodeCount words → j < nodeCount words → value (nodesFrom words args) var i ≡ value (nodesFrom words args) var j → classOf (map (word names) cs) i ≡ classOf (map (word names) cs) j
+    one-head i j h k q =
+        term-head words args s cs order l d t names m i j (is-node words args i h) (is-node words args j k) (sym (sub-var (termOf (nodesFrom words args) i)) ∙ q ∙ sub-var (termOf (nodesFrom words args) j))
 
 -- what unifying begins with, by its parts
 pub begun-shared : {words args cs : List ℕ} {v : Variables} → Lists words args v → Together words args cs → BeginsShared words args v cs
@@ -329,5 +340,5 @@ begun-shared l t =
       pairs = t .pairs;
       stands = t .stands;
       same = t .same;
-      shared = t .shared;
+      first = t .first;
     }

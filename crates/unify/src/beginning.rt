@@ -1,13 +1,15 @@
-// What is begun with: the variables present, the classes in which nodes of one term are together, the closed nodes.
+// What is begun with: the variables present, the classes in which nodes of one term are together, and their members in circles.
 ghost use mathlib.Core.Path.{_≡_};
 ghost use mathlib.Core.List.{map};
-ghost use Prim.Native.Nat.{_<_};
+ghost use Prim.Native.Nat.{_+_, _≤_, _<_};
 ghost use lib.ListN.{length};
+ghost use Rattle.table.specs.Limits.{maxNodes};
 ghost use Rattle.table.specs.Layout.{word, nodeCount};
 ghost use Rattle.unification.specs.Code.Sections.{Sections};
 ghost use Rattle.unify.specs.Code.Present.{LeastByName};
 ghost use Rattle.unify.specs.Code.Start.{startHead, Started, HeadsNamed, Together};
-ghost use Rattle.unify.specs.Code.Stands.{Lists, BeginsShared, MarkedAt, MarksClosed};
+ghost use Rattle.unify.specs.Code.Circle.{Circles, HeadsFirst, CirclesBefore};
+ghost use Rattle.unify.specs.Code.Stands.{Lists, BeginsShared};
 use crate::Variables;
 use crate::names;
 use crate::nodes;
@@ -122,39 +124,29 @@ pub fn begin_shared(nodes: &[u32], arguments: &[u32], of: &mut [u8]) -> Variable
     Variables { count, nodes: list }
 }
 
-// 1 for a closed node, that is, neither a variable nor with a variable below it, otherwise 0; the nodes before it are marked so.
-fn closed_mark(nodes: &[u32], arguments: &[u32], closed: &[u8], i: usize) -> u8
-    requires { ⌜ Sections (now nodes) (now arguments) ⌝ }
-    requires { ⌜ (i < nodeCount (now nodes)) × MarksClosed (now nodes) (now arguments) (now closed) i ⌝ }
-    ensures { λ r. ⌜ MarkedAt (now (nodes .entry)) (now (arguments .entry)) i r ⌝ }
+// Puts node i into the circle of its head, which is not after it; the nodes before it are in circles.
+fn put_in_circle(of: &[u8], next: &mut [u8], i: usize)
+    requires { ⌜ (i < length (now of)) × (length (now next) ≡ length (now of)) × HeadsFirst (length (now of)) (now of) × (length (now of) ≤ maxNodes) ⌝ }
+    requires { ⌜ CirclesBefore (now of) (now next) i ⌝ }
+    ensures { λ r. ⌜ CirclesBefore (now (of .entry)) (now (next .exit)) (i + 1) ⌝ }
 {
-    let node = Node(i as u32);
-    if nodes::is_variable(nodes, node) {
-        return 0;
+    let h = of[i] as usize;
+    if h == i {
+        next[i] = i as u8;
+        return;
     }
-    let n = nodes::arity(nodes, arguments, node);
-    let mut j: usize = 0;
-    while j < n {
-        let a = nodes::argument(nodes, arguments, node, j);
-        let k = a.0 as usize;
-        if closed[k] == 0 {
-            return 0;
-        }
-        j += 1;
-    }
-    1
+    next[i] = next[h];
+    next[h] = i as u8;
 }
 
-// Marks the closed nodes.
-pub fn mark_closed(nodes: &[u32], arguments: &[u32], closed: &mut [u8])
-    requires { ⌜ Sections (now nodes) (now arguments) ⌝ }
-    requires { ⌜ length (now closed) ≡ nodeCount (now nodes) ⌝ }
-    ensures { λ r. ⌜ MarksClosed (now (nodes .entry)) (now (arguments .entry)) (now (closed .exit)) (nodeCount (now (nodes .entry))) ⌝ }
+// Puts the members of each class into a circle, where the heads come first.
+pub fn make_circles(of: &[u8], next: &mut [u8])
+    requires { ⌜ (length (now next) ≡ length (now of)) × HeadsFirst (length (now of)) (now of) × (length (now of) ≤ maxNodes) ⌝ }
+    ensures { λ r. ⌜ Circles (length (now (of .entry))) (now (of .entry)) (now (next .exit)) ⌝ }
 {
-    let n = nodes::node_count(nodes, arguments);
     let mut i: usize = 0;
-    while i < n {
-        closed[i] = closed_mark(nodes, arguments, closed, i);
+    while i < of.len() {
+        put_in_circle(of, next, i);
         i += 1;
     }
 }

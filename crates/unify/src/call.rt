@@ -1,14 +1,19 @@
 // Unifying two nodes of an accepted table: refusals 8 and 9, and what the two nodes come to.
 ghost use Prim.Native.Nat.{_<_};
 ghost use mathlib.Core.Path.{_≡_};
-ghost use lib.ListN.{length};
+ghost use lib.ListN.{length, replicate};
 ghost use Rattle.table.specs.Layout.{nodeCount};
 ghost use Rattle.table.specs.Code.Accepted.{Accepted};
 ghost use Rattle.unification.specs.Node.{nodesIn};
 ghost use Rattle.unification.specs.Code.Sections.{Sections, nodesFrom};
+ghost use Rattle.unify.specs.Code.Prepared.{preparedWords};
 ghost use Rattle.unify.specs.Code.Calling.{Answers};
 use crate::Extended;
 use crate::beginning::begin_shared;
+use crate::beginning::make_circles;
+use crate::prepared::PREPARED;
+use crate::prepared::count_open;
+use crate::prepared::prepare;
 use crate::settle::extend;
 use crate::words::bind;
 use table::Node;
@@ -17,31 +22,38 @@ use table::layout;
 use table::limits::MAX_NODES;
 use unification::Unification;
 
-// Unifies two nodes of the sections of an accepted table, with room for the heads of the nodes.
+// Unifies two nodes of the sections of an accepted table, with room for what is known of the nodes, and words that are all 0.
 fn unify_with_room(
     nodes: &[u32],
     arguments: &[u32],
     a: Node,
     b: Node,
     of: &mut [u8],
+    next: &mut [u8],
+    counts: &mut [u8],
+    prepared: &mut [u16],
     out: &mut [u32],
 ) -> Unification
     requires { ⌜ Sections (now nodes) (now arguments) ⌝ }
     requires { ⌜ (a .0 < nodeCount (now nodes)) × (b .0 < nodeCount (now nodes)) ⌝ }
-    requires { ⌜ length (now of) ≡ nodeCount (now nodes) ⌝ }
+    requires { ⌜ (length (now of) ≡ nodeCount (now nodes)) × (length (now next) ≡ nodeCount (now nodes)) × (length (now counts) ≡ nodeCount (now nodes)) ⌝ }
+    requires { ⌜ now prepared ≡ replicate preparedWords 0 ⌝ }
     ensures { λ r. ⌜ Answers (nodesFrom (now (nodes .entry)) (now (arguments .entry))) (a .0) (b .0) (now (out .entry)) r (now (out .exit)) ⌝ }
 {
     let variables = begin_shared(nodes, arguments, of);
     if out.len() < variables.count {
         return Unification::Refused(Refusal::TooFewLent);
     }
+    make_circles(of, next);
+    count_open(nodes, arguments, counts);
+    prepare(nodes, arguments, counts, of, prepared);
     let list = variables.nodes;
     let v = variables.count;
-    match extend(nodes, arguments, of, a, b) {
+    match extend(nodes, arguments, counts, of, next, a, b) {
         Extended::Clash => Unification::Clash,
         Extended::Occurs => Unification::Occurs,
         Extended::Unified => {
-            bind(nodes, arguments, &list[0..v], of, out);
+            bind(nodes, arguments, counts, prepared, &list[0..v], of, out);
             Unification::Unified
         }
     }
@@ -58,7 +70,20 @@ fn unify_nodes(nodes: &[u32], arguments: &[u32], a: Node, b: Node, out: &mut [u3
     }
     let count = layout::index(n);
     let mut of = [0u8; MAX_NODES];
-    unify_with_room(nodes, arguments, a, b, &mut of[0..count], out)
+    let mut next = [0u8; MAX_NODES];
+    let mut counts = [0u8; MAX_NODES];
+    let mut prepared = [0u16; PREPARED];
+    unify_with_room(
+        nodes,
+        arguments,
+        a,
+        b,
+        &mut of[0..count],
+        &mut next[0..count],
+        &mut counts[0..count],
+        &mut prepared,
+        out,
+    )
 }
 
 // Unifies two nodes of an accepted table.

@@ -1,43 +1,119 @@
-// Classes of nodes, closed under one pair of nodes more.
+// Classes of nodes, closed under one pair of nodes more. The members of a class stand in a circle: each node has the next one.
 ghost use mathlib.Core.Path.{_≡_};
 ghost use mathlib.Core.List.{map};
-ghost use Prim.Native.Nat.{_<_};
+ghost use mathlib.Core.Bool.{true, false};
+ghost use mathlib.Core.Logic.{_⊎_};
+ghost use Prim.Native.Nat.{_<_, _≤_};
+ghost use lib.ListN.{length};
 ghost use Rattle.table.specs.Layout.{nodeCount};
 ghost use Rattle.unification.specs.Computed.Classes.{renamed as renamedTo};
-ghost use Rattle.unification.specs.Code.Sections.{Sections};
-ghost use Rattle.unification.specs.Code.Heads.{Partition};
-ghost use Rattle.unify.specs.Code.Closing.{Joins};
+ghost use Rattle.unify.specs.Code.Circle.{Circles};
+ghost use Rattle.unify.specs.Code.Closing.{Joinable, Joins};
+ghost use Rattle.unify.specs.Code.Uniting.{strengthOf, Circling, TwoHeads, exchanged, Goes};
 use crate::nodes;
 use table::Node;
 
-// One head in place of another.
-fn renamed(head: u8, from: u8, to: u8) -> u8
-    ensures { λ r. ⌜ r ≡ renamedTo from to head ⌝ }
+// Whether the circle of node g is no longer than that of node h. Either answer would do: it is a matter of speed.
+fn is_shorter(next: &[u8], g: u8, h: u8) -> bool
+    requires { ⌜ Circling (now next) g × (h < length (now next)) ⌝ }
 {
-    if head == from {
-        return to;
+    let mut i = next[g as usize];
+    let mut j = next[h as usize];
+    while (i != g) & (j != h) {
+        i = next[i as usize];
+        j = next[j as usize];
     }
-    head
+    i == g
 }
 
-// The nodes of one head get another.
-fn relabel(of: &mut [u8], from: u8, to: u8)
+// The nodes of one head get another: its circle is gone around.
+fn relabel(of: &mut [u8], next: &[u8], from: u8, to: u8)
+    requires { ⌜ TwoHeads (length (now of)) (now of) (now next) from to ⌝ }
     ensures { λ r. ⌜ now (of .exit) ≡ map (renamedTo from to) (now (of .entry)) ⌝ }
 {
-    let mut i: usize = 0;
-    while i < of.len() {
-        let head = of[i];
-        of[i] = renamed(head, from, to);
-        i += 1;
+    let mut i = from as usize;
+    while of[i] == from {
+        of[i] = to;
+        i = next[i] as usize;
     }
+}
+
+// Makes one circle of two.
+fn link(next: &mut [u8], g: u8, h: u8)
+    requires { ⌜ (g < length (now next)) × (h < length (now next)) ⌝ }
+    ensures { λ r. ⌜ now (next .exit) ≡ exchanged (now (next .entry)) g h ⌝ }
+{
+    let i = g as usize;
+    let j = h as usize;
+    let after = next[i];
+    next[i] = next[j];
+    next[j] = after;
+}
+
+// Makes one class of two, whose heads are given: the first head goes.
+fn merge(of: &mut [u8], next: &mut [u8], from: u8, to: u8)
+    requires { ⌜ TwoHeads (length (now of)) (now of) (now next) from to ⌝ }
+    ensures { λ r. ⌜ (now (of .exit) ≡ map (renamedTo from to) (now (of .entry))) × Circles (length (now (of .entry))) (now (of .exit)) (now (next .exit)) ⌝ }
+{
+    relabel(of, next, from, to);
+    link(next, from, to);
+}
+
+// How strong a head is: an application stays before a variable, a closed one before an open one.
+fn strength(nodes: &[u32], counts: &[u8], h: Node) -> u8
+    requires { ⌜ (h .0 < nodeCount (now nodes)) × (nodeCount (now nodes) ≤ length (now counts)) ⌝ }
+    ensures { λ r. ⌜ r ≡ strengthOf (now (nodes .entry)) (now (counts .entry)) (h .0) ⌝ }
+{
+    if nodes::is_variable(nodes, h) {
+        return 0;
+    }
+    let i = h.0 as usize;
+    if counts[i] != 0 {
+        return 1;
+    }
+    2
+}
+
+// Whether head g goes before head h: the weaker does, and of two that are as strong that of the smaller class.
+fn goes_first(nodes: &[u32], counts: &[u8], next: &[u8], g: u8, h: u8) -> bool
+    requires { ⌜ (g < nodeCount (now nodes)) × (h < nodeCount (now nodes)) × (nodeCount (now nodes) ≤ length (now counts)) ⌝ }
+    requires { ⌜ Circling (now next) g × (h < length (now next)) ⌝ }
+    ensures { λ r. ⌜ (r ≡ true → strengthOf (now (nodes .entry)) (now (counts .entry)) g ≤ strengthOf (now (nodes .entry)) (now (counts .entry)) h) × (r ≡ false → strengthOf (now (nodes .entry)) (now (counts .entry)) h ≤ strengthOf (now (nodes .entry)) (now (counts .entry)) g) ⌝ }
+{
+    let x = strength(nodes, counts, nodes::node(g));
+    let y = strength(nodes, counts, nodes::node(h));
+    if x == y {
+        return is_shorter(next, g, h);
+    }
+    x < y
+}
+
+// Makes one class of two, whose heads are given.
+fn unite(nodes: &[u32], counts: &[u8], of: &mut [u8], next: &mut [u8], g: u8, h: u8)
+    requires { ⌜ (length (now of) ≡ nodeCount (now nodes)) × (nodeCount (now nodes) ≤ length (now counts)) ⌝ }
+    requires { ⌜ TwoHeads (length (now of)) (now of) (now next) g h ⌝ }
+    ensures { λ r. ⌜ Goes (now (nodes .entry)) (now (counts .entry)) (now (of .entry)) g h (now (of .exit)) (now (next .exit)) ⊎ Goes (now (nodes .entry)) (now (counts .entry)) (now (of .entry)) h g (now (of .exit)) (now (next .exit)) ⌝ }
+{
+    if goes_first(nodes, counts, next, g, h) {
+        merge(of, next, g, h);
+        return;
+    }
+    merge(of, next, h, g);
 }
 
 // Joins two nodes, and whatever the closure then joins. Says whether there is no clash.
-pub fn join(nodes: &[u32], arguments: &[u32], of: &mut [u8], a: Node, b: Node) -> bool
-    requires { ⌜ Sections (now nodes) (now arguments) ⌝ }
-    requires { ⌜ Partition (nodeCount (now nodes)) (now of) ⌝ }
+pub fn join(
+    nodes: &[u32],
+    arguments: &[u32],
+    counts: &[u8],
+    of: &mut [u8],
+    next: &mut [u8],
+    a: Node,
+    b: Node,
+) -> bool
+    requires { ⌜ Joinable (now nodes) (now arguments) (now counts) (now of) (now next) ⌝ }
     requires { ⌜ (a .0 < nodeCount (now nodes)) × (b .0 < nodeCount (now nodes)) ⌝ }
-    ensures { λ r. ⌜ Joins (now (nodes .entry)) (now (arguments .entry)) (now (of .entry)) (a .0) (b .0) r (now (of .exit)) ⌝ }
+    ensures { λ r. ⌜ Joins (now (nodes .entry)) (now (arguments .entry)) (now (counts .entry)) (now (of .entry)) (a .0) (b .0) r (now (of .exit)) (now (next .exit)) ⌝ }
 {
     let i = a.0 as usize;
     let j = b.0 as usize;
@@ -48,24 +124,20 @@ pub fn join(nodes: &[u32], arguments: &[u32], of: &mut [u8], a: Node, b: Node) -
     }
     let first = nodes::node(g);
     let second = nodes::node(h);
-    if nodes::is_variable(nodes, first) {
-        relabel(of, g, h);
+    if nodes::is_variable(nodes, first) | nodes::is_variable(nodes, second) {
+        unite(nodes, counts, of, next, g, h);
         return true;
     }
-    if nodes::is_variable(nodes, second) {
-        relabel(of, h, g);
-        return true;
-    }
-    if !nodes::one_symbol(nodes, first, second) {
+    if !nodes::one_symbol(nodes, first, second) | nodes::both_closed(nodes, counts, first, second) {
         return false;
     }
-    relabel(of, g, h);
+    unite(nodes, counts, of, next, g, h);
     let count = nodes::arity(nodes, arguments, first);
     let mut k: usize = 0;
     while k < count {
         let x = nodes::argument(nodes, arguments, first, k);
         let y = nodes::argument(nodes, arguments, second, k);
-        if !join(nodes, arguments, of, x, y) {
+        if !join(nodes, arguments, counts, of, next, x, y) {
             return false;
         }
         k += 1;

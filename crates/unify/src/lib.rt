@@ -13,14 +13,20 @@ use table::Checked;
 use table::Node;
 use unification::Unification;
 
+// Bytes put into others.
+pub mod bytes;
+
 // The nodes of a checked table.
 mod nodes;
 
 // The variables present.
 mod present;
 
-// What is begun with: the variables present, the classes in which nodes of one term are together, the closed nodes.
+// What is begun with: the variables present, and the classes in which nodes of one term are together.
 pub mod beginning;
+
+// What no pair changes: open and closed applications.
+pub mod prepared;
 
 // The classes, closed under one pair more.
 mod closure;

@@ -1,12 +1,12 @@
 // Names for the values of classes. A class is named by a node with its value.
 ghost use mathlib.Core.Path.{_≡_};
-ghost use Prim.Native.Nat.{_+_, _<_};
+ghost use Prim.Native.Nat.{_+_, _≤_, _<_};
 ghost use lib.ListN.{length, set};
 ghost use Rattle.table.specs.Limits.{maxNodes};
 ghost use Rattle.table.specs.Layout.{word, countOf, nodeCount, argumentOf};
 ghost use Rattle.unification.specs.Code.Sections.{Sections};
 ghost use Rattle.unification.specs.Code.Heads.{Partition};
-ghost use Rattle.unify.specs.Code.Named.{valueName, Readable};
+ghost use Rattle.unify.specs.Code.Named.{valueName, Readable, Themselves};
 ghost use Rattle.unify.specs.Code.Naming.{Nameable, Whole, keys, keyOf, Compared, Naming, NamedAlong, Found};
 use crate::nodes;
 use table::Node;
@@ -15,13 +15,14 @@ use table::layout::index;
 use table::limits::MAX_NODES;
 
 // How many keys the table of applications has.
-const KEYS: usize = 1024;
+pub const KEYS: usize = 256;
 
-// 2^16 over the golden ratio: the upper ten of the 16 bits of a name's product with it spread names that lie at equal distances.
+// 2^16 over the golden ratio: the upper eight of the 16 bits of a name's product with it spread names that lie at equal distances.
 const NAME_FACTOR: usize = 40503;
 
-// A factor by which the place of an argument counts in the key.
-const ARGUMENT_FACTOR: usize = 31;
+// 2^8 over the golden ratio, about: the place of an argument counts in the key. One more than it is not a multiple of 4, so that terms
+// with the same argument twice have many keys.
+const ARGUMENT_FACTOR: usize = 157;
 
 // The name of the value of argument j of a node.
 fn argument_name(
@@ -40,13 +41,13 @@ fn argument_name(
 }
 
 // The key of a node in the table of applications.
-fn key(nodes: &[u32], arguments: &[u32], of: &[u8], names: &[u8], h: Node) -> usize
+pub fn key(nodes: &[u32], arguments: &[u32], of: &[u8], names: &[u8], h: Node) -> usize
     requires { ⌜ Readable (now nodes) (now arguments) (now of) (now names) ⌝ }
     requires { ⌜ h .0 < nodeCount (now nodes) ⌝ }
     ensures { λ r. ⌜ (r ≡ keyOf (now (nodes .entry)) (now (arguments .entry)) (now (of .entry)) (now (names .entry)) (h .0)) × (r < keys) ⌝ }
 {
     let n = nodes::arity(nodes, arguments, h);
-    let mut x = (index(layout::name(nodes, h)) * NAME_FACTOR % 65536 / 64 + n) % KEYS;
+    let mut x = (index(layout::name(nodes, h)) * NAME_FACTOR % 65536 / 256 + n) % KEYS;
     let mut j: usize = 0;
     while j < n {
         let name = argument_name(nodes, arguments, of, names, h, j);
@@ -106,6 +107,18 @@ fn find(
     0
 }
 
+// Names each node by itself.
+pub fn name_themselves(names: &mut [u8])
+    requires { ⌜ length (now names) ≤ maxNodes ⌝ }
+    ensures { λ r. ⌜ Themselves (now (names .exit)) ⌝ }
+{
+    let mut i: usize = 0;
+    while i < names.len() {
+        names[i] = i as u8;
+        i += 1;
+    }
+}
+
 // Puts a name for node h.
 fn put(names: &mut [u8], h: Node, name: Node)
     requires { ⌜ (h .0 < length (now names)) × (name .0 < maxNodes) ⌝ }
@@ -154,20 +167,22 @@ fn name_node(
     chain(buckets, earlier, p, k);
 }
 
-// Names the nodes of an order, with an empty table.
+// Names the nodes of an order from place `start` on; those before it are named, and stand in the table.
 fn name_all(
     nodes: &[u32],
     arguments: &[u32],
     of: &[u8],
     order: &[u8],
+    start: usize,
     names: &mut [u8],
     buckets: &mut [u16],
     earlier: &mut [u16],
 )
-    requires { ⌜ Naming (now nodes) (now arguments) (now of) (now order) (now names) (now buckets) (now earlier) 0 ⌝ }
+    requires { ⌜ Naming (now nodes) (now arguments) (now of) (now order) (now names) (now buckets) (now earlier) start ⌝ }
+    requires { ⌜ start ≤ length (now order) ⌝ }
     ensures { λ r. ⌜ NamedAlong (now (nodes .entry)) (now (arguments .entry)) (now (of .entry)) (now (order .entry)) (now (names .exit)) ⌝ }
 {
-    let mut p: usize = 0;
+    let mut p = start;
     while p < order.len() {
         name_node(nodes, arguments, of, order, names, buckets, earlier, p);
         p += 1;
@@ -189,8 +204,75 @@ pub fn name_values(nodes: &[u32], arguments: &[u32], of: &[u8], order: &[u8], na
         arguments,
         of,
         order,
+        0,
         names,
         &mut buckets,
         &mut earlier,
+    );
+}
+
+// Copies half words.
+fn copy_table(from: &[u16], to: &mut [u16])
+    requires { ⌜ length (now from) ≡ length (now to) ⌝ }
+    ensures { λ r. ⌜ now (to .exit) ≡ now (from .entry) ⌝ }
+{
+    let mut i: usize = 0;
+    while i < from.len() {
+        to[i] = from[i];
+        i += 1;
+    }
+}
+
+// Names the nodes of an order from place `start` on, with a copy of the table of those before it.
+fn name_copied(
+    nodes: &[u32],
+    arguments: &[u32],
+    of: &[u8],
+    order: &[u8],
+    start: usize,
+    buckets: &[u16],
+    earlier: &[u16],
+    names: &mut [u8],
+    slots: &mut [u16],
+    links: &mut [u16],
+)
+    requires { ⌜ Naming (now nodes) (now arguments) (now of) (now order) (now names) (now buckets) (now earlier) start ⌝ }
+    requires { ⌜ start ≤ length (now order) ⌝ }
+    requires { ⌜ (length (now buckets) ≡ length (now slots)) × (length (now earlier) ≡ length (now links)) ⌝ }
+    ensures { λ r. ⌜ NamedAlong (now (nodes .entry)) (now (arguments .entry)) (now (of .entry)) (now (order .entry)) (now (names .exit)) ⌝ }
+{
+    copy_table(buckets, slots);
+    copy_table(earlier, links);
+    name_all(nodes, arguments, of, order, start, names, slots, links);
+}
+
+// Names the values of the classes from place `start` of an order on; those before it are named, and stand in a table.
+pub fn name_after(
+    nodes: &[u32],
+    arguments: &[u32],
+    of: &[u8],
+    order: &[u8],
+    start: usize,
+    buckets: &[u16],
+    earlier: &[u16],
+    names: &mut [u8],
+)
+    requires { ⌜ Naming (now nodes) (now arguments) (now of) (now order) (now names) (now buckets) (now earlier) start ⌝ }
+    requires { ⌜ start ≤ length (now order) ⌝ }
+    ensures { λ r. ⌜ NamedAlong (now (nodes .entry)) (now (arguments .entry)) (now (of .entry)) (now (order .entry)) (now (names .exit)) ⌝ }
+{
+    let mut buckets_after = [0u16; KEYS];
+    let mut earlier_after = [0u16; MAX_NODES];
+    name_copied(
+        nodes,
+        arguments,
+        of,
+        order,
+        start,
+        buckets,
+        earlier,
+        names,
+        &mut buckets_after,
+        &mut earlier_after,
     );
 }

@@ -1,4 +1,4 @@
-// The heads that have arguments, in an order in which those of arguments come first, by depth-first search.
+// The heads with arguments that are looked at, in an order in which those of arguments come first, by depth-first search.
 ghost use mathlib.Core.Path.{_≡_};
 ghost use mathlib.Core.Bool.{not, _&&_};
 ghost use Prim.Native.Nat.{_<_, _≤_};
@@ -8,8 +8,9 @@ ghost use Rattle.table.specs.Layout.{word, countOf, nodeCount, argumentOf};
 ghost use Rattle.unification.specs.Computed.Classes.{classOf};
 ghost use Rattle.unification.specs.Code.Sections.{Sections};
 ghost use Rattle.unification.specs.Code.Heads.{Partition};
+ghost use Rattle.unify.specs.Code.Open.{Counts};
 ghost use Rattle.unify.specs.Code.Order.{Ordered, Searched};
-ghost use Rattle.unify.specs.Code.Ordering.{Visiting, Visited, Starting};
+ghost use Rattle.unify.specs.Code.Ordering.{Visiting, Visited, Starting, OpenListed};
 ghost use Rattle.unify.specs.Code.Stands.{Formed};
 use crate::nodes;
 use table::Node;
@@ -38,28 +39,28 @@ fn argument_head(nodes: &[u32], arguments: &[u32], of: &[u8], node: Node, j: usi
     nodes::node_in(of, a.0 as usize)
 }
 
-// Whether node g has arguments and does not stand in the order.
-fn is_due(nodes: &[u32], arguments: &[u32], marks: &[u8], g: Node) -> bool
-    requires { ⌜ Sections (now nodes) (now arguments) ⌝ }
-    requires { ⌜ (g .0 < nodeCount (now nodes)) × (length (now marks) ≡ nodeCount (now nodes)) ⌝ }
-    ensures { λ r. ⌜ r ≡ not (eqb (word (now (marks .entry)) (g .0)) 2) && not (eqb (countOf (now (nodes .entry)) (g .0)) 0) ⌝ }
+// Whether arguments of node g are looked at and it does not stand in the order.
+fn is_due(counts: &[u8], marks: &[u8], g: Node) -> bool
+    requires { ⌜ (g .0 < length (now counts)) × (g .0 < length (now marks)) ⌝ }
+    ensures { λ r. ⌜ r ≡ not (eqb (word (now (marks .entry)) (g .0)) 2) && not (eqb (word (now (counts .entry)) (g .0)) 0) ⌝ }
 {
     let i = g.0 as usize;
-    (marks[i] != DONE) & (nodes::arity(nodes, arguments, g) != 0)
+    (marks[i] != DONE) & (counts[i] != 0)
 }
 
-// Puts head h, which has arguments, into the order, after those of its arguments.
+// Puts head h, with arguments that are looked at, into the order, after those of its arguments.
 fn visit(
     nodes: &[u32],
     arguments: &[u32],
+    counts: &[u8],
     of: &[u8],
     marks: &mut [u8],
     order: &mut [u8],
     placed: usize,
     h: Node,
 ) -> Placed
-    requires { ⌜ Visiting (now nodes) (now arguments) (now of) (now marks) (now order) placed (h .0) ⌝ }
-    ensures { λ r. ⌜ Visited (now (nodes .entry)) (now (arguments .entry)) (now (of .entry)) (now (marks .entry)) (h .0) r (now (marks .exit)) (now (order .exit)) ⌝ }
+    requires { ⌜ Visiting (now nodes) (now arguments) (now counts) (now of) (now marks) (now order) placed (h .0) ⌝ }
+    ensures { λ r. ⌜ Visited (now (nodes .entry)) (now (arguments .entry)) (word (now (counts .entry))) (now (of .entry)) (now (marks .entry)) (h .0) r (now (marks .exit)) (now (order .exit)) ⌝ }
 {
     let i = h.0 as usize;
     let mark = marks[i];
@@ -70,13 +71,14 @@ fn visit(
         return Placed::Cycle;
     }
     marks[i] = OPEN;
-    let n = nodes::arity(nodes, arguments, h);
+    let n = counts[i] as usize;
     let mut count = placed;
     let mut j: usize = 0;
     while j < n {
         let g = argument_head(nodes, arguments, of, h, j);
-        if is_due(nodes, arguments, marks, g) {
-            let Placed::Count(c) = visit(nodes, arguments, of, marks, order, count, g) else {
+        if is_due(counts, marks, g) {
+            let Placed::Count(c) = visit(nodes, arguments, counts, of, marks, order, count, g)
+            else {
                 return Placed::Cycle;
             };
             count = c;
@@ -89,14 +91,15 @@ fn visit(
 }
 
 // Whether the class of node a leads to itself, or another class does that it leads to.
-pub fn leads_back(nodes: &[u32], arguments: &[u32], of: &[u8], a: Node) -> bool
-    requires { ⌜ Sections (now nodes) (now arguments) ⌝ }
+pub fn leads_back(nodes: &[u32], arguments: &[u32], counts: &[u8], of: &[u8], a: Node) -> bool
+    requires { ⌜ Sections (now nodes) (now arguments) × Counts (now nodes) (now arguments) (now counts) (nodeCount (now nodes)) ⌝ }
     requires { ⌜ Partition (nodeCount (now nodes)) (now of) ⌝ }
     requires { ⌜ a .0 < nodeCount (now nodes) ⌝ }
-    ensures { λ r. ⌜ Searched (now (nodes .entry)) (now (arguments .entry)) (now (of .entry)) (a .0) r ⌝ }
+    ensures { λ r. ⌜ Searched (now (nodes .entry)) (now (arguments .entry)) (word (now (counts .entry))) (now (of .entry)) (a .0) r ⌝ }
 {
     let h = nodes::node_in(of, a.0 as usize);
-    if nodes::arity(nodes, arguments, h) == 0 {
+    let i = h.0 as usize;
+    if counts[i] == 0 {
         return false;
     }
     let n = nodes::node_count(nodes, arguments);
@@ -105,6 +108,7 @@ pub fn leads_back(nodes: &[u32], arguments: &[u32], of: &[u8], a: Node) -> bool
     match visit(
         nodes,
         arguments,
+        counts,
         of,
         &mut marks[0..n],
         &mut order[0..n],
@@ -116,26 +120,30 @@ pub fn leads_back(nodes: &[u32], arguments: &[u32], of: &[u8], a: Node) -> bool
     }
 }
 
-// Puts all heads that have arguments into the order, and answers how many there are. No class leads to itself.
+// Puts all heads with arguments that are looked at into the order, and answers how many there are. No class leads to itself.
 pub fn put_in_order(
     nodes: &[u32],
     arguments: &[u32],
+    counts: &[u8],
     of: &[u8],
+    opens: &[u16],
     marks: &mut [u8],
     order: &mut [u8],
 ) -> usize
-    requires { ⌜ Sections (now nodes) (now arguments) ⌝ }
-    requires { ⌜ Formed (now nodes) (now arguments) (now of) ⌝ }
+    requires { ⌜ Sections (now nodes) (now arguments) × Counts (now nodes) (now arguments) (now counts) (nodeCount (now nodes)) ⌝ }
+    requires { ⌜ Formed (now nodes) (now arguments) (now counts) (now of) ⌝ }
+    requires { ⌜ OpenListed (now nodes) (now counts) (now opens) ⌝ }
     requires { ⌜ Starting (nodeCount (now nodes)) (now marks) (now order) ⌝ }
-    ensures { λ r. ⌜ (r ≤ nodeCount (now (nodes .entry))) × Ordered (now (nodes .entry)) (now (arguments .entry)) (now (of .entry)) (take r (now (order .exit))) ⌝ }
+    ensures { λ r. ⌜ (r ≤ nodeCount (now (nodes .entry))) × Ordered (now (nodes .entry)) (now (arguments .entry)) (word (now (counts .entry))) (now (of .entry)) (take r (now (order .exit))) ⌝ }
 {
-    let n = nodes::node_count(nodes, arguments);
     let mut count: usize = 0;
     let mut i: usize = 0;
-    while i < n {
-        let h = nodes::node_in(of, i);
-        if is_due(nodes, arguments, marks, h) {
-            let Placed::Count(c) = visit(nodes, arguments, of, marks, order, count, h) else {
+    while i < opens.len() {
+        let g = nodes::entry(opens, i);
+        let h = nodes::node_in(of, g);
+        if is_due(counts, marks, h) {
+            let Placed::Count(c) = visit(nodes, arguments, counts, of, marks, order, count, h)
+            else {
                 return count;
             };
             count = c;

@@ -4,55 +4,58 @@ ghost use mathlib.Core.Path.{_≡_};
 ghost use lib.ListN.{length};
 ghost use Rattle.table.specs.Layout.{nodeCount};
 ghost use Rattle.unification.specs.Code.Sections.{Sections};
+ghost use Rattle.unify.specs.Code.Open.{Counts};
+ghost use Rattle.unify.specs.Code.Circle.{Circles};
 ghost use Rattle.unify.specs.Code.Stands.{Formed, Extends};
 use crate::Extended;
+use crate::bytes::copy_bytes;
 use crate::closure;
 use crate::order;
 use table::Node;
 
 // Extends the classes of a list of pairs by the pair of a and b. They are of account only where the answer is unified.
-pub fn extend(nodes: &[u32], arguments: &[u32], of: &mut [u8], a: Node, b: Node) -> Extended
-    requires { ⌜ Sections (now nodes) (now arguments) ⌝ }
-    requires { ⌜ Formed (now nodes) (now arguments) (now of) ⌝ }
+pub fn extend(
+    nodes: &[u32],
+    arguments: &[u32],
+    counts: &[u8],
+    of: &mut [u8],
+    next: &mut [u8],
+    a: Node,
+    b: Node,
+) -> Extended
+    requires { ⌜ Sections (now nodes) (now arguments) × Counts (now nodes) (now arguments) (now counts) (nodeCount (now nodes)) ⌝ }
+    requires { ⌜ Formed (now nodes) (now arguments) (now counts) (now of) × Circles (nodeCount (now nodes)) (now of) (now next) ⌝ }
     requires { ⌜ (a .0 < nodeCount (now nodes)) × (b .0 < nodeCount (now nodes)) ⌝ }
-    ensures { λ r. ⌜ Extends (now (nodes .entry)) (now (arguments .entry)) (now (of .entry)) (a .0) (b .0) r (now (of .exit)) ⌝ }
+    ensures { λ r. ⌜ Extends (now (nodes .entry)) (now (arguments .entry)) (now (counts .entry)) (now (of .entry)) (a .0) (b .0) r (now (of .exit)) (now (next .exit)) ⌝ }
 {
-    if !closure::join(nodes, arguments, of, a, b) {
+    if !closure::join(nodes, arguments, counts, of, next, a, b) {
         return Extended::Clash;
     }
-    if order::leads_back(nodes, arguments, of, a) {
+    if order::leads_back(nodes, arguments, counts, of, a) {
         return Extended::Occurs;
     }
     Extended::Unified
-}
-
-// Copies heads.
-fn copy_heads(of: &[u8], next: &mut [u8])
-    requires { ⌜ length (now of) ≡ length (now next) ⌝ }
-    ensures { λ r. ⌜ now (next .exit) ≡ now (of .entry) ⌝ }
-{
-    let mut i: usize = 0;
-    while i < of.len() {
-        next[i] = of[i];
-        i += 1;
-    }
 }
 
 // Extends a copy of the classes by the pair of a and b.
 pub fn extend_copy(
     nodes: &[u32],
     arguments: &[u32],
+    counts: &[u8],
     of: &[u8],
-    next: &mut [u8],
+    next: &[u8],
+    heads: &mut [u8],
+    after: &mut [u8],
     a: Node,
     b: Node,
 ) -> Extended
-    requires { ⌜ Sections (now nodes) (now arguments) ⌝ }
-    requires { ⌜ Formed (now nodes) (now arguments) (now of) ⌝ }
-    requires { ⌜ length (now of) ≡ length (now next) ⌝ }
+    requires { ⌜ Sections (now nodes) (now arguments) × Counts (now nodes) (now arguments) (now counts) (nodeCount (now nodes)) ⌝ }
+    requires { ⌜ Formed (now nodes) (now arguments) (now counts) (now of) × Circles (nodeCount (now nodes)) (now of) (now next) ⌝ }
+    requires { ⌜ (length (now of) ≡ length (now heads)) × (length (now next) ≡ length (now after)) ⌝ }
     requires { ⌜ (a .0 < nodeCount (now nodes)) × (b .0 < nodeCount (now nodes)) ⌝ }
-    ensures { λ r. ⌜ Extends (now (nodes .entry)) (now (arguments .entry)) (now (of .entry)) (a .0) (b .0) r (now (next .exit)) ⌝ }
+    ensures { λ r. ⌜ Extends (now (nodes .entry)) (now (arguments .entry)) (now (counts .entry)) (now (of .entry)) (a .0) (b .0) r (now (heads .exit)) (now (after .exit)) ⌝ }
 {
-    copy_heads(of, next);
-    extend(nodes, arguments, next, a, b)
+    copy_bytes(of, heads);
+    copy_bytes(next, after);
+    extend(nodes, arguments, counts, heads, after, a, b)
 }

@@ -1,24 +1,32 @@
 // The binding words of classes, by the names of their values.
 ghost use mathlib.Core.Path.{_≡_};
 ghost use mathlib.Core.List.{_++_};
-ghost use Prim.Native.Nat.{_≤_, _<_};
-ghost use lib.ListN.{length, drop};
+ghost use Prim.Native.Nat.{_+_, _≤_, _<_};
+ghost use lib.ListN.{length, take, drop};
 ghost use Rattle.table.specs.Limits.{maxNodes};
 ghost use Rattle.table.specs.Layout.{word, nodeCount};
 ghost use Rattle.unification.specs.Code.Sections.{Sections, nodesFrom};
-ghost use Rattle.unification.specs.Code.Heads.{Partition};
+ghost use Rattle.unify.specs.Code.Open.{Counts};
 ghost use Rattle.unify.specs.Code.Order.{Ordered};
+ghost use Rattle.unify.specs.Code.Ordering.{OpenListed};
 ghost use Rattle.unify.specs.Code.Present.{leastNodes};
-ghost use Rattle.unify.specs.Code.Named.{valueName, Themselves};
-ghost use Rattle.unify.specs.Code.Binding.{HeadNames, applicationNoted, freeNoted, ApplicationsFrom, FreeFrom, readAt, AreNodes, WordsFound};
-ghost use Rattle.unify.specs.Code.Stands.{OneConstant, Formed, Leaves};
+ghost use Rattle.unify.specs.Code.Named.{valueName, Named, Themselves};
+ghost use Rattle.unify.specs.Code.Binding.{HeadNames, NamesLeast, AreApplied, applicationNoted, OpenNoted, freeNoted, FreeFrom, readAt, AreNodes, AllBelow, WordsFound};
+ghost use Rattle.unify.specs.Code.Prepared.{ClosedListed, ClosedTable, Prepared};
+ghost use Rattle.unify.specs.Code.Stands.{Formed, Leaves};
+use crate::bytes::put_bytes;
 use crate::names;
 use crate::nodes;
 use crate::order;
+use crate::prepared::CLOSED;
+use crate::prepared::CLOSED_COUNT;
+use crate::prepared::EARLIER;
+use crate::prepared::OPEN;
+use crate::prepared::OPEN_COUNT;
 use table::Node;
 use table::limits::MAX_NODES;
 
-// Notes a node at its name, if it is an application.
+// Notes an application at its name, if no smaller node stands there.
 fn note_application(
     nodes: &[u32],
     arguments: &[u32],
@@ -29,26 +37,34 @@ fn note_application(
 )
     requires { ⌜ HeadNames (now nodes) (now arguments) (now of) (now names) ⌝ }
     requires { ⌜ (i < nodeCount (now nodes)) × (length (now by) ≡ nodeCount (now nodes)) ⌝ }
-    ensures { λ r. ⌜ now (by .exit) ≡ applicationNoted (now (nodes .entry)) (now (of .entry)) (now (names .entry)) (now (by .entry)) i ⌝ }
+    ensures { λ r. ⌜ now (by .exit) ≡ applicationNoted (now (of .entry)) (now (names .entry)) (now (by .entry)) i ⌝ }
 {
-    let node = Node(i as u32);
-    if nodes::is_variable(nodes, node) {
-        return;
+    let name = nodes::value_name(of, names, Node(i as u32));
+    let least = nodes::node_in(by, name.0 as usize);
+    if i < least.0 as usize {
+        by[name.0 as usize] = i as u8;
     }
-    let name = nodes::value_name(of, names, node);
-    by[name.0 as usize] = i as u8;
 }
 
-// The least application of each name: the nodes are noted from the last down.
-fn note_applications(nodes: &[u32], arguments: &[u32], of: &[u8], names: &[u8], by: &mut [u8])
+// The least application of each name, where each node stands at its own number: the open ones are noted.
+fn note_applications(
+    nodes: &[u32],
+    arguments: &[u32],
+    opens: &[u16],
+    of: &[u8],
+    names: &[u8],
+    by: &mut [u8],
+)
     requires { ⌜ HeadNames (now nodes) (now arguments) (now of) (now names) ⌝ }
-    requires { ⌜ length (now by) ≡ nodeCount (now nodes) ⌝ }
-    ensures { λ r. ⌜ ApplicationsFrom (now (nodes .entry)) (now (of .entry)) (now (names .entry)) (now (by .exit)) 0 ⌝ }
+    requires { ⌜ AreApplied (now nodes) (now opens) ⌝ }
+    requires { ⌜ (length (now by) ≡ nodeCount (now nodes)) × Themselves (now by) ⌝ }
+    ensures { λ r. ⌜ OpenNoted (now (nodes .entry)) (now (of .entry)) (now (names .entry)) (now (opens .entry)) (now (by .exit)) (length (now (opens .entry))) ⌝ }
 {
-    let mut i = nodes::node_count(nodes, arguments);
-    while 0 < i {
-        i -= 1;
+    let mut p: usize = 0;
+    while p < opens.len() {
+        let i = nodes::entry(opens, p);
         note_application(nodes, arguments, of, names, by, i);
+        p += 1;
     }
 }
 
@@ -138,6 +154,7 @@ fn write_words(
 fn find_words(
     nodes: &[u32],
     arguments: &[u32],
+    opens: &[u16],
     of: &[u8],
     names: &[u8],
     by: &mut [u8],
@@ -145,54 +162,197 @@ fn find_words(
     out: &mut [u32],
 )
     requires { ⌜ HeadNames (now nodes) (now arguments) (now of) (now names) ⌝ }
+    requires { ⌜ AreApplied (now nodes) (now opens) ⌝ }
     requires { ⌜ AreNodes (now nodes) (now list) × (length (now by) ≡ nodeCount (now nodes)) × (length (now list) ≤ length (now out)) ⌝ }
-    ensures { λ r. ⌜ WordsFound (now (nodes .entry)) (now (of .entry)) (now (names .entry)) (now (list .entry)) (now (out .entry)) (now (out .exit)) ⌝ }
+    ensures { λ r. ⌜ WordsFound (now (nodes .entry)) (now (of .entry)) (now (names .entry)) (now (opens .entry)) (now (list .entry)) (now (out .entry)) (now (out .exit)) ⌝ }
 {
-    note_applications(nodes, arguments, of, names, by);
+    names::name_themselves(by);
+    note_applications(nodes, arguments, opens, of, names, by);
     note_free_variables(nodes, arguments, of, names, by, list);
     write_words(nodes, arguments, of, names, by, list, out);
 }
 
-// Writes the binding words of classes, with room for the names of heads and for nodes by name.
-fn write_named(
-    nodes: &[u32],
-    arguments: &[u32],
-    of: &[u8],
-    order: &[u8],
-    names: &mut [u8],
-    by: &mut [u8],
-    list: &[u8],
-    out: &mut [u32],
-)
-    requires { ⌜ Sections (now nodes) (now arguments) ⌝ }
-    requires { ⌜ Partition (nodeCount (now nodes)) (now of) ⌝ }
-    requires { ⌜ OneConstant (now nodes) (now of) × Ordered (now nodes) (now arguments) (now of) (now order) ⌝ }
-    requires { ⌜ (now list ≡ leastNodes (nodesFrom (now nodes) (now arguments))) × (length (now list) ≤ length (now out)) ⌝ }
-    requires { ⌜ (length (now names) ≡ nodeCount (now nodes)) × (length (now by) ≡ nodeCount (now nodes)) ⌝ }
-    ensures { λ r. ⌜ Leaves (now (nodes .entry)) (now (arguments .entry)) (now (of .entry)) (now (out .entry)) (now (out .exit)) ⌝ }
-{
-    name_themselves(names);
-    names::name_values(nodes, arguments, of, order, names);
-    find_words(nodes, arguments, of, names, by, list, out);
-}
-
-// Names each node by itself.
-fn name_themselves(names: &mut [u8])
-    requires { ⌜ length (now names) ≤ maxNodes ⌝ }
-    ensures { λ r. ⌜ Themselves (now (names .exit)) ⌝ }
+// Puts the closed applications of a list in front of an order.
+fn put_closed(closed: &[u16], order: &mut [u8])
+    requires { ⌜ (length (now closed) ≤ length (now order)) × AllBelow maxNodes (now closed) ⌝ }
+    ensures { λ r. ⌜ now (order .exit) ≡ now (closed .entry) ++ drop (length (now (closed .entry))) (now (order .entry)) ⌝ }
 {
     let mut i: usize = 0;
-    while i < names.len() {
-        names[i] = i as u8;
+    while i < closed.len() {
+        order[i] = closed[i] as u8;
         i += 1;
     }
 }
 
-// Writes the binding words of the classes of a list of pairs, given the least nodes of the variables present, in rising order of
-// variable number: none where no variable is present.
-pub fn bind(nodes: &[u32], arguments: &[u32], list: &[u8], of: &[u8], out: &mut [u32])
-    requires { ⌜ Sections (now nodes) (now arguments) ⌝ }
-    requires { ⌜ Formed (now nodes) (now arguments) (now of) ⌝ }
+// Names the values of open applications that are heads, with room for an order of these and the closed ones.
+fn name_open(
+    nodes: &[u32],
+    arguments: &[u32],
+    counts: &[u8],
+    of: &[u8],
+    closed: &[u16],
+    placed: &[u8],
+    buckets: &[u16],
+    earlier: &[u16],
+    order: &mut [u8],
+    names: &mut [u8],
+)
+    requires { ⌜ Sections (now nodes) (now arguments) × Counts (now nodes) (now arguments) (now counts) (nodeCount (now nodes)) ⌝ }
+    requires { ⌜ Formed (now nodes) (now arguments) (now counts) (now of) ⌝ }
+    requires { ⌜ Ordered (now nodes) (now arguments) (word (now counts)) (now of) (now placed) ⌝ }
+    requires { ⌜ ClosedListed (now nodes) (now counts) (now of) (now closed) × ClosedTable (now nodes) (now arguments) (now of) (now closed) (now buckets) (now earlier) ⌝ }
+    requires { ⌜ (length (now names) ≡ nodeCount (now nodes)) × Themselves (now names) ⌝ }
+    requires { ⌜ length (now order) ≡ maxNodes + maxNodes ⌝ }
+    ensures { λ r. ⌜ Named (now (nodes .entry)) (now (arguments .entry)) (now (of .entry)) (now (names .exit)) × NamesLeast (now (nodes .entry)) (now (arguments .entry)) (now (counts .entry)) (now (of .entry)) (now (names .exit)) ⌝ }
+{
+    let start = closed.len();
+    let end = start + placed.len();
+    put_closed(closed, order);
+    put_bytes(placed, order, start);
+    names::name_after(
+        nodes,
+        arguments,
+        of,
+        &order[0..end],
+        start,
+        buckets,
+        earlier,
+        names,
+    );
+}
+
+// Writes the binding words of classes where there are open applications, with room for the names of heads and for nodes by name.
+fn bind_open(
+    nodes: &[u32],
+    arguments: &[u32],
+    counts: &[u8],
+    opens: &[u16],
+    closed: &[u16],
+    buckets: &[u16],
+    earlier: &[u16],
+    list: &[u8],
+    of: &[u8],
+    names: &mut [u8],
+    by: &mut [u8],
+    out: &mut [u32],
+)
+    requires { ⌜ Sections (now nodes) (now arguments) × Counts (now nodes) (now arguments) (now counts) (nodeCount (now nodes)) ⌝ }
+    requires { ⌜ Formed (now nodes) (now arguments) (now counts) (now of) ⌝ }
+    requires { ⌜ OpenListed (now nodes) (now counts) (now opens) ⌝ }
+    requires { ⌜ ClosedListed (now nodes) (now counts) (now of) (now closed) × ClosedTable (now nodes) (now arguments) (now of) (now closed) (now buckets) (now earlier) ⌝ }
+    requires { ⌜ (now list ≡ leastNodes (nodesFrom (now nodes) (now arguments))) × (length (now list) ≤ length (now out)) ⌝ }
+    requires { ⌜ (length (now names) ≡ nodeCount (now nodes)) × (length (now by) ≡ nodeCount (now nodes)) ⌝ }
+    ensures { λ r. ⌜ Leaves (now (nodes .entry)) (now (arguments .entry)) (now (of .entry)) (now (out .entry)) (now (out .exit)) ⌝ }
+{
+    names::name_themselves(names);
+    let n = nodes::node_count(nodes, arguments);
+    let mut marks = [0u8; MAX_NODES];
+    let mut placed = [0u8; MAX_NODES];
+    let count = order::put_in_order(
+        nodes,
+        arguments,
+        counts,
+        of,
+        opens,
+        &mut marks[0..n],
+        &mut placed[0..n],
+    );
+    if count == 0 {
+        find_words(nodes, arguments, opens, of, names, by, list, out);
+        return;
+    }
+    let mut order = [0u8; MAX_NODES + MAX_NODES];
+    name_open(
+        nodes,
+        arguments,
+        counts,
+        of,
+        closed,
+        &placed[0..count],
+        buckets,
+        earlier,
+        &mut order,
+        names,
+    );
+    find_words(nodes, arguments, opens, of, names, by, list, out);
+}
+
+// The same where there are none.
+fn bind_closed(
+    nodes: &[u32],
+    arguments: &[u32],
+    counts: &[u8],
+    none: &[u16],
+    list: &[u8],
+    of: &[u8],
+    names: &mut [u8],
+    by: &mut [u8],
+    out: &mut [u32],
+)
+    requires { ⌜ Sections (now nodes) (now arguments) × Counts (now nodes) (now arguments) (now counts) (nodeCount (now nodes)) ⌝ }
+    requires { ⌜ Formed (now nodes) (now arguments) (now counts) (now of) ⌝ }
+    requires { ⌜ OpenListed (now nodes) (now counts) (now none) × (length (now none) ≡ 0) ⌝ }
+    requires { ⌜ (now list ≡ leastNodes (nodesFrom (now nodes) (now arguments))) × (length (now list) ≤ length (now out)) ⌝ }
+    requires { ⌜ (length (now names) ≡ nodeCount (now nodes)) × (length (now by) ≡ nodeCount (now nodes)) ⌝ }
+    ensures { λ r. ⌜ Leaves (now (nodes .entry)) (now (arguments .entry)) (now (of .entry)) (now (out .entry)) (now (out .exit)) ⌝ }
+{
+    names::name_themselves(names);
+    find_words(nodes, arguments, none, of, names, by, list, out);
+}
+
+// The same, by the words that were prepared for it.
+fn bind_prepared(
+    nodes: &[u32],
+    arguments: &[u32],
+    counts: &[u8],
+    prepared: &[u16],
+    list: &[u8],
+    of: &[u8],
+    names: &mut [u8],
+    by: &mut [u8],
+    out: &mut [u32],
+)
+    requires { ⌜ Sections (now nodes) (now arguments) × Counts (now nodes) (now arguments) (now counts) (nodeCount (now nodes)) ⌝ }
+    requires { ⌜ Formed (now nodes) (now arguments) (now counts) (now of) × Prepared (now nodes) (now arguments) (now counts) (now of) (now prepared) ⌝ }
+    requires { ⌜ (now list ≡ leastNodes (nodesFrom (now nodes) (now arguments))) × (length (now list) ≤ length (now out)) ⌝ }
+    requires { ⌜ (length (now names) ≡ nodeCount (now nodes)) × (length (now by) ≡ nodeCount (now nodes)) ⌝ }
+    ensures { λ r. ⌜ Leaves (now (nodes .entry)) (now (arguments .entry)) (now (of .entry)) (now (out .entry)) (now (out .exit)) ⌝ }
+{
+    if prepared.len() == 0 {
+        bind_closed(nodes, arguments, counts, prepared, list, of, names, by, out);
+        return;
+    }
+    let open_end = OPEN + nodes::entry(prepared, OPEN_COUNT);
+    let closed_end = CLOSED + nodes::entry(prepared, CLOSED_COUNT);
+    bind_open(
+        nodes,
+        arguments,
+        counts,
+        &prepared[OPEN..open_end],
+        &prepared[CLOSED..closed_end],
+        &prepared[0..EARLIER],
+        &prepared[EARLIER..OPEN],
+        list,
+        of,
+        names,
+        by,
+        out,
+    );
+}
+
+// Writes the binding words of the classes of a list of pairs, given what was prepared for them and the least nodes of the variables
+// present, in rising order of variable number: none where no variable is present.
+pub fn bind(
+    nodes: &[u32],
+    arguments: &[u32],
+    counts: &[u8],
+    prepared: &[u16],
+    list: &[u8],
+    of: &[u8],
+    out: &mut [u32],
+)
+    requires { ⌜ Sections (now nodes) (now arguments) × Counts (now nodes) (now arguments) (now counts) (nodeCount (now nodes)) ⌝ }
+    requires { ⌜ Formed (now nodes) (now arguments) (now counts) (now of) × Prepared (now nodes) (now arguments) (now counts) (now of) (now prepared) ⌝ }
     requires { ⌜ (now list ≡ leastNodes (nodesFrom (now nodes) (now arguments))) × (length (now list) ≤ length (now out)) ⌝ }
     ensures { λ r. ⌜ Leaves (now (nodes .entry)) (now (arguments .entry)) (now (of .entry)) (now (out .entry)) (now (out .exit)) ⌝ }
 {
@@ -200,19 +360,17 @@ pub fn bind(nodes: &[u32], arguments: &[u32], list: &[u8], of: &[u8], out: &mut 
         return;
     }
     let n = nodes::node_count(nodes, arguments);
-    let mut marks = [0u8; MAX_NODES];
-    let mut order = [0u8; MAX_NODES];
-    let count = order::put_in_order(nodes, arguments, of, &mut marks[0..n], &mut order[0..n]);
     let mut names = [0u8; MAX_NODES];
     let mut by = [0u8; MAX_NODES];
-    write_named(
+    bind_prepared(
         nodes,
         arguments,
+        counts,
+        prepared,
+        list,
         of,
-        &order[0..count],
         &mut names[0..n],
         &mut by[0..n],
-        list,
         out,
     );
 }

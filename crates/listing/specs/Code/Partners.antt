@@ -9,15 +9,17 @@ use Rattle.table.specs.Limits.{maxTerms}
 use Rattle.table.specs.Some.{someBelow}
 use Rattle.table.specs.Layout.{word, nodeCount}
 use Rattle.unification.specs.Code.Sections.{Sections, nodesFrom}
-use Rattle.unify.specs.Code.Stands.{Formed, StandsAlways, Shared, MarksClosed, Never}
+use Rattle.unify.specs.Code.Open.{Counts}
+use Rattle.unify.specs.Code.Circle.{Circles}
+use Rattle.unify.specs.Code.Stands.{Formed, StandsAlways, Never}
 
--- What trying a pair by itself needs to know: of the sections, of the classes, and of the marks of closed nodes.
-pub record Triable (words args closed cs : List ℕ) : Type 0 where
+-- What trying a pair by itself needs to know: of the sections, of open and closed applications, and of the classes.
+pub record Triable (words args counts cs next : List ℕ) : Type 0 where
   pub sections : Sections words args
-  pub formed : Formed words args cs
+  pub counts-right : Counts words args counts (nodeCount words)
+  pub formed : Formed words args counts cs
+  pub circles : Circles (nodeCount words) cs next
   pub stands : StandsAlways words args cs
-  pub shared : Shared words args cs
-  pub closed-marks : MarksClosed words args closed (nodeCount words)
 
 -- A pair of terms with mark 0 has no common value.
 pub record MayPair (words args left right may : List ℕ) : Type 0 where

@@ -10,7 +10,8 @@ use Rattle.unification.specs.Node.{Node}
 use Rattle.unification.specs.Outcome.{Outcome, unified, clash, occurs}
 use Rattle.unification.specs.Computed.Unifying.{outcome, wordsOf}
 use Rattle.unification.specs.Code.Sections.{nodesFrom}
-use Rattle.unify.specs.Code.Present.{leastNodes}
+use Rattle.unify.specs.Code.Circle.{Circles}
+use Rattle.unify.specs.Code.Prepared.{Prepared}
 use Rattle.unify.specs.Code.Stands.{Formed}
 use Rattle.listing.specs.declared.Labels.{Labels}
 use Rattle.listing.specs.declared.Written.{Written}
@@ -18,6 +19,7 @@ use Rattle.listing.specs.Code.Writing.{marked, Writes, Remains}
 use Rattle.listing.specs.Code.Branch.{Listable, pairsIn, Standing, marksIn, widthOf}
 use Rattle.listing.specs.Code.Memory.{Keyed, Remembers}
 use Rattle.listing.specs.Code.Partners.{MayPair}
+use Rattle.listing.specs.Code.Known.{mayIn, KnownOf}
 
 -- What f has for each of c digits from d on.
 unfoldable pub over : ℕ → ℕ → (ℕ → List (List ℕ)) → List (List ℕ)
@@ -65,12 +67,14 @@ pub record Branching (words args left right entry : List ℕ) (key weight unpair
   pub keyed : Keyed left right entry i key
   pub weighed : weight ≡ 16 ^ i
 
--- What the walk needs to know at depth i: of the sections and the labels, of the variables, of the partners, of the classes and the branch, of what is remembered, and of the lent words.
-pub record Walking (words args left right : List ℕ) (labels : Labels) (list may cs : List ℕ) (key weight unpaired i : ℕ) (entry memory lent : List ℕ) (at : ℕ) : Type 0 where
+-- What the walk needs to know at depth i: of the sections and the labels, of what is known and prepared, of the classes and the branch, of what is remembered, and of the lent words.
+pub record Walking (words args left right : List ℕ) (labels : Labels) (known prepared cs next : List ℕ) (key weight unpaired i : ℕ) (entry memory lent : List ℕ) (at : ℕ) : Type 0 where
   pub listable : Listable words args left right labels
-  pub lists : list ≡ leastNodes (nodesFrom words args)
-  pub partners : MayPair words args left right may
-  pub formed : Formed words args cs
+  pub known-right : KnownOf words args known
+  pub partners : MayPair words args left right (mayIn known)
+  pub formed : Formed words args known cs
+  pub circles : Circles (nodeCount words) cs next
+  pub ready : Prepared words args known cs prepared
   pub standing : Standing words args left right cs entry i
   pub branching : Branching words args left right entry key weight unpaired i
   pub remembers : Remembers words args left right memory lent at
@@ -109,11 +113,13 @@ Stepped words args left right labels i d entry memory lent at entry′ memory′
     WritesBelow (digitEntries words args left right labels entry i d) words args left right i entry memory lent at entry′ memory′ lent′ w
 
 -- What is needed where left term i has its digit in the entry, and is paired by it: the pair of a and b is still to be joined to the classes.
-pub record Joining (words args left right : List ℕ) (labels : Labels) (list may cs : List ℕ) (key weight unpaired i a b : ℕ) (entry memory lent : List ℕ) (at : ℕ) : Type 0 where
+pub record Joining (words args left right : List ℕ) (labels : Labels) (known prepared cs next : List ℕ) (key weight unpaired i a b : ℕ) (entry memory lent : List ℕ) (at : ℕ) : Type 0 where
   pub listable : Listable words args left right labels
-  pub lists : list ≡ leastNodes (nodesFrom words args)
-  pub partners : MayPair words args left right may
-  pub formed : Formed words args cs
+  pub known-right : KnownOf words args known
+  pub partners : MayPair words args left right (mayIn known)
+  pub formed : Formed words args known cs
+  pub circles : Circles (nodeCount words) cs next
+  pub ready : Prepared words args known cs prepared
   pub standing : Standing words args left right cs entry i
   pub branching : Branching words args left right entry key weight unpaired (i + 1)
   pub pair : pairsIn left right entry (i + 1) ≡ (a, b) ∷ pairsIn left right entry i

@@ -1,23 +1,25 @@
 -- The binding words by the names of values: where each name's least application or least variable is noted, and what is read there.
-use Prim.Native.Nat.{ℕ, _<_}
+use Prim.Native.Nat.{ℕ, _<_, _≤_}
 use mathlib.Core.Bool.{cond}
 use mathlib.Core.List.{List, _++_, map}
 use mathlib.Core.Path.{_≡_}
-use lib.Dec.{eqb}
+use lib.Dec.{eqb, ltb}
 use lib.ListN.{length, set, drop}
 use Rattle.table.specs.Layout.{word, kindOf, nodeCount}
+use Rattle.unification.specs.Words.{Least}
 use Rattle.unification.specs.Computed.Classes.{classOf}
 use Rattle.unify.specs.Code.Kept.{Kept}
-use Rattle.unify.specs.Code.Named.{valueName, Readable, Named}
+use Rattle.unify.specs.Code.Open.{Marked}
+use Rattle.unify.specs.Code.Named.{valueName, Readable, Alike, Applied, Named}
 
 -- The sections, the heads of the nodes, and the names of the heads.
 pub record HeadNames (words args cs names : List ℕ) : Type 0 where
   pub readable : Readable words args cs names
   pub named : Named words args cs names
 
--- A list by name, after node i was noted in it: an application is, at its name.
-unfoldable pub applicationNoted : List ℕ → List ℕ → List ℕ → List ℕ → ℕ → List ℕ
-applicationNoted words cs names by i = cond (eqb (kindOf words i) 0) by (set by (valueName cs names i) i)
+-- A list by name, after application i was noted in it: at its name, if no smaller node stands there.
+unfoldable pub applicationNoted : List ℕ → List ℕ → List ℕ → ℕ → List ℕ
+applicationNoted cs names by i = cond (ltb i (word by (valueName cs names i))) (set by (valueName cs names i) i) by
 
 -- A list by name, after the node at place k of a list was noted in it: one whose head is a variable is, at its name.
 unfoldable pub freeNoted : List ℕ → List ℕ → List ℕ → List ℕ → List ℕ → ℕ → List ℕ
@@ -38,10 +40,26 @@ IsFree words cs list k = kindOf words (classOf cs (word list k)) ≡ 0
 abbrev pub nameAt : List ℕ → List ℕ → List ℕ → ℕ → ℕ
 nameAt cs names list k = valueName cs names (word list k)
 
--- The applications from node i on are noted.
-pub record ApplicationsFrom (words cs names by : List ℕ) (i : ℕ) : Type 0 where
+-- All these are applications.
+pub record AreApplied (words list : List ℕ) : Type 0 where
+  pub node : (p : ℕ) → p < length list → word list p < nodeCount words
+  pub applied : (p : ℕ) → p < length list → IsApplied words (word list p)
+
+-- The name of an application is alike its head, and a closed application's is not after it.
+pub record NamesLeast (words args counts cs names : List ℕ) : Type 0 where
+  pub alike : (i : ℕ) → i < nodeCount words → Applied words cs i → Alike words args cs names (valueName cs names i) (classOf cs i)
+  pub least : (i : ℕ) → Marked words counts i → valueName cs names i ≤ i
+
+-- At an application that names itself stands one of its name, not after it, nor after the first k of a list of open applications where
+-- they have that name.
+pub record OpenNoted (words cs names opens by : List ℕ) (k : ℕ) : Type 0 where
   pub long : length by ≡ nodeCount words
-  pub kept : Kept (IsApplied words) (valueName cs names) (λ k. k) i (nodeCount words) by
+  pub named : (s : ℕ) → s < nodeCount words → IsApplied words s → valueName cs names s ≡ s → (word by s < nodeCount words) × IsApplied words (word by s) × (valueName cs names (word by s) ≡ s) × (word by s ≤ s)
+  pub least : (p : ℕ) → p < k → word by (valueName cs names (word opens p)) ≤ word opens p
+
+-- At the name of an application stands the least of that name.
+pub record ApplicationsNoted (words cs names by : List ℕ) : Type 0 where
+  pub least : (i : ℕ) → i < nodeCount words → Applied words cs i → Least (λ k. (k < nodeCount words) × IsApplied words k × (valueName cs names k ≡ valueName cs names i)) (word by (valueName cs names i))
 
 -- The nodes from place k on whose heads are variables are noted, and what stands at applications is as it was.
 pub record FreeFrom (words cs names list by by′ : List ℕ) (k : ℕ) : Type 0 where
@@ -57,10 +75,14 @@ readAt cs names by list = map (λ v. word by (valueName cs names v)) list
 pub record AreNodes (words list : List ℕ) : Type 0 where
   pub node : (k : ℕ) → k < length list → word list k < nodeCount words
 
--- The words of a list of nodes, found by names.
-pub record WordsFound (words cs names list out out′ : List ℕ) : Type 0 where
+-- All these numbers are below n.
+pub record AllBelow (n : ℕ) (xs : List ℕ) : Type 0 where
+  pub below : (k : ℕ) → k < length xs → word xs k < n
+
+-- The words of a list of nodes, found by names and a list of open applications.
+pub record WordsFound (words cs names opens list out out′ : List ℕ) : Type 0 where
   pub applications : List ℕ
   pub all : List ℕ
-  pub applied : ApplicationsFrom words cs names applications 0
+  pub noted : OpenNoted words cs names opens applications (length opens)
   pub free : FreeFrom words cs names list applications all 0
   pub words-read : out′ ≡ readAt cs names all list ++ drop (length list) out

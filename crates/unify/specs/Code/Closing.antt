@@ -9,7 +9,9 @@ use Rattle.unification.specs.Node.{Node, variable, application, nodeAt, tabulat
 use Rattle.unification.specs.Closure.{Joined, Clash}
 use Rattle.unification.specs.Computed.Classes.{classOf}
 use Rattle.unification.specs.Code.Heads.{Partition, roots, Unites}
-use Rattle.unification.specs.Code.Sections.{nodesFrom}
+use Rattle.unification.specs.Code.Sections.{Sections, nodesFrom}
+use Rattle.unify.specs.Code.Open.{Counts, ClosedHeads, KeepsClosed}
+use Rattle.unify.specs.Code.Circle.{Circles}
 
 -- Nodes of one class of cs are of one class of ds.
 abbrev pub Coarser : List ℕ → List ℕ → Type 0
@@ -42,10 +44,21 @@ argumentPair words args g h j = (argumentOf words args g j, argumentOf words arg
 unfoldable pub argumentPairs : List ℕ → List ℕ → ℕ → ℕ → List (ℕ × ℕ)
 argumentPairs words args g h = tabulate (countOf words g) (argumentPair words args g h)
 
--- What joining nodes a and b comes to: the pair is done, and whatever the closure then joins, or there is a clash. Heads that are left were heads before.
-pub record Joins (words args cs : List ℕ) (a b : ℕ) (fine : Bool) (cs′ : List ℕ) : Type 0 where
+-- What joining needs to know: of the sections, of open and closed applications, and of the classes.
+pub record Joinable (words args counts cs next : List ℕ) : Type 0 where
+  pub sections : Sections words args
+  pub counts-right : Counts words args counts (nodeCount words)
+  pub partition : Partition (nodeCount words) cs
+  pub closed : ClosedHeads words args counts cs
+  pub circles : Circles (nodeCount words) cs next
+
+-- What joining nodes a and b comes to: the pair is done, and whatever the closure then joins, or there is a clash. Heads that are left were
+-- heads before, and closed applications keep theirs.
+pub record Joins (words args counts cs : List ℕ) (a b : ℕ) (fine : Bool) (cs′ next′ : List ℕ) : Type 0 where
   pub partition : Partition (nodeCount words) cs′
+  pub circles : Circles (nodeCount words) cs′ next′
   pub fewer : roots (nodeCount words) cs′ ≤ roots (nodeCount words) cs
   pub heads : (i : ℕ) → i < nodeCount words → classOf cs (classOf cs′ i) ≡ classOf cs′ i
+  pub kept : KeepsClosed words counts cs cs′
   pub closes : fine ≡ true → (ps todo : List (ℕ × ℕ)) → Closing (nodesFrom words args) ps cs ((a, b) ∷ todo) → Closing (nodesFrom words args) ps cs′ todo
   pub clashes : fine ≡ false → (ps todo : List (ℕ × ℕ)) → Closing (nodesFrom words args) ps cs ((a, b) ∷ todo) → Clash (nodesFrom words args) ps

@@ -2,12 +2,13 @@
 use Prim.Native.Nat.{ℕ, zero, suc, _+_, _*_, _/_, _%_, _<_, _≤_}
 use mathlib.Core.Bool.{Bool, true, false}
 use mathlib.Core.List.{List}
+use mathlib.Core.Logic.{_⊎_}
 use mathlib.Core.Path.{_≡_}
 use lib.ListN.{length}
 use Rattle.table.specs.Limits.{maxNodes}
 use Rattle.table.specs.Layout.{word, kindOf, nameOf, countOf, nodeCount, argumentOf}
 use Rattle.unification.specs.Computed.Classes.{classOf}
-use Rattle.unify.specs.Code.Named.{valueName, Readable, Alike, Named}
+use Rattle.unify.specs.Code.Named.{valueName, Readable, Alike, Applied, Named}
 use Rattle.unify.specs.Code.Stands.{OneConstant}
 
 -- Nodes in an order, no node twice: while a node is named, no name changes of an argument of it or of a node before it.
@@ -35,13 +36,13 @@ pub data Whole (words cs order names : List ℕ) : Type 0 where
 
 -- How many keys the table has.
 abbrev pub keys : ℕ
-keys = 1024
+keys = 256
 
 -- The key of node h, made of its symbol and the names of its first j arguments.
 unfoldable pub keyUpTo : List ℕ → List ℕ → List ℕ → List ℕ → ℕ → ℕ → ℕ
-keyUpTo words args cs names h zero = (nameOf words h * 40503 % 65536 / 64 + countOf words h) % keys
+keyUpTo words args cs names h zero = (nameOf words h * 40503 % 65536 / 256 + countOf words h) % keys
 keyUpTo words args cs names h (suc j) =
-    (keyUpTo words args cs names h j * 31 + valueName cs names (argumentOf words args h j) + 1) % keys
+    (keyUpTo words args cs names h j * 157 + valueName cs names (argumentOf words args h j) + 1) % keys
 
 -- The key of node h.
 unfoldable pub keyOf : List ℕ → List ℕ → List ℕ → List ℕ → ℕ → ℕ
@@ -97,10 +98,12 @@ pub record Naming (words args cs order names buckets earlier : List ℕ) (p : �
 pub record NamedEarlier (order names : List ℕ) : Type 0 where
   pub earlier : (q : ℕ) → q < length order → (r : ℕ) × (r ≤ q) × (word names (word order q) ≡ word order r) × (word names (word order r) ≡ word order r)
 
--- What naming comes to.
+-- What naming comes to: a head that does not stand in the order names itself, and the name of an application is alike its head.
 pub record NamedAlong (words args cs order names : List ℕ) : Type 0 where
   pub named : Named words args cs names
   pub along : NamedEarlier order names
+  pub outside : (i : ℕ) → i < nodeCount words → IsPlaced order (classOf cs i) ⊎ (valueName cs names i ≡ classOf cs i)
+  pub alike : (i : ℕ) → i < nodeCount words → Applied words cs i → Alike words args cs names (valueName cs names i) (classOf cs i)
 
 -- What is found for the node at place p: one more than the place of a representative that is alike, or 0 where there is none.
 pub record Found (words args cs order names : List ℕ) (p c : ℕ) : Type 0 where

@@ -1,45 +1,46 @@
--- An order of the classes in which those of arguments come first, or a class that leads to itself.
+-- An order of the classes in which those of arguments come first, or a class that leads to itself. So many arguments of each node are
+-- looked at as `due` says.
 use Prim.Native.Nat.{ℕ, _<_}
 use mathlib.Core.Bool.{Bool, true, false}
 use mathlib.Core.List.{List}
 use mathlib.Core.Path.{_≡_}
 use lib.ListN.{length}
-use Rattle.table.specs.Layout.{word, countOf, nodeCount, argumentOf}
+use Rattle.table.specs.Layout.{word, nodeCount, argumentOf}
 use Rattle.unification.specs.Computed.Classes.{classOf}
 
 -- Node h leads to node g: g is the head of an argument of h, or what such a head leads to.
-pub data Leads (words args cs : List ℕ) : ℕ → ℕ → Type 0 where
-  next : {h g : ℕ} (j : ℕ) → h < nodeCount words → j < countOf words h → classOf cs (argumentOf words args h j) ≡ g → Leads words args cs h g
-  further : {h g k : ℕ} → Leads words args cs h g → Leads words args cs g k → Leads words args cs h k
+pub data Leads (words args : List ℕ) (due : ℕ → ℕ) (cs : List ℕ) : ℕ → ℕ → Type 0 where
+  next : {h g : ℕ} (j : ℕ) → h < nodeCount words → j < due h → classOf cs (argumentOf words args h j) ≡ g → Leads words args due cs h g
+  further : {h g k : ℕ} → Leads words args due cs h g → Leads words args due cs g k → Leads words args due cs h k
 
 -- Some node leads to itself.
-abbrev pub Looped : List ℕ → List ℕ → List ℕ → Type 0
-Looped words args cs = (h : ℕ) × (h < nodeCount words) × Leads words args cs h h
+abbrev pub Looped : List ℕ → List ℕ → (ℕ → ℕ) → List ℕ → Type 0
+Looped words args due cs = (h : ℕ) × (h < nodeCount words) × Leads words args due cs h h
 
--- Node g has no arguments, or stands before place p.
-pub data Met (words order : List ℕ) (p g : ℕ) : Type 0 where
-  leaf : countOf words g ≡ 0 → Met words order p g
-  before : (q : ℕ) → q < p → word order q ≡ g → Met words order p g
+-- No argument of node g is looked at, or it stands before place p.
+pub data Met (due : ℕ → ℕ) (order : List ℕ) (p g : ℕ) : Type 0 where
+  leaf : due g ≡ 0 → Met due order p g
+  before : (q : ℕ) → q < p → word order q ≡ g → Met due order p g
 
--- Nodes that have arguments, no node twice, and the heads of a node's arguments are met before it.
-pub record Listed (words args cs order : List ℕ) : Type 0 where
+-- Nodes with arguments that are looked at, no node twice, and the heads of a node's arguments are met before it.
+pub record Listed (words args : List ℕ) (due : ℕ → ℕ) (cs order : List ℕ) : Type 0 where
   pub node : (p : ℕ) → p < length order → word order p < nodeCount words
-  pub compound : (p : ℕ) → p < length order → 0 < countOf words (word order p)
+  pub compound : (p : ℕ) → p < length order → 0 < due (word order p)
   pub once : (p q : ℕ) → p < q → q < length order → word order p ≡ word order q → ⊥
-  pub first : (p : ℕ) → p < length order → (j : ℕ) → j < countOf words (word order p) → Met words order p (classOf cs (argumentOf words args (word order p) j))
+  pub first : (p : ℕ) → p < length order → (j : ℕ) → j < due (word order p) → Met due order p (classOf cs (argumentOf words args (word order p) j))
 
--- Every head that has arguments stands in such an order.
-pub record Ordered (words args cs order : List ℕ) : Type 0 where
-  pub listed : Listed words args cs order
-  pub whole : (i : ℕ) → i < nodeCount words → Met words order (length order) (classOf cs i)
+-- Every head with arguments that are looked at stands in such an order.
+pub record Ordered (words args : List ℕ) (due : ℕ → ℕ) (cs order : List ℕ) : Type 0 where
+  pub listed : Listed words args due cs order
+  pub whole : (i : ℕ) → i < nodeCount words → Met due order (length order) (classOf cs i)
 
 -- Such an order of the head of node a and whatever that leads to.
-pub record OrderedBelow (words args cs : List ℕ) (a : ℕ) : Type 0 where
+pub record OrderedBelow (words args : List ℕ) (due : ℕ → ℕ) (cs : List ℕ) (a : ℕ) : Type 0 where
   pub order : List ℕ
-  pub listed : Listed words args cs order
-  pub from : Met words order (length order) (classOf cs a)
+  pub listed : Listed words args due cs order
+  pub from : Met due order (length order) (classOf cs a)
 
 -- What the search from the class of node a answers: whether some class leads to itself, and otherwise there is an order.
-pub record Searched (words args cs : List ℕ) (a : ℕ) (r : Bool) : Type 0 where
-  pub cycle : r ≡ true → Looped words args cs
-  pub ordered : r ≡ false → OrderedBelow words args cs a
+pub record Searched (words args : List ℕ) (due : ℕ → ℕ) (cs : List ℕ) (a : ℕ) (r : Bool) : Type 0 where
+  pub cycle : r ≡ true → Looped words args due cs
+  pub ordered : r ≡ false → OrderedBelow words args due cs a

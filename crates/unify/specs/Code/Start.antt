@@ -5,12 +5,14 @@ use mathlib.Core.List.{List}
 use mathlib.Core.Path.{_≡_}
 use lib.Dec.{eqb}
 use lib.ListN.{length}
-use Rattle.table.specs.Layout.{word, kindOf, nameOf}
+use Rattle.table.specs.Layout.{word, kindOf, nameOf, nodeCount}
 use Rattle.terms.specs.Substitution.{Substitution}
 use Rattle.unification.specs.Unifier.{Unifies}
 use Rattle.unification.specs.Computed.Solution.{nodeOf}
 use Rattle.unification.specs.Code.Sections.{nodesFrom}
-use Rattle.unify.specs.Code.Stands.{Formed, Stands, Shared}
+use Rattle.unify.specs.Code.Open.{Counts}
+use Rattle.unify.specs.Code.Circle.{HeadsFirst}
+use Rattle.unify.specs.Code.Stands.{Formed, Stands}
 
 -- The head of node i: the least node of its variable, or itself.
 unfoldable pub startHead : List ℕ → List ℕ → ℕ → ℕ
@@ -27,8 +29,8 @@ pub record HeadsNamed (cs names : List ℕ) : Type 0 where
 
 -- Classes in which nodes of one term are together: as `BeginsShared` of `Stands`, with no variables.
 pub record Together (words args cs : List ℕ) : Type 0 where
-  pub formed : Formed words args cs
+  pub formed : (counts : List ℕ) → Counts words args counts (nodeCount words) → Formed words args counts cs
   pub pairs : List (ℕ × ℕ)
   pub stands : Stands words args cs pairs
   pub same : (σ : Substitution) → Unifies (nodesFrom words args) pairs σ
-  pub shared : Shared words args cs
+  pub first : HeadsFirst (nodeCount words) cs

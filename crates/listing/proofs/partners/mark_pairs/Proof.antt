@@ -8,17 +8,17 @@ use Rattle.listing.proofs.partners.mark_pairs.Statement.{statement}
 use Rattle.listing.proofs.partners.mark_pairs.Tie as tie
 
 abbrev Inv-loop : tie.InvT-loop
-Inv-loop nodes arguments left right labels closed of may₀ i₀ may i = (i ≤ length left) × MayPair nodes arguments left right may × (length may ≡ length may₀)
+Inv-loop nodes arguments left right labels counts of next may₀ i₀ may i = (i ≤ length left) × MayPair nodes arguments left right may × (length may ≡ length may₀)
 
 abbrev μ-loop : tie.MeasureT-loop
-μ-loop nodes arguments left right labels closed of may₀ i₀ may i = length left - i
+μ-loop nodes arguments left right labels counts of next may₀ i₀ may i = length left - i
 
 loop-holds : tie.Need-loop-holds Inv-loop μ-loop
 loop-holds c = search needs
 
 mark-row-requires : tie.Need-mark-row-requires Inv-loop μ-loop
 mark-row-requires c κs =
-    let p = c .before .before .before .before .before .before .before .before .before .before .pre in
+    let p = c .before .before .before .before .before .before .before .before .before .before .before .pre in
     (p .0, (p .1 .0, (c .before .before .loop .inv .1, c .before .loop-test .taken)))
 
 add-i : tie.Need-add-i Inv-loop μ-loop

@@ -10,10 +10,10 @@ use Rattle.listing.proofs.partners.mark_row.Statement.{statement}
 use Rattle.listing.proofs.partners.mark_row.Tie as tie
 
 abbrev Inv-loop : tie.InvT-loop
-Inv-loop nodes arguments left right closed of may₀ i a j₀ may j = (j ≤ length right) × MayPair nodes arguments left right may × (length may ≡ length may₀)
+Inv-loop nodes arguments left right counts of next may₀ i a j₀ may j = (j ≤ length right) × MayPair nodes arguments left right may × (length may ≡ length may₀)
 
 abbrev μ-loop : tie.MeasureT-loop
-μ-loop nodes arguments left right closed of may₀ i a j₀ may j = length right - j
+μ-loop nodes arguments left right counts of next may₀ i a j₀ may j = length right - j
 
 node-at-requires : tie.Need-node-at-requires Inv-loop μ-loop
 node-at-requires c κs = search needs
@@ -26,7 +26,7 @@ node-at-requires-2 c κs = search needs
 
 pair-mark-requires : tie.Need-pair-mark-requires Inv-loop μ-loop
 pair-mark-requires c κs =
-    let p = c .before .before .before .before .before .before .before .before .before .before .before .pre in
+    let p = c .before .before .before .before .before .before .before .before .before .before .before .before .pre in
     let l = p .0 in
     (p .1 .0, (rw (c .before .before .before .node-at .ensures) (l .left-nodes _ (p .1 .1 .1)), rw (c .node-at2 .ensures) (l .right-nodes _ (c .before .loop-test .taken))))
 
@@ -47,9 +47,8 @@ loop-less c = search needs
 
 loop-again : tie.Need-loop-again Inv-loop μ-loop
 loop-again c =
-    let b = c .before .before .before in
-    let l = b .before .before .before .before .before .before .before .before .before .pre .0 in
-    (search needs, pair-marked _ _ _ _ _ _ (b .loop .j) _ _ _ (l .left-few) (l .right-few) (c .before .before .loop-test .taken) (b .before .node-at .ensures) (c .before .node-at2 .ensures) (c .pair-mark .ensures) (b .loop .inv .1), search needs)
+    let l = c .before .before .before .before .before .before .before .before .before .before .before .before .before .pre .0 in
+    (search needs, pair-marked _ _ _ _ _ _ (c .before .before .before .loop .j) _ _ _ (l .left-few) (l .right-few) (c .before .before .loop-test .taken) (c .before .before .before .before .node-at .ensures) (c .before .node-at2 .ensures) (c .pair-mark .ensures) (c .before .before .before .loop .inv .1), search needs)
 
 same-length : tie.Need-same-length Inv-loop μ-loop
 same-length c = search needs

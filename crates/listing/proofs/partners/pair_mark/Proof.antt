@@ -5,9 +5,9 @@ use Rattle.listing.proofs.partners.pair_mark.Tie as tie
 
 may-unify-requires : tie.Need-may-unify-requires
 may-unify-requires c κs =
-    let p = c .before .before .before .before .pre in
+    let p = c .before .before .before .before .before .pre in
     let t = p .0 in
-    (t .sections, (t .formed, (t .stands, (t .shared, ((t .closed-marks .long, t .closed-marks), p .1)))))
+    ((t .sections, t .counts-right), ((t .formed, t .circles), (t .stands, p .1)))
 
 returns : tie.Need-returns
 returns c = search needs

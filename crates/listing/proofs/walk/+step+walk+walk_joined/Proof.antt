@@ -9,7 +9,7 @@ use lib.ListN.{length, replicate, length-set}
 use lib.Seq.{take-at}
 use Rattle.table.specs.Limits.{maxTerms, maxNodes}
 use Rattle.listing.specs.Code.Walk.{Turning}
-use Rattle.listing.proofs.WalkLaws.{part-reach, ending, going-on, hopeless-walked, stuck-room, stuck-walked, weight-room, pair-room, key-room, placed-next, placed-stepped, refused-stepped, unpaired-some, mark-inside, joining, joined-stepped, turning-first, turning-walking, turning-next, turning-full, turning-done, same-next, same-joined, heads-few, heads-room, heads-long, clash-joined, occurs-joined, joined-next, unified-joined}
+use Rattle.listing.proofs.WalkLaws.{part-reach, ending, going-on, hopeless-walked, stuck-room, stuck-walked, weight-room, pair-room, key-room, placed-next, placed-stepped, refused-stepped, unpaired-some, mark-inside, joining, joined-stepped, turning-first, turning-walking, turning-next, turning-full, turning-done, same-next, same-joined, heads-few, heads-room, circles-room, heads-long, clash-joined, occurs-joined, joined-next, unified-joined}
 use borrow.Fn.Kinds.{In}
 use borrow.Fn.PlainCycle.{Measures, is, falls, and}
 use Rattle.listing.proofs.walk.step.Reads as step
@@ -29,34 +29,34 @@ use Rattle.table.proofs.layout.node_at.Reads as node-at-reads
 use Rattle.listing.proofs.walk.+step+walk+walk_joined.{statement}
 use Rattle.listing.proofs.walk.+step+walk+walk_joined.Tie.{close}
 
-abbrev μ-step : Measures 10 step-kinds.ps ℕ
-μ-step κs a = 3 * (length (a .1 .1 .0 .now) - a .1 .1 .1 .1 .1 .1 .1 .1 .1 .1 .1 .0) + 1
+abbrev μ-step : Measures 11 step-kinds.ps ℕ
+μ-step κs a = 3 * (length (a .1 .1 .0 .now) - a .1 .1 .1 .1 .1 .1 .1 .1 .1 .1 .1 .1 .0) + 1
 
-abbrev μ-walk : Measures 10 walk-kinds.ps ℕ
-μ-walk κs a = 3 * (length (a .1 .1 .0 .now) - a .1 .1 .1 .1 .1 .1 .1 .1 .1 .1 .1 .0) + 2
+abbrev μ-walk : Measures 11 walk-kinds.ps ℕ
+μ-walk κs a = 3 * (length (a .1 .1 .0 .now) - a .1 .1 .1 .1 .1 .1 .1 .1 .1 .1 .1 .1 .0) + 2
 
-abbrev μ-walk-joined : Measures 10 walk-joined-kinds.ps ℕ
-μ-walk-joined κs a = 3 * (length (a .1 .1 .0 .now) - a .1 .1 .1 .1 .1 .1 .1 .1 .1 .1 .1 .0)
+abbrev μ-walk-joined : Measures 11 walk-joined-kinds.ps ℕ
+μ-walk-joined κs a = 3 * (length (a .1 .1 .0 .now) - a .1 .1 .1 .1 .1 .1 .1 .1 .1 .1 .1 .1 .0)
 
-abbrev step-at : ℕ → In 10 step-kinds.ps
-step-at t = and 10 step-kinds.ps (is 10 step-kinds.ps μ-step t) step.Pre
+abbrev step-at : ℕ → In 11 step-kinds.ps
+step-at t = and 11 step-kinds.ps (is 11 step-kinds.ps μ-step t) step.Pre
 
-abbrev step-below : ℕ → In 10 step-kinds.ps
-step-below t = and 10 step-kinds.ps (falls 10 step-kinds.ps _<_ μ-step t) step.Pre
+abbrev step-below : ℕ → In 11 step-kinds.ps
+step-below t = and 11 step-kinds.ps (falls 11 step-kinds.ps _<_ μ-step t) step.Pre
 
-abbrev walk-at : ℕ → In 10 walk-kinds.ps
-walk-at t = and 10 walk-kinds.ps (is 10 walk-kinds.ps μ-walk t) walk.Pre
+abbrev walk-at : ℕ → In 11 walk-kinds.ps
+walk-at t = and 11 walk-kinds.ps (is 11 walk-kinds.ps μ-walk t) walk.Pre
 
-abbrev walk-below : ℕ → In 10 walk-kinds.ps
-walk-below t = and 10 walk-kinds.ps (falls 10 walk-kinds.ps _<_ μ-walk t) walk.Pre
+abbrev walk-below : ℕ → In 11 walk-kinds.ps
+walk-below t = and 11 walk-kinds.ps (falls 11 walk-kinds.ps _<_ μ-walk t) walk.Pre
 
-abbrev walk-joined-at : ℕ → In 10 walk-joined-kinds.ps
+abbrev walk-joined-at : ℕ → In 11 walk-joined-kinds.ps
 walk-joined-at t =
-    and 10 walk-joined-kinds.ps (is 10 walk-joined-kinds.ps μ-walk-joined t) walk-joined.Pre
+    and 11 walk-joined-kinds.ps (is 11 walk-joined-kinds.ps μ-walk-joined t) walk-joined.Pre
 
-abbrev walk-joined-below : ℕ → In 10 walk-joined-kinds.ps
+abbrev walk-joined-below : ℕ → In 11 walk-joined-kinds.ps
 walk-joined-below t =
-    and 10 walk-joined-kinds.ps (falls 10 walk-joined-kinds.ps _<_ μ-walk-joined t) walk-joined.Pre
+    and 11 walk-joined-kinds.ps (falls 11 walk-joined-kinds.ps _<_ μ-walk-joined t) walk-joined.Pre
 
 -- what is known of the functions that the three call
 abbrev step-claims : ℕ → step-lts.Claims
@@ -70,7 +70,7 @@ walk-joined-claims t = (extend-copy-reads.Asked, extend-copy-reads.Learnt, walk-
 
 step-cast-entry : (t : ℕ) → step-lts.Need-cast-entry (step-claims t) (step-at t) step.Post
 step-cast-entry t c =
-    let s = c .before .before .before .before .before .before .before .before .before .before .before in
+    let s = c .before .before .before .before .before .before .before .before .before .before .before .before in
     let g = s .pre .1 .0 in
     let r = s .pre .1 .1 in
     omega (arith, r .2, g .listable .right-few, g .listable .right-labels)
@@ -80,28 +80,28 @@ step-mul-entry t c = search needs
 
 step-slice-write-entry : (t : ℕ) → step-lts.Need-slice-write-entry (step-claims t) (step-at t) step.Post
 step-slice-write-entry t c =
-    let s = c .before .before .before .before .before .before .before .before .before .before .before in
+    let s = c .before .before .before .before .before .before .before .before .before .before .before .before in
     let g = s .pre .1 .0 in
     let r = s .pre .1 .1 in
     omega (arith, r .0, g .branching .size)
 
 step-mul-walk : (t : ℕ) → step-lts.Need-mul-walk (step-claims t) (step-at t) step.Post
 step-mul-walk t c =
-    let s = c .before .before .before .before .before .before .before .before .before .before .before in
+    let s = c .before .before .before .before .before .before .before .before .before .before .before .before in
     let g = s .pre .1 .0 in
     let r = s .pre .1 .1 in
     omega (arith, weight-room g (r .0))
 
 step-add-walk : (t : ℕ) → step-lts.Need-add-walk (step-claims t) (step-at t) step.Post
 step-add-walk t c =
-    let s = c .before .before .before .before .before .before .before .before .before .before .before in
+    let s = c .before .before .before .before .before .before .before .before .before .before .before .before in
     let g = s .pre .1 .0 in
     let r = s .pre .1 .1 in
     omega (arith, r .0, g .listable .left-few)
 
 step-walk-requires : (t : ℕ) → step-lts.Need-walk-requires (step-claims t) (step-at t) step.Post
 step-walk-requires t c κs =
-    let s = c .before .before .before .before .before .before .before .before .before .before .before .before .before .before in
+    let s = c .before .before .before .before .before .before .before .before .before .before .before .before .before .before .before in
     let g = s .pre .1 .0 in
     let r = s .pre .1 .1 in
     (omega (arith, s .pre .0, r .0), placed-next g (r .0) (r .1) (c .before .before .before .if1 .taken))
@@ -117,21 +117,21 @@ step-same-length-3 t c = search needs
 
 step-returns : (t : ℕ) → step-lts.Need-returns (step-claims t) (step-at t) step.Post
 step-returns t c =
-    let s = c .before .before .before .before .before .before .before .before .before .before .before .before .before .before .before .before .before .before .before .before .before in
+    let s = c .before .before .before .before .before .before .before .before .before .before .before .before .before .before .before .before .before .before .before .before .before .before in
     let g = s .pre .1 .0 in
     let r = s .pre .1 .1 in
     placed-stepped g (r .0) (r .1) (c .before .before .before .before .before .before .before .before .before .before .if1 .taken) (c .before .before .before .before .before .before .walk .ensures)
 
 step-add-p : (t : ℕ) → step-lts.Need-add-p (step-claims t) (step-at t) step.Post
 step-add-p t c =
-    let s = c .before .before .before .before .before .before .before .before .before .before .before in
+    let s = c .before .before .before .before .before .before .before .before .before .before .before .before in
     let g = s .pre .1 .0 in
     let r = s .pre .1 .1 in
     omega (arith, c .if1 .left, g .listable .left-few, g .listable .right-few)
 
 step-sub-p : (t : ℕ) → step-lts.Need-sub-p (step-claims t) (step-at t) step.Post
 step-sub-p t c =
-    let s = c .before .before .before .before .before .before .before .before .before .before .before in
+    let s = c .before .before .before .before .before .before .before .before .before .before .before .before in
     let g = s .pre .1 .0 in
     let r = s .pre .1 .1 in
     omega (arith, r .1)
@@ -141,71 +141,78 @@ step-mul-mark t c = search needs
 
 step-slice-read-mark : (t : ℕ) → step-lts.Need-slice-read-mark (step-claims t) (step-at t) step.Post
 step-slice-read-mark t c =
-    let s = c .before .before .before .before .before .before .before .before .before .before .before .before in
+    let s = c .before .before .before .before .before .before .before .before .before .before .before .before .before in
     let g = s .pre .1 .0 in
     let r = s .pre .1 .1 in
     omega (arith, c .before .if1 .left, r .1, g .branching .size)
 
 step-mul-if2 : (t : ℕ) → step-lts.Need-mul-if2 (step-claims t) (step-at t) step.Post
 step-mul-if2 t c =
-    let s = c .before .before .before .before .before .before .before .before .before .before .before .before in
+    let s = c .before .before .before .before .before .before .before .before .before .before .before .before .before in
     let g = s .pre .1 .0 in
     let r = s .pre .1 .1 in
     omega (arith, r .0, g .listable .left-few)
 
 step-add-if2 : (t : ℕ) → step-lts.Need-add-if2 (step-claims t) (step-at t) step.Post
 step-add-if2 t c =
-    let s = c .before .before .before .before .before .before .before .before .before .before .before .before in
+    let s = c .before .before .before .before .before .before .before .before .before .before .before .before .before in
+    let g = s .pre .1 .0 in
+    let r = s .pre .1 .1 in
+    omega (arith, r .0, g .listable .left-few, c .before .if1 .left, g .listable .right-few)
+
+step-add-if2-2 : (t : ℕ) → step-lts.Need-add-if2-2 (step-claims t) (step-at t) step.Post
+step-add-if2-2 t c =
+    let s = c .before .before .before .before .before .before .before .before .before .before .before .before .before in
     let g = s .pre .1 .0 in
     let r = s .pre .1 .1 in
     omega (arith, r .0, g .listable .left-few, c .before .if1 .left, g .listable .right-few)
 
 step-sub-if2 : (t : ℕ) → step-lts.Need-sub-if2 (step-claims t) (step-at t) step.Post
 step-sub-if2 t c =
-    let s = c .before .before .before .before .before .before .before .before .before .before .before .before in
+    let s = c .before .before .before .before .before .before .before .before .before .before .before .before .before in
     let g = s .pre .1 .0 in
     let r = s .pre .1 .1 in
     omega (arith, r .1)
 
 step-shared-slice-read-if2 : (t : ℕ) → step-lts.Need-shared-slice-read-if2 (step-claims t) (step-at t) step.Post
 step-shared-slice-read-if2 t c =
-    let s = c .before .before .before .before .before .before .before .before .before .before .before .before .before in
+    let s = c .before .before .before .before .before .before .before .before .before .before .before .before .before .before in
     let g = s .pre .1 .0 in
     let r = s .pre .1 .1 in
-    omega (arith, r .0, r .1, g .listable .left-few, c .before .before .if1 .left, g .listable .right-few, g .partners .size)
+    omega (arith, r .0, r .1, g .listable .left-few, c .before .before .if1 .left, g .listable .right-few, g .known-right .size)
 
 step-returns-2 : (t : ℕ) → step-lts.Need-returns-2 (step-claims t) (step-at t) step.Post
 step-returns-2 t c =
-    let s = c .before .before .before .before .before .before .before .before .before .before .before .before .before .before in
+    let s = c .before .before .before .before .before .before .before .before .before .before .before .before .before .before .before in
     let g = s .pre .1 .0 in
     let r = s .pre .1 .1 in
     let l = c .before .before .before .if1 .left in
-    refused-stepped g (r .0) (r .1) (omega (arith, l)) _ refl (maxTerms * s .args .i + s .args .d - 1) (omega (arith, r .1)) (c .if2 .taken)
+    refused-stepped g (r .0) (r .1) (omega (arith, l)) _ refl (256 + maxTerms * s .args .i + s .args .d - 1) (omega (arith, r .1)) (c .if2 .taken)
 
 step-node-at-requires : (t : ℕ) → step-lts.Need-node-at-requires (step-claims t) (step-at t) step.Post
 step-node-at-requires t c κs =
-    let s = c .before .before .before .before .before .before .before .before .before .before .before .before .before .before in
+    let s = c .before .before .before .before .before .before .before .before .before .before .before .before .before .before .before in
     let g = s .pre .1 .0 in
     let r = s .pre .1 .1 in
     r .0
 
 step-sub-node-at : (t : ℕ) → step-lts.Need-sub-node-at (step-claims t) (step-at t) step.Post
 step-sub-node-at t c =
-    let s = c .before .before .before .before .before .before .before .before .before .before .before .before .before .before .before in
+    let s = c .before .before .before .before .before .before .before .before .before .before .before .before .before .before .before .before in
     let g = s .pre .1 .0 in
     let r = s .pre .1 .1 in
     omega (arith, r .1)
 
 step-node-at-requires-2 : (t : ℕ) → step-lts.Need-node-at-requires-2 (step-claims t) (step-at t) step.Post
 step-node-at-requires-2 t c κs =
-    let s = c .before .before .before .before .before .before .before .before .before .before .before .before .before .before .before in
+    let s = c .before .before .before .before .before .before .before .before .before .before .before .before .before .before .before .before in
     let g = s .pre .1 .0 in
     let r = s .pre .1 .1 in
     omega (arith, r .1, c .before .before .before .before .if1 .left)
 
 step-cast-entry-2 : (t : ℕ) → step-lts.Need-cast-entry-2 (step-claims t) (step-at t) step.Post
 step-cast-entry-2 t c =
-    let s = c .before .before .before .before .before .before .before .before .before .before .before .before .before .before .before .before in
+    let s = c .before .before .before .before .before .before .before .before .before .before .before .before .before .before .before .before .before in
     let g = s .pre .1 .0 in
     let r = s .pre .1 .1 in
     omega (arith, r .2, g .listable .right-few, g .listable .right-labels)
@@ -215,7 +222,7 @@ step-mul-entry-2 t c = search needs
 
 step-slice-write-entry-2 : (t : ℕ) → step-lts.Need-slice-write-entry-2 (step-claims t) (step-at t) step.Post
 step-slice-write-entry-2 t c =
-    let s = c .before .before .before .before .before .before .before .before .before .before .before .before .before .before .before .before in
+    let s = c .before .before .before .before .before .before .before .before .before .before .before .before .before .before .before .before .before in
     let g = s .pre .1 .0 in
     let r = s .pre .1 .1 in
     omega (arith, r .0, g .branching .size)
@@ -225,7 +232,7 @@ step-mul-entry-3 t c = search needs
 
 step-slice-write-entry-3 : (t : ℕ) → step-lts.Need-slice-write-entry-3 (step-claims t) (step-at t) step.Post
 step-slice-write-entry-3 t c =
-    let s = c .before .before .before .before .before .before .before .before .before .before .before .before .before .before .before .before in
+    let s = c .before .before .before .before .before .before .before .before .before .before .before .before .before .before .before .before .before in
     let g = s .pre .1 .0 in
     let r = s .pre .1 .1 in
     rw length-set (omega (arith, c .before .before .before .before .before .if1 .left, r .1, g .branching .size))
@@ -235,7 +242,7 @@ step-cast-if3 t c = search needs
 
 step-shared-slice-read-if3 : (t : ℕ) → step-lts.Need-shared-slice-read-if3 (step-claims t) (step-at t) step.Post
 step-shared-slice-read-if3 t c =
-    let s = c .before .before .before .before .before .before .before .before .before .before .before .before .before .before .before .before .before .before in
+    let s = c .before .before .before .before .before .before .before .before .before .before .before .before .before .before .before .before .before .before .before in
     let g = s .pre .1 .0 in
     let r = s .pre .1 .1 in
     omega (arith, c .before .before .before .node-at .ensures, g .listable .left-nodes (s .args .i) (r .0), g .formed .partition .size)
@@ -245,7 +252,7 @@ step-cast-if3-2 t c = search needs
 
 step-shared-slice-read-if3-2 : (t : ℕ) → step-lts.Need-shared-slice-read-if3-2 (step-claims t) (step-at t) step.Post
 step-shared-slice-read-if3-2 t c =
-    let s = c .before .before .before .before .before .before .before .before .before .before .before .before .before .before .before .before .before .before .before .before in
+    let s = c .before .before .before .before .before .before .before .before .before .before .before .before .before .before .before .before .before .before .before .before .before in
     let g = s .pre .1 .0 in
     let r = s .pre .1 .1 in
     let l = c .before .before .before .before .before .before .before .before .before .if1 .left in
@@ -253,7 +260,7 @@ step-shared-slice-read-if3-2 t c =
 
 step-mul-walk-2 : (t : ℕ) → step-lts.Need-mul-walk-2 (step-claims t) (step-at t) step.Post
 step-mul-walk-2 t c =
-    let s = c .before .before .before .before .before .before .before .before .before .before .before .before .before .before .before .before .before .before .before .before .before in
+    let s = c .before .before .before .before .before .before .before .before .before .before .before .before .before .before .before .before .before .before .before .before .before .before in
     let g = s .pre .1 .0 in
     let r = s .pre .1 .1 in
     let l = c .before .before .before .before .before .before .before .before .before .before .if1 .left in
@@ -261,7 +268,7 @@ step-mul-walk-2 t c =
 
 step-add-walk-2 : (t : ℕ) → step-lts.Need-add-walk-2 (step-claims t) (step-at t) step.Post
 step-add-walk-2 t c =
-    let s = c .before .before .before .before .before .before .before .before .before .before .before .before .before .before .before .before .before .before .before .before .before in
+    let s = c .before .before .before .before .before .before .before .before .before .before .before .before .before .before .before .before .before .before .before .before .before .before in
     let g = s .pre .1 .0 in
     let r = s .pre .1 .1 in
     let l = c .before .before .before .before .before .before .before .before .before .before .if1 .left in
@@ -269,48 +276,48 @@ step-add-walk-2 t c =
 
 step-mul-walk-3 : (t : ℕ) → step-lts.Need-mul-walk-3 (step-claims t) (step-at t) step.Post
 step-mul-walk-3 t c =
-    let s = c .before .before .before .before .before .before .before .before .before .before .before .before .before .before .before .before .before .before .before .before .before in
+    let s = c .before .before .before .before .before .before .before .before .before .before .before .before .before .before .before .before .before .before .before .before .before .before in
     let g = s .pre .1 .0 in
     let r = s .pre .1 .1 in
     omega (arith, weight-room g (r .0))
 
 step-sub-walk : (t : ℕ) → step-lts.Need-sub-walk (step-claims t) (step-at t) step.Post
 step-sub-walk t c =
-    let s = c .before .before .before .before .before .before .before .before .before .before .before .before .before .before .before .before .before .before .before .before .before in
+    let s = c .before .before .before .before .before .before .before .before .before .before .before .before .before .before .before .before .before .before .before .before .before .before in
     let g = s .pre .1 .0 in
     let r = s .pre .1 .1 in
     let l = c .before .before .before .before .before .before .before .before .before .before .if1 .left in
-    unpaired-some g (r .0) (r .1) (omega (arith, l)) _ refl (maxTerms * s .args .i + s .args .d - 1) (c .before .before .before .before .before .before .before .if2 .left)
+    unpaired-some g (r .0) (r .1) (omega (arith, l)) _ refl (256 + maxTerms * s .args .i + s .args .d - 1) (c .before .before .before .before .before .before .before .if2 .left)
 
 step-add-walk-3 : (t : ℕ) → step-lts.Need-add-walk-3 (step-claims t) (step-at t) step.Post
 step-add-walk-3 t c =
-    let s = c .before .before .before .before .before .before .before .before .before .before .before .before .before .before .before .before .before .before .before .before .before in
+    let s = c .before .before .before .before .before .before .before .before .before .before .before .before .before .before .before .before .before .before .before .before .before .before in
     let g = s .pre .1 .0 in
     let r = s .pre .1 .1 in
     omega (arith, r .0, g .listable .left-few)
 
 step-walk-requires-2 : (t : ℕ) → step-lts.Need-walk-requires-2 (step-claims t) (step-at t) step.Post
 step-walk-requires-2 t c κs =
-    let s = c .before .before .before .before .before .before .before .before .before .before .before .before .before .before .before .before .before .before .before .before .before .before .before .before in
+    let s = c .before .before .before .before .before .before .before .before .before .before .before .before .before .before .before .before .before .before .before .before .before .before .before .before .before in
     let g = s .pre .1 .0 in
     let r = s .pre .1 .1 in
     let l = c .before .before .before .before .before .before .before .before .before .before .before .before .before .if1 .left in
-    (omega (arith, s .pre .0, r .0), same-next (joining g (r .0) (r .1) (omega (arith, l)) _ refl (maxTerms * s .args .i + s .args .d - 1) (c .before .before .before .before .before .before .before .before .before .before .if2 .left) (c .before .before .before .before .before .before .before .before .before .node-at .ensures) (c .before .before .before .before .before .before .before .before .node-at2 .ensures)) (c .before .before .before .if3 .taken))
+    (omega (arith, s .pre .0, r .0), same-next (joining g (r .0) (r .1) (omega (arith, l)) _ refl (256 + maxTerms * s .args .i + s .args .d - 1) (c .before .before .before .before .before .before .before .before .before .before .if2 .left) (c .before .before .before .before .before .before .before .before .before .node-at .ensures) (c .before .before .before .before .before .before .before .before .node-at2 .ensures)) (c .before .before .before .if3 .taken))
 
 step-mul-entry-4 : (t : ℕ) → step-lts.Need-mul-entry-4 (step-claims t) (step-at t) step.Post
 step-mul-entry-4 t c =
-    let s = c .before .before .before .before .before .before .before .before .before .before .before .before .before .before .before .before .before .before .before .before .before .before .before .before .before .before .before .before .before .before .before in
+    let s = c .before .before .before .before .before .before .before .before .before .before .before .before .before .before .before .before .before .before .before .before .before .before .before .before .before .before .before .before .before .before .before .before in
     let g = s .pre .1 .0 in
     let r = s .pre .1 .1 in
     omega (arith, c .before .before .before .before .before .before .before .before .before .before .before .before .before .before .before .before .before .before .before .before .if1 .left, g .listable .left-few, g .listable .right-few)
 
 step-slice-write-entry-4 : (t : ℕ) → step-lts.Need-slice-write-entry-4 (step-claims t) (step-at t) step.Post
 step-slice-write-entry-4 t c =
-    let s = c .before .before .before .before .before .before .before .before .before .before .before .before .before .before .before .before .before .before .before .before .before .before .before .before .before .before .before .before .before .before .before in
+    let s = c .before .before .before .before .before .before .before .before .before .before .before .before .before .before .before .before .before .before .before .before .before .before .before .before .before .before .before .before .before .before .before .before in
     let g = s .pre .1 .0 in
     let r = s .pre .1 .1 in
     let l = c .before .before .before .before .before .before .before .before .before .before .before .before .before .before .before .before .before .before .before .before .if1 .left in
-    mark-inside g (r .0) (r .1) (omega (arith, l)) _ refl (maxTerms * s .args .i + s .args .d - 1) (c .before .before .before .before .before .before .before .before .before .before .before .before .before .before .before .before .before .if2 .left) (c .before .before .before .before .before .before .walk2 .ensures)
+    mark-inside g (r .0) (r .1) (omega (arith, l)) _ refl (256 + maxTerms * s .args .i + s .args .d - 1) (c .before .before .before .before .before .before .before .before .before .before .before .before .before .before .before .before .before .if2 .left) (c .before .before .before .before .before .before .walk2 .ensures)
 
 step-same-length-4 : (t : ℕ) → step-lts.Need-same-length-4 (step-claims t) (step-at t) step.Post
 step-same-length-4 t c = simp length-set (c .before .before .before .before .before .before .walk2 .ensures .size ∙ simp length-set)
@@ -323,16 +330,16 @@ step-same-length-6 t c = search needs
 
 step-returns-3 : (t : ℕ) → step-lts.Need-returns-3 (step-claims t) (step-at t) step.Post
 step-returns-3 t c =
-    let s = c .before .before .before .before .before .before .before .before .before .before .before .before .before .before .before .before .before .before .before .before .before .before .before .before .before .before .before .before .before .before .before in
+    let s = c .before .before .before .before .before .before .before .before .before .before .before .before .before .before .before .before .before .before .before .before .before .before .before .before .before .before .before .before .before .before .before .before in
     let g = s .pre .1 .0 in
     let r = s .pre .1 .1 in
     let l = c .before .before .before .before .before .before .before .before .before .before .before .before .before .before .before .before .before .before .before .before .if1 .left in
-    let j = (joining g (r .0) (r .1) (omega (arith, l)) _ refl (maxTerms * s .args .i + s .args .d - 1) (c .before .before .before .before .before .before .before .before .before .before .before .before .before .before .before .before .before .if2 .left) (c .before .before .before .before .before .before .before .before .before .before .before .before .before .before .before .before .node-at .ensures) (c .before .before .before .before .before .before .before .before .before .before .before .before .before .before .before .node-at2 .ensures)) in
-    joined-stepped g (r .0) (r .1) (omega (arith, l)) _ refl (maxTerms * s .args .i + s .args .d - 1) (c .before .before .before .before .before .before .before .before .before .before .before .before .before .before .before .before .before .if2 .left) (c .before .before .before .before .before .before .before .before .before .before .before .before .before .before .before .before .node-at .ensures) (c .before .before .before .before .before .before .before .before .before .before .before .before .before .before .before .node-at2 .ensures) refl (same-joined j (c .before .before .before .before .before .before .before .before .before .before .if3 .taken) (c .before .before .before .before .before .before .walk2 .ensures))
+    let j = (joining g (r .0) (r .1) (omega (arith, l)) _ refl (256 + maxTerms * s .args .i + s .args .d - 1) (c .before .before .before .before .before .before .before .before .before .before .before .before .before .before .before .before .before .if2 .left) (c .before .before .before .before .before .before .before .before .before .before .before .before .before .before .before .before .node-at .ensures) (c .before .before .before .before .before .before .before .before .before .before .before .before .before .before .before .node-at2 .ensures)) in
+    joined-stepped g (r .0) (r .1) (omega (arith, l)) _ refl (256 + maxTerms * s .args .i + s .args .d - 1) (c .before .before .before .before .before .before .before .before .before .before .before .before .before .before .before .before .before .if2 .left) (c .before .before .before .before .before .before .before .before .before .before .before .before .before .before .before .before .node-at .ensures) (c .before .before .before .before .before .before .before .before .before .before .before .before .before .before .before .node-at2 .ensures) refl (same-joined j (c .before .before .before .before .before .before .before .before .before .before .if3 .taken) (c .before .before .before .before .before .before .walk2 .ensures))
 
 step-mul-walk-joined : (t : ℕ) → step-lts.Need-mul-walk-joined (step-claims t) (step-at t) step.Post
 step-mul-walk-joined t c =
-    let s = c .before .before .before .before .before .before .before .before .before .before .before .before .before .before .before .before .before .before .before .before .before in
+    let s = c .before .before .before .before .before .before .before .before .before .before .before .before .before .before .before .before .before .before .before .before .before .before in
     let g = s .pre .1 .0 in
     let r = s .pre .1 .1 in
     let l = c .before .before .before .before .before .before .before .before .before .before .if1 .left in
@@ -340,7 +347,7 @@ step-mul-walk-joined t c =
 
 step-add-walk-joined : (t : ℕ) → step-lts.Need-add-walk-joined (step-claims t) (step-at t) step.Post
 step-add-walk-joined t c =
-    let s = c .before .before .before .before .before .before .before .before .before .before .before .before .before .before .before .before .before .before .before .before .before in
+    let s = c .before .before .before .before .before .before .before .before .before .before .before .before .before .before .before .before .before .before .before .before .before .before in
     let g = s .pre .1 .0 in
     let r = s .pre .1 .1 in
     let l = c .before .before .before .before .before .before .before .before .before .before .if1 .left in
@@ -348,41 +355,41 @@ step-add-walk-joined t c =
 
 step-mul-walk-joined-2 : (t : ℕ) → step-lts.Need-mul-walk-joined-2 (step-claims t) (step-at t) step.Post
 step-mul-walk-joined-2 t c =
-    let s = c .before .before .before .before .before .before .before .before .before .before .before .before .before .before .before .before .before .before .before .before .before in
+    let s = c .before .before .before .before .before .before .before .before .before .before .before .before .before .before .before .before .before .before .before .before .before .before in
     let g = s .pre .1 .0 in
     let r = s .pre .1 .1 in
     omega (arith, weight-room g (r .0))
 
 step-sub-walk-joined : (t : ℕ) → step-lts.Need-sub-walk-joined (step-claims t) (step-at t) step.Post
 step-sub-walk-joined t c =
-    let s = c .before .before .before .before .before .before .before .before .before .before .before .before .before .before .before .before .before .before .before .before .before in
+    let s = c .before .before .before .before .before .before .before .before .before .before .before .before .before .before .before .before .before .before .before .before .before .before in
     let g = s .pre .1 .0 in
     let r = s .pre .1 .1 in
     let l = c .before .before .before .before .before .before .before .before .before .before .if1 .left in
-    unpaired-some g (r .0) (r .1) (omega (arith, l)) _ refl (maxTerms * s .args .i + s .args .d - 1) (c .before .before .before .before .before .before .before .if2 .left)
+    unpaired-some g (r .0) (r .1) (omega (arith, l)) _ refl (256 + maxTerms * s .args .i + s .args .d - 1) (c .before .before .before .before .before .before .before .if2 .left)
 
 step-walk-joined-requires : (t : ℕ) → step-lts.Need-walk-joined-requires (step-claims t) (step-at t) step.Post
 step-walk-joined-requires t c κs =
-    let s = c .before .before .before .before .before .before .before .before .before .before .before .before .before .before .before .before .before .before .before .before .before .before .before .before in
+    let s = c .before .before .before .before .before .before .before .before .before .before .before .before .before .before .before .before .before .before .before .before .before .before .before .before .before in
     let g = s .pre .1 .0 in
     let r = s .pre .1 .1 in
     let l = c .before .before .before .before .before .before .before .before .before .before .before .before .before .if1 .left in
-    (omega (arith, s .pre .0, r .0), joining g (r .0) (r .1) (omega (arith, l)) _ refl (maxTerms * s .args .i + s .args .d - 1) (c .before .before .before .before .before .before .before .before .before .before .if2 .left) (c .before .before .before .before .before .before .before .before .before .node-at .ensures) (c .before .before .before .before .before .before .before .before .node-at2 .ensures))
+    (omega (arith, s .pre .0, r .0), joining g (r .0) (r .1) (omega (arith, l)) _ refl (256 + maxTerms * s .args .i + s .args .d - 1) (c .before .before .before .before .before .before .before .before .before .before .if2 .left) (c .before .before .before .before .before .before .before .before .before .node-at .ensures) (c .before .before .before .before .before .before .before .before .node-at2 .ensures))
 
 step-mul-entry-5 : (t : ℕ) → step-lts.Need-mul-entry-5 (step-claims t) (step-at t) step.Post
 step-mul-entry-5 t c =
-    let s = c .before .before .before .before .before .before .before .before .before .before .before .before .before .before .before .before .before .before .before .before .before .before .before .before .before .before .before .before .before .before .before in
+    let s = c .before .before .before .before .before .before .before .before .before .before .before .before .before .before .before .before .before .before .before .before .before .before .before .before .before .before .before .before .before .before .before .before in
     let g = s .pre .1 .0 in
     let r = s .pre .1 .1 in
     omega (arith, c .before .before .before .before .before .before .before .before .before .before .before .before .before .before .before .before .before .before .before .before .if1 .left, g .listable .left-few, g .listable .right-few)
 
 step-slice-write-entry-5 : (t : ℕ) → step-lts.Need-slice-write-entry-5 (step-claims t) (step-at t) step.Post
 step-slice-write-entry-5 t c =
-    let s = c .before .before .before .before .before .before .before .before .before .before .before .before .before .before .before .before .before .before .before .before .before .before .before .before .before .before .before .before .before .before .before in
+    let s = c .before .before .before .before .before .before .before .before .before .before .before .before .before .before .before .before .before .before .before .before .before .before .before .before .before .before .before .before .before .before .before .before in
     let g = s .pre .1 .0 in
     let r = s .pre .1 .1 in
     let l = c .before .before .before .before .before .before .before .before .before .before .before .before .before .before .before .before .before .before .before .before .if1 .left in
-    mark-inside g (r .0) (r .1) (omega (arith, l)) _ refl (maxTerms * s .args .i + s .args .d - 1) (c .before .before .before .before .before .before .before .before .before .before .before .before .before .before .before .before .before .if2 .left) (c .before .before .before .before .before .before .walk-joined .ensures)
+    mark-inside g (r .0) (r .1) (omega (arith, l)) _ refl (256 + maxTerms * s .args .i + s .args .d - 1) (c .before .before .before .before .before .before .before .before .before .before .before .before .before .before .before .before .before .if2 .left) (c .before .before .before .before .before .before .walk-joined .ensures)
 
 step-same-length-7 : (t : ℕ) → step-lts.Need-same-length-7 (step-claims t) (step-at t) step.Post
 step-same-length-7 t c = simp length-set (c .before .before .before .before .before .before .walk-joined .ensures .size ∙ simp length-set)
@@ -395,18 +402,18 @@ step-same-length-9 t c = search needs
 
 step-returns-4 : (t : ℕ) → step-lts.Need-returns-4 (step-claims t) (step-at t) step.Post
 step-returns-4 t c =
-    let s = c .before .before .before .before .before .before .before .before .before .before .before .before .before .before .before .before .before .before .before .before .before .before .before .before .before .before .before .before .before .before .before in
+    let s = c .before .before .before .before .before .before .before .before .before .before .before .before .before .before .before .before .before .before .before .before .before .before .before .before .before .before .before .before .before .before .before .before in
     let g = s .pre .1 .0 in
     let r = s .pre .1 .1 in
     let l = c .before .before .before .before .before .before .before .before .before .before .before .before .before .before .before .before .before .before .before .before .if1 .left in
-    joined-stepped g (r .0) (r .1) (omega (arith, l)) _ refl (maxTerms * s .args .i + s .args .d - 1) (c .before .before .before .before .before .before .before .before .before .before .before .before .before .before .before .before .before .if2 .left) (c .before .before .before .before .before .before .before .before .before .before .before .before .before .before .before .before .node-at .ensures) (c .before .before .before .before .before .before .before .before .before .before .before .before .before .before .before .node-at2 .ensures) refl (c .before .before .before .before .before .before .walk-joined .ensures)
+    joined-stepped g (r .0) (r .1) (omega (arith, l)) _ refl (256 + maxTerms * s .args .i + s .args .d - 1) (c .before .before .before .before .before .before .before .before .before .before .before .before .before .before .before .before .before .if2 .left) (c .before .before .before .before .before .before .before .before .before .before .before .before .before .before .before .before .node-at .ensures) (c .before .before .before .before .before .before .before .before .before .before .before .before .before .before .before .node-at2 .ensures) refl (c .before .before .before .before .before .before .walk-joined .ensures)
 
 abbrev walk-Inv-loop : walk-lts.InvT-loop
-walk-Inv-loop nodes arguments left right labels list may of key weight unpaired i entry₀ memory₀ out₀ at n m end last used₀ d₀ entry memory out used d =
+walk-Inv-loop nodes arguments left right labels known prepared of next key weight unpaired i entry₀ memory₀ out₀ at n m end last used₀ d₀ entry memory out used d =
     (last ≡ length right + labels .right) × Turning nodes arguments left right labels i entry₀ out₀ at d entry memory out used
 
 abbrev walk-μ-loop : walk-lts.MeasureT-loop
-walk-μ-loop nodes arguments left right labels list may of key weight unpaired i entry₀ memory₀ out₀ at n m end last used₀ d₀ entry memory out used d =
+walk-μ-loop nodes arguments left right labels known prepared of next key weight unpaired i entry₀ memory₀ out₀ at n m end last used₀ d₀ entry memory out used d =
     suc last - d
 
 walk-sub-hopeless : (t : ℕ) → walk-lts.Need-sub-hopeless (walk-claims t) (walk-at t) walk.Post walk-Inv-loop walk-μ-loop
@@ -417,12 +424,12 @@ walk-hopeless-requires t c κs = search needs
 
 walk-returns : (t : ℕ) → walk-lts.Need-returns (walk-claims t) (walk-at t) walk.Post walk-Inv-loop walk-μ-loop
 walk-returns t c =
-    let g = c .before .before .before .before .before .before .before .before .before .before .before .before .pre .1 in
+    let g = c .before .before .before .before .before .before .before .before .before .before .before .before .before .pre .1 in
     hopeless-walked g (sym (c .before .hopeless .ensures) ∙ c .if1 .taken)
 
 walk-write-branch-requires : (t : ℕ) → walk-lts.Need-write-branch-requires (walk-claims t) (walk-at t) walk.Post walk-Inv-loop walk-μ-loop
 walk-write-branch-requires t c κs =
-    let g = c .before .before .before .before .before .before .before .before .before .before .before .before .before .before .before .before .pre .1 in
+    let g = c .before .before .before .before .before .before .before .before .before .before .before .before .before .before .before .before .before .pre .1 in
     (g, ending g (c .before .before .before .if2 .taken))
 
 walk-same-length : (t : ℕ) → walk-lts.Need-same-length (walk-claims t) (walk-at t) walk.Post walk-Inv-loop walk-μ-loop
@@ -439,11 +446,8 @@ walk-returns-2 t c = c .before .before .before .before .before .before .write-br
 
 walk-add-end : (t : ℕ) → walk-lts.Need-add-end (walk-claims t) (walk-at t) walk.Post walk-Inv-loop walk-μ-loop
 walk-add-end t c =
-    let g = c .before .before .before .before .before .before .before .before .before .before .before .before .before .pre .1 in
+    let g = c .before .before .before .before .before .before .before .before .before .before .before .before .before .before .pre .1 in
     omega (arith, g .listable .left-few, g .listable .right-few)
-
-walk-mul-stuck : (t : ℕ) → walk-lts.Need-mul-stuck (walk-claims t) (walk-at t) walk.Post walk-Inv-loop walk-μ-loop
-walk-mul-stuck t c = search needs
 
 walk-sub-stuck : (t : ℕ) → walk-lts.Need-sub-stuck (walk-claims t) (walk-at t) walk.Post walk-Inv-loop walk-μ-loop
 walk-sub-stuck t c = search needs
@@ -454,11 +458,25 @@ walk-part-stuck-start t c = search needs
 walk-part-stuck-end : (t : ℕ) → walk-lts.Need-part-stuck-end (walk-claims t) (walk-at t) walk.Post walk-Inv-loop walk-μ-loop
 walk-part-stuck-end t c =
     let g = c .before .before .before .before .before .before .before .before .before .before .before .before .before .before .pre .1 in
+    omega (arith, g .known-right .size)
+
+walk-mul-stuck : (t : ℕ) → walk-lts.Need-mul-stuck (walk-claims t) (walk-at t) walk.Post walk-Inv-loop walk-μ-loop
+walk-mul-stuck t c = search needs
+
+walk-sub-stuck-2 : (t : ℕ) → walk-lts.Need-sub-stuck-2 (walk-claims t) (walk-at t) walk.Post walk-Inv-loop walk-μ-loop
+walk-sub-stuck-2 t c = search needs
+
+walk-part-stuck-start-2 : (t : ℕ) → walk-lts.Need-part-stuck-start-2 (walk-claims t) (walk-at t) walk.Post walk-Inv-loop walk-μ-loop
+walk-part-stuck-start-2 t c = search needs
+
+walk-part-stuck-end-2 : (t : ℕ) → walk-lts.Need-part-stuck-end-2 (walk-claims t) (walk-at t) walk.Post walk-Inv-loop walk-μ-loop
+walk-part-stuck-end-2 t c =
+    let g = c .before .before .before .before .before .before .before .before .before .before .before .before .before .before .before .before .pre .1 in
     omega (arith, g .branching .size)
 
 walk-stuck-requires : (t : ℕ) → walk-lts.Need-stuck-requires (walk-claims t) (walk-at t) walk.Post walk-Inv-loop walk-μ-loop
 walk-stuck-requires t c κs =
-    let g = c .before .before .before .before .before .before .before .before .before .before .before .before .before .before .before .pre .1 in
+    let g = c .before .before .before .before .before .before .before .before .before .before .before .before .before .before .before .before .before .pre .1 in
     (g .partners .size, g .branching .depth, g .listable .left-few, stuck-room g)
 
 walk-same-length-4 : (t : ℕ) → walk-lts.Need-same-length-4 (walk-claims t) (walk-at t) walk.Post walk-Inv-loop walk-μ-loop
@@ -466,25 +484,25 @@ walk-same-length-4 t c = search needs
 
 walk-returns-3 : (t : ℕ) → walk-lts.Need-returns-3 (walk-claims t) (walk-at t) walk.Post walk-Inv-loop walk-μ-loop
 walk-returns-3 t c =
-    let g = c .before .before .before .before .before .before .before .before .before .before .before .before .before .before .before .before .before .pre .1 in
+    let g = c .before .before .before .before .before .before .before .before .before .before .before .before .before .before .before .before .before .before .before .pre .1 in
     stuck-walked g (sym (c .before .stuck .ensures) ∙ c .if3 .taken)
 
 walk-add-last : (t : ℕ) → walk-lts.Need-add-last (walk-claims t) (walk-at t) walk.Post walk-Inv-loop walk-μ-loop
 walk-add-last t c =
-    let g = c .before .before .before .before .before .before .before .before .before .before .before .before .before .before .before .before .before .before .pre .1 in
+    let g = c .before .before .before .before .before .before .before .before .before .before .before .before .before .before .before .before .before .before .before .before .pre .1 in
     omega (arith, g .listable .right-few, g .listable .right-labels)
 
 walk-loop-holds : (t : ℕ) → walk-lts.Need-loop-holds (walk-claims t) (walk-at t) walk.Post walk-Inv-loop walk-μ-loop
 walk-loop-holds t c =
-    let g = c .before .before .before .before .before .before .before .before .before .before .before .before .before .before .before .before .before .before .pre .1 in
-    (refl, turning-first g (going-on g (c .before .before .before .before .before .if2 .left)))
+    let g = c .before .before .before .before .before .before .before .before .before .before .before .before .before .before .before .before .before .before .before .before .pre .1 in
+    (refl, turning-first g (going-on g (c .before .before .before .before .before .before .if2 .left)))
 
 walk-step-requires : (t : ℕ) → walk-lts.Need-step-requires (walk-claims t) (walk-at t) walk.Post walk-Inv-loop walk-μ-loop
 walk-step-requires t c κs =
-    let s = c .before .before .before .before .before .before .before .before .before .before .before .before .before .before .before .before .before .before .before .before .before .before .before in
+    let s = c .before .before .before .before .before .before .before .before .before .before .before .before .before .before .before .before .before .before .before .before .before .before .before .before .before in
     let g = s .pre .1 in
     let l = c .before .before .before .before .loop .inv in
-    (omega (arith, s .pre .0), (turning-walking (l .1) g, (going-on g (c .before .before .before .before .before .before .before .before .before .before .if2 .left), l .1 .first, omega (arith, l .0, c .before .before .before .loop-test .taken))))
+    (omega (arith, s .pre .0), (turning-walking (l .1) g, (going-on g (c .before .before .before .before .before .before .before .before .before .before .before .if2 .left), l .1 .first, omega (arith, l .0, c .before .before .before .loop-test .taken))))
 
 walk-same-length-5 : (t : ℕ) → walk-lts.Need-same-length-5 (walk-claims t) (walk-at t) walk.Post walk-Inv-loop walk-μ-loop
 walk-same-length-5 t c =
@@ -493,9 +511,9 @@ walk-same-length-5 t c =
 
 walk-same-length-6 : (t : ℕ) → walk-lts.Need-same-length-6 (walk-claims t) (walk-at t) walk.Post walk-Inv-loop walk-μ-loop
 walk-same-length-6 t c =
-    let g = c .before .before .before .before .before .before .before .before .before .before .before .before .before .before .before .before .before .before .before .before .before .before .before .before .before .before .before .before .before .before .before .before .pre .1 in
+    let g = c .before .before .before .before .before .before .before .before .before .before .before .before .before .before .before .before .before .before .before .before .before .before .before .before .before .before .before .before .before .before .before .before .before .before .pre .1 in
     let l = c .before .before .before .before .before .before .before .before .before .before .before .before .before .loop .inv in
-    c .before .before .before .before .before .before .before .before .step .kept .1 .1 .1 .1 .1 .1 .1 .1 .1 .1 .1 .1 .1 .1 .0 ∙ l .1 .remembers .size ∙ sym (g .remembers .size)
+    c .before .before .before .before .before .before .before .before .step .kept .1 .1 .1 .1 .1 .1 .1 .1 .1 .1 .1 .1 .1 .1 .1 .0 ∙ l .1 .remembers .size ∙ sym (g .remembers .size)
 
 walk-same-length-7 : (t : ℕ) → walk-lts.Need-same-length-7 (walk-claims t) (walk-at t) walk.Post walk-Inv-loop walk-μ-loop
 walk-same-length-7 t c = search needs
@@ -507,7 +525,7 @@ walk-returns-4 t c =
 
 walk-add-d : (t : ℕ) → walk-lts.Need-add-d (walk-claims t) (walk-at t) walk.Post walk-Inv-loop walk-μ-loop
 walk-add-d t c =
-    let g = c .before .before .before .before .before .before .before .before .before .before .before .before .before .before .before .before .before .before .before .before .before .before .before .before .before .before .before .before .before .before .before .before .pre .1 in
+    let g = c .before .before .before .before .before .before .before .before .before .before .before .before .before .before .before .before .before .before .before .before .before .before .before .before .before .before .before .before .before .before .before .before .before .before .pre .1 in
     let l = c .before .before .before .before .before .before .before .before .before .before .before .before .before .loop .inv in
     omega (arith, l .0, c .before .before .before .before .before .before .before .before .before .before .before .before .loop-test .taken, g .listable .right-few, g .listable .right-labels)
 
@@ -541,13 +559,24 @@ walk-joined-part-heads-start t c = search needs
 
 walk-joined-part-heads-end : (t : ℕ) → walk-joined-lts.Need-part-heads-end (walk-joined-claims t) (walk-joined-at t) walk-joined.Post
 walk-joined-part-heads-end t c =
-    let g = c .before .before .before .before .before .before .before .before .before .before .pre .1 in
+    let g = c .before .before .before .before .before .before .before .before .before .before .before .pre .1 in
+    omega (arith, heads-few g)
+
+walk-joined-sub-extend-copy-2 : (t : ℕ) → walk-joined-lts.Need-sub-extend-copy-2 (walk-joined-claims t) (walk-joined-at t) walk-joined.Post
+walk-joined-sub-extend-copy-2 t c = search needs
+
+walk-joined-part-after-start : (t : ℕ) → walk-joined-lts.Need-part-after-start (walk-joined-claims t) (walk-joined-at t) walk-joined.Post
+walk-joined-part-after-start t c = search needs
+
+walk-joined-part-after-end : (t : ℕ) → walk-joined-lts.Need-part-after-end (walk-joined-claims t) (walk-joined-at t) walk-joined.Post
+walk-joined-part-after-end t c =
+    let g = c .before .before .before .before .before .before .before .before .before .before .before .before .pre .1 in
     omega (arith, heads-few g)
 
 walk-joined-extend-copy-requires : (t : ℕ) → walk-joined-lts.Need-extend-copy-requires (walk-joined-claims t) (walk-joined-at t) walk-joined.Post
 walk-joined-extend-copy-requires t c κs =
-    let g = c .before .before .before .before .before .before .before .before .before .before .before .pre .1 in
-    (g .listable .sections, (g .formed, (heads-room g, (g .first, g .second))))
+    let g = c .before .before .before .before .before .before .before .before .before .before .before .before .before .pre .1 in
+    ((g .listable .sections, g .known-right .counts), ((g .formed, g .circles), ((heads-room g, circles-room g), (g .first, g .second))))
 
 walk-joined-enum-told : (t : ℕ) → walk-joined-lts.Need-enum-told (walk-joined-claims t) (walk-joined-at t) walk-joined.Post
 walk-joined-enum-told t c = search needs
@@ -566,31 +595,44 @@ walk-joined-part-walk-start t c = search needs
 
 walk-joined-part-walk-end : (t : ℕ) → walk-joined-lts.Need-part-walk-end (walk-joined-claims t) (walk-joined-at t) walk-joined.Post
 walk-joined-part-walk-end t c =
-    let g = c .before .before .before .before .before .before .before .before .before .before .before .before .before .before .before .before .pre .1 in
-    let h = heads-long g (c .before .before .before .before .extend-copy .kept .1 .1 .1 .0) in
-    part-reach _ (c .before .before .before .before .extend-copy .last .1 .1 .1 .0) (postOf 0 (length (c .before .before .before .before .before .before .before .before .before .before .before .before .before .before .before .before .args .of .now) - 0) (replicate maxNodes 0)) h
+    let g = c .before .before .before .before .before .before .before .before .before .before .before .before .before .before .before .before .before .before .before .pre .1 in
+    let h = heads-long g (c .before .before .before .before .before .extend-copy .kept .1 .1 .1 .1 .1 .0) in
+    part-reach _ (c .before .before .before .before .before .extend-copy .last .1 .1 .1 .1 .1 .0) (postOf 0 (length (c .before .before .before .before .before .before .before .before .before .before .before .before .before .before .before .before .before .before .before .args .of .now) - 0) (replicate maxNodes 0)) h
+
+walk-joined-sub-walk-2 : (t : ℕ) → walk-joined-lts.Need-sub-walk-2 (walk-joined-claims t) (walk-joined-at t) walk-joined.Post
+walk-joined-sub-walk-2 t c = search needs
+
+walk-joined-part-walk-start-2 : (t : ℕ) → walk-joined-lts.Need-part-walk-start-2 (walk-joined-claims t) (walk-joined-at t) walk-joined.Post
+walk-joined-part-walk-start-2 t c = search needs
+
+walk-joined-part-walk-end-2 : (t : ℕ) → walk-joined-lts.Need-part-walk-end-2 (walk-joined-claims t) (walk-joined-at t) walk-joined.Post
+walk-joined-part-walk-end-2 t c =
+    let g = c .before .before .before .before .before .before .before .before .before .before .before .before .before .before .before .before .before .before .before .before .before .pre .1 in
+    let h = heads-long g (c .before .before .before .before .before .before .before .extend-copy .kept .1 .1 .1 .1 .1 .1 .0) in
+    part-reach _ (c .before .before .before .before .before .before .before .extend-copy .last .1 .1 .1 .1 .1 .1 .0) (postOf 0 (length (c .before .before .before .before .before .before .before .before .before .before .before .before .before .before .before .before .before .before .before .before .before .args .of .now) - 0) (replicate maxNodes 0)) h
 
 walk-joined-add-walk : (t : ℕ) → walk-joined-lts.Need-add-walk (walk-joined-claims t) (walk-joined-at t) walk-joined.Post
 walk-joined-add-walk t c =
-    let g = c .before .before .before .before .before .before .before .before .before .before .before .before .before .before .before .before .before .pre .1 in
+    let g = c .before .before .before .before .before .before .before .before .before .before .before .before .before .before .before .before .before .before .before .before .before .before .pre .1 in
     omega (arith, g .branching .depth, g .listable .left-few)
 
 walk-joined-walk-requires : (t : ℕ) → walk-joined-lts.Need-walk-requires (walk-joined-claims t) (walk-joined-at t) walk-joined.Post
 walk-joined-walk-requires t c κs =
-    let s = c .before .before .before .before .before .before .before .before .before .before .before .before .before .before .before .before .before .before .before .before in
+    let s = c .before .before .before .before .before .before .before .before .before .before .before .before .before .before .before .before .before .before .before .before .before .before .before .before .before in
     let g = s .pre .1 in
-    let h = heads-long g (c .before .before .before .before .before .before .before .before .extend-copy .kept .1 .1 .1 .0) in
-    (omega (arith, s .pre .0, g .branching .depth), joined-next g (c .before .before .before .before .before .before .before .before .extend-copy .ensures) (c .before .before .before .before .before .enum-told3 .given .1) (take-at _ _ _ h))
+    let h = heads-long g (c .before .before .before .before .before .before .before .before .before .before .before .extend-copy .kept .1 .1 .1 .1 .1 .0) in
+    let k = heads-long g (c .before .before .before .before .before .before .before .before .before .before .before .extend-copy .kept .1 .1 .1 .1 .1 .1 .0) in
+    (omega (arith, s .pre .0, g .branching .depth), joined-next g (c .before .before .before .before .before .before .before .before .before .before .before .extend-copy .ensures) (c .before .before .before .before .before .before .before .enum-told3 .given .1) (take-at _ _ _ h) (take-at _ _ _ k))
 
 walk-joined-returns : (t : ℕ) → walk-joined-lts.Need-returns (walk-joined-claims t) (walk-joined-at t) walk-joined.Post
 walk-joined-returns t c =
-    let g = c .before .before .before .before .before .before .before .before .before .before .before .before .before .before .before .pre .1 in
-    clash-joined g (c .before .before .before .extend-copy .ensures) (c .enum-told .given .1)
+    let g = c .before .before .before .before .before .before .before .before .before .before .before .before .before .before .before .before .before .before .pre .1 in
+    clash-joined g (c .before .before .before .before .extend-copy .ensures) (c .enum-told .given .1)
 
 walk-joined-returns-2 : (t : ℕ) → walk-joined-lts.Need-returns-2 (walk-joined-claims t) (walk-joined-at t) walk-joined.Post
 walk-joined-returns-2 t c =
-    let g = c .before .before .before .before .before .before .before .before .before .before .before .before .before .before .before .pre .1 in
-    occurs-joined g (c .before .before .before .extend-copy .ensures) (c .enum-told2 .given .1)
+    let g = c .before .before .before .before .before .before .before .before .before .before .before .before .before .before .before .before .before .before .pre .1 in
+    occurs-joined g (c .before .before .before .before .extend-copy .ensures) (c .enum-told2 .given .1)
 
 walk-joined-same-length : (t : ℕ) → walk-joined-lts.Need-same-length (walk-joined-claims t) (walk-joined-at t) walk-joined.Post
 walk-joined-same-length t c = search needs
@@ -603,8 +645,8 @@ walk-joined-same-length-3 t c = search needs
 
 walk-joined-returns-3 : (t : ℕ) → walk-joined-lts.Need-returns-3 (walk-joined-claims t) (walk-joined-at t) walk-joined.Post
 walk-joined-returns-3 t c =
-    let g = c .before .before .before .before .before .before .before .before .before .before .before .before .before .before .before .before .before .before .before .before .before .before .before .before .before .before .before .pre .1 in
-    unified-joined g (c .before .before .before .before .before .before .before .before .before .before .before .before .before .before .before .extend-copy .ensures) (c .before .before .before .before .before .before .before .before .before .before .before .before .enum-told3 .given .1) (c .before .before .before .before .before .before .walk .ensures)
+    let g = c .before .before .before .before .before .before .before .before .before .before .before .before .before .before .before .before .before .before .before .before .before .before .before .before .before .before .before .before .before .before .before .before .pre .1 in
+    unified-joined g (c .before .before .before .before .before .before .before .before .before .before .before .before .before .before .before .before .before .before .extend-copy .ensures) (c .before .before .before .before .before .before .before .before .before .before .before .before .before .before .enum-told3 .given .1) (c .before .before .before .before .before .before .walk .ensures)
 
 pub +step+walk+walk-joined-spec : {M : Type 1} → statement M
 +step+walk+walk-joined-spec = close μ-step μ-walk μ-walk-joined (λ t. step-lts.spec (step-claims t)
@@ -626,6 +668,7 @@ pub +step+walk+walk-joined-spec : {M : Type 1} → statement M
     (step-slice-read-mark t)
     (step-mul-if2 t)
     (step-add-if2 t)
+    (step-add-if2-2 t)
     (step-sub-if2 t)
     (step-shared-slice-read-if2 t)
     (step-returns-2 t)
@@ -678,10 +721,13 @@ pub +step+walk+walk-joined-spec : {M : Type 1} → statement M
     (walk-same-length-3 t)
     (walk-returns-2 t)
     (walk-add-end t)
-    (walk-mul-stuck t)
     (walk-sub-stuck t)
     (walk-part-stuck-start t)
     (walk-part-stuck-end t)
+    (walk-mul-stuck t)
+    (walk-sub-stuck-2 t)
+    (walk-part-stuck-start-2 t)
+    (walk-part-stuck-end-2 t)
     (walk-stuck-requires t)
     (walk-same-length-4 t)
     (walk-returns-3 t)
@@ -706,6 +752,9 @@ pub +step+walk+walk-joined-spec : {M : Type 1} → statement M
     (walk-joined-sub-extend-copy t)
     (walk-joined-part-heads-start t)
     (walk-joined-part-heads-end t)
+    (walk-joined-sub-extend-copy-2 t)
+    (walk-joined-part-after-start t)
+    (walk-joined-part-after-end t)
     (walk-joined-extend-copy-requires t)
     (walk-joined-enum-told t)
     (walk-joined-enum-told-2 t)
@@ -713,6 +762,9 @@ pub +step+walk+walk-joined-spec : {M : Type 1} → statement M
     (walk-joined-sub-walk t)
     (walk-joined-part-walk-start t)
     (walk-joined-part-walk-end t)
+    (walk-joined-sub-walk-2 t)
+    (walk-joined-part-walk-start-2 t)
+    (walk-joined-part-walk-end-2 t)
     (walk-joined-add-walk t)
     (walk-joined-walk-requires t)
     (walk-joined-returns t)

@@ -1,9 +1,9 @@
 -- `unify::call::unify_nodes` meets its contract: a number that is no node is refused, and two nodes are unified. Assumes nothing.
-use mathlib.Core.Path.{_∙_}
+use mathlib.Core.Path.{refl, _∙_}
 use native.Mathlib.Omega.{arith}
+use borrow.Author.Needs.{needs}
 use Rattle.unification.proofs.ListLaws.{first-long}
 use Rattle.unify.proofs.CallingLaws.{answers-node, nodes-given}
-use borrow.Author.Needs.{needs}
 use Rattle.unify.proofs.call.unify_nodes.Statement.{statement}
 use Rattle.unify.proofs.call.unify_nodes.Tie as tie
 
@@ -25,13 +25,35 @@ part-of-start c = search needs
 part-of-end : tie.Need-part-of-end
 part-of-end c = search needs
 
+sub-unify-with-room-2 : tie.Need-sub-unify-with-room-2
+sub-unify-with-room-2 c = search needs
+
+part-next-start : tie.Need-part-next-start
+part-next-start c = search needs
+
+part-next-end : tie.Need-part-next-end
+part-next-end c = search needs
+
+sub-unify-with-room-3 : tie.Need-sub-unify-with-room-3
+sub-unify-with-room-3 c = search needs
+
+part-counts-start : tie.Need-part-counts-start
+part-counts-start c = search needs
+
+part-counts-end : tie.Need-part-counts-end
+part-counts-end c = search needs
+
+slice-aggregate-unify-with-room : tie.Need-slice-aggregate-unify-with-room
+slice-aggregate-unify-with-room c = search needs
+
 unify-with-room-requires : tie.Need-unify-with-room-requires
 unify-with-room-requires c κs =
-    let s = c .before .before .before .before .before .before .before .before .before .before in
-    let n = c .before .before .before .before .before .before .node-count in
-    let i = c .before .before .index in
+    let s = c .before .before .before .before .before .before .before .before .before .before .before .before .before in
+    let n = c .before .before .before .before .before .before .before .before .before .node-count in
+    let i = c .before .before .before .before .before .index in
     let l = s .pre .limit in
-    (s .pre, (nodes-given (s .args .nodes .now) (s .args .arguments .now) _ _ _ (n .ensures) (c .before .before .before .if1 .left), first-long (i .result) (omega (arith, l, i .ensures .0, n .ensures)) ∙ i .ensures .0 ∙ n .ensures))
+    let long = first-long (i .result) (omega (arith, l, i .ensures .0, n .ensures)) ∙ i .ensures .0 ∙ n .ensures in
+    (s .pre, (nodes-given (s .args .nodes .now) (s .args .arguments .now) _ _ _ (n .ensures) (c .before .before .before .before .before .before .if1 .left), ((long, long, long), refl)))
 
 same-length : tie.Need-same-length
 same-length c = search needs
@@ -49,6 +71,13 @@ unify-nodes-spec =
     sub-unify-with-room
     part-of-start
     part-of-end
+    sub-unify-with-room-2
+    part-next-start
+    part-next-end
+    sub-unify-with-room-3
+    part-counts-start
+    part-counts-end
+    slice-aggregate-unify-with-room
     unify-with-room-requires
     same-length
     returns-2)

@@ -9,15 +9,15 @@ use Rattle.unify.proofs.names.name_all.Statement.{statement}
 use Rattle.unify.proofs.names.name_all.Tie as tie
 
 abbrev Inv-loop : tie.InvT-loop
-Inv-loop nodes arguments of order names₀ buckets₀ earlier₀ p₀ names buckets earlier p =
+Inv-loop nodes arguments of order start names₀ buckets₀ earlier₀ p₀ names buckets earlier p =
     (p ≤ length order) × Naming nodes arguments of order names buckets earlier p
 
 abbrev μ-loop : tie.MeasureT-loop
-μ-loop nodes arguments of order names₀ buckets₀ earlier₀ p₀ names buckets earlier p = length order - p
+μ-loop nodes arguments of order start names₀ buckets₀ earlier₀ p₀ names buckets earlier p = length order - p
 
 loop-holds : tie.Need-loop-holds Inv-loop μ-loop
 loop-holds c =
-    (search needs, c .before .before .before .before .before .before .before .pre)
+    (c .before .before .before .before .before .before .before .pre .1, c .before .before .before .before .before .before .before .pre .0)
 
 name-node-requires : tie.Need-name-node-requires Inv-loop μ-loop
 name-node-requires c κs =
@@ -35,15 +35,15 @@ loop-again c =
 
 same-length : tie.Need-same-length Inv-loop μ-loop
 same-length c =
-    c .before .loop .inv .1 .readable .long ∙ sym (c .before .before .before .before .before .before .before .before .before .pre .readable .long)
+    c .before .loop .inv .1 .readable .long ∙ sym (c .before .before .before .before .before .before .before .before .before .pre .0 .readable .long)
 
 same-length-2 : tie.Need-same-length-2 Inv-loop μ-loop
 same-length-2 c =
-    c .before .loop .inv .1 .buckets-long ∙ sym (c .before .before .before .before .before .before .before .before .before .pre .buckets-long)
+    c .before .loop .inv .1 .buckets-long ∙ sym (c .before .before .before .before .before .before .before .before .before .pre .0 .buckets-long)
 
 same-length-3 : tie.Need-same-length-3 Inv-loop μ-loop
 same-length-3 c =
-    c .before .loop .inv .1 .earlier-long ∙ sym (c .before .before .before .before .before .before .before .before .before .pre .earlier-long)
+    c .before .loop .inv .1 .earlier-long ∙ sym (c .before .before .before .before .before .before .before .before .before .pre .0 .earlier-long)
 
 returns : tie.Need-returns Inv-loop μ-loop
 returns c =

@@ -13,7 +13,7 @@ slice-aggregate-name-all-2 c = search needs
 name-all-requires : tie.Need-name-all-requires
 name-all-requires c κs =
     let s = c .before .before .before .before .before .before .before .before in
-    naming-start _ _ _ _ _ (s .pre .0) (s .pre .1 .0) (s .pre .1 .1 .0) (s .pre .1 .1 .1 .0) (s .pre .1 .1 .1 .1)
+    (naming-start _ _ _ _ _ (s .pre .0) (s .pre .1 .0) (s .pre .1 .1 .0) (s .pre .1 .1 .1 .0) (s .pre .1 .1 .1 .1), search needs)
 
 same-length : tie.Need-same-length
 same-length c = search needs

@@ -12,29 +12,38 @@ join-requires c κs = search needs
 same-length : tie.Need-same-length
 same-length c = search needs
 
+same-length-2 : tie.Need-same-length-2
+same-length-2 c = search needs
+
 returns : tie.Need-returns
 returns c =
-    let s = c .before .before .before .before .before .before .before .before in
-    extends-clash _ _ (s .pre .0) _ (s .pre .1 .0) (s .args .a .0) (s .args .b .0) (s .pre .1 .1 .0) (s .pre .1 .1 .1) _ _ (c .before .before .before .join .ensures) (not-true _ (c .if1 .taken))
+    let s = c .before .before .before .before .before .before .before .before .before .before .before .before .before in
+    extends-clash _ _ _ (s .pre .0 .0) _ (s .pre .1 .0 .0) (s .args .a .0) (s .args .b .0) (s .pre .1 .1 .0) (s .pre .1 .1 .1) _ _ _ (c .before .before .before .before .before .join .ensures) (not-true _ (c .if1 .taken))
 
 leads-back-requires : tie.Need-leads-back-requires
 leads-back-requires c κs = search needs
 
-same-length-2 : tie.Need-same-length-2
-same-length-2 c = search needs
-
-returns-2 : tie.Need-returns-2
-returns-2 c =
-    let s = c .before .before .before .before .before .before .before .before .before .before .before in
-    extends-occurs _ _ (s .pre .0) _ (s .pre .1 .0) (s .args .a .0) (s .args .b .0) (s .pre .1 .1 .0) (s .pre .1 .1 .1) _ _ (c .before .before .before .before .before .before .join .ensures) (not-false _ (c .before .before .before .if1 .left)) _ (c .before .leads-back .ensures) (c .if2 .taken)
-
 same-length-3 : tie.Need-same-length-3
 same-length-3 c = search needs
 
+same-length-4 : tie.Need-same-length-4
+same-length-4 c = search needs
+
+returns-2 : tie.Need-returns-2
+returns-2 c =
+    let s = c .before .before .before .before .before .before .before .before .before .before .before .before .before .before .before .before in
+    extends-occurs _ _ _ (s .pre .0 .0) _ (s .pre .1 .0 .0) (s .args .a .0) (s .args .b .0) (s .pre .1 .1 .0) (s .pre .1 .1 .1) _ _ _ (c .before .before .before .before .before .before .before .before .join .ensures) (not-false _ (c .before .before .before .if1 .left)) (s .pre .0 .1) _ (c .before .leads-back .ensures) (c .if2 .taken)
+
+same-length-5 : tie.Need-same-length-5
+same-length-5 c = search needs
+
+same-length-6 : tie.Need-same-length-6
+same-length-6 c = search needs
+
 returns-3 : tie.Need-returns-3
 returns-3 c =
-    let s = c .before .before .before .before .before .before .before .before .before .before .before in
-    extends-unified _ _ (s .pre .0) _ (s .pre .1 .0) (s .args .a .0) (s .args .b .0) (s .pre .1 .1 .0) (s .pre .1 .1 .1) _ _ (c .before .before .before .before .before .before .join .ensures) (not-false _ (c .before .before .before .if1 .left)) _ (c .before .leads-back .ensures) (c .if2 .left)
+    let s = c .before .before .before .before .before .before .before .before .before .before .before .before .before .before .before .before in
+    extends-unified _ _ _ (s .pre .0 .0) _ (s .pre .1 .0 .0) (s .args .a .0) (s .args .b .0) (s .pre .1 .1 .0) (s .pre .1 .1 .1) _ _ _ (c .before .before .before .before .before .before .before .before .join .ensures) (not-false _ (c .before .before .before .if1 .left)) (s .pre .0 .1) _ (c .before .leads-back .ensures) (c .if2 .left)
 
 pub extend-spec : {M : Type 1} → statement M
 extend-spec =
@@ -42,9 +51,12 @@ extend-spec =
     (tie.spec
     join-requires
     same-length
+    same-length-2
     returns
     leads-back-requires
-    same-length-2
-    returns-2
     same-length-3
+    same-length-4
+    returns-2
+    same-length-5
+    same-length-6
     returns-3)

@@ -1,0 +1,140 @@
+-- `listing::call::list_with_room` meets its contract: the counts stay where what is known is completed, so that the classes begun with serve for it
+-- too, and where no argument is looked at, nothing has to be prepared. Assumes nothing.
+use mathlib.Core.Path.{refl, sym, _∙_}
+use native.Mathlib.Omega.{arith}
+use borrow.Author.Needs.{needs}
+use Rattle.unify.specs.Code.Prepared.{nothing}
+use Rattle.listing.proofs.CallingLaws.{written-empty, all-empty, variables-inside, begun-width, begun-list, begun-few, begun-triable, begun-known}
+use Rattle.listing.proofs.call.list_with_room.Statement.{statement}
+use Rattle.listing.proofs.call.list_with_room.Tie as tie
+
+begin-shared-requires : tie.Need-begin-shared-requires
+begin-shared-requires c κs = search needs
+
+add-words : tie.Need-add-words
+add-words c = search needs
+
+add-words-2 : tie.Need-add-words-2
+add-words-2 c = search needs
+
+same-length : tie.Need-same-length
+same-length c = search needs
+
+returns : tie.Need-returns
+returns c =
+    written-empty _ _ (all-empty _ _ _ (c .before .before .before .before .begin-shared .ensures .lists) (c .if1 .taken))
+
+make-circles-requires : tie.Need-make-circles-requires
+make-circles-requires c κs =
+    let p = c .before .before .before .before .before .before .before .before .before .before .before .before .before .before .before .before .pre in
+    let b = c .before .before .before .before .before .before .begin-shared .ensures in
+    let e = c .before .before .before .before .before .before .begin-shared .kept .1 .1 .0 ∙ p .1 .0 in
+    (p .1 .1 ∙ sym e, rw e (b .first), begun-few (p .0) b e)
+
+count-open-requires : tie.Need-count-open-requires
+count-open-requires c κs = search needs
+
+sub-complete-known : tie.Need-sub-complete-known
+sub-complete-known c = search needs
+
+part-complete-known-start : tie.Need-part-complete-known-start
+part-complete-known-start c = search needs
+
+part-complete-known-end : tie.Need-part-complete-known-end
+part-complete-known-end c = variables-inside (c .before .before .before .before .before .before .before .before .before .before .before .before .before .before .begin-shared .ensures .lists)
+
+complete-known-requires : tie.Need-complete-known-requires
+complete-known-requires c κs =
+    let p = c .before .before .before .before .before .before .before .before .before .before .before .before .before .before .before .before .before .before .before .before .before .before .before .before .before .before .before .before .pre in
+    let b = c .before .before .before .before .before .before .before .before .before .before .before .before .before .before .before .before .before .before .begin-shared .ensures in
+    let e = c .before .before .before .before .before .before .before .before .before .before .before .before .before .before .before .before .before .before .begin-shared .kept .1 .1 .0 ∙ p .1 .0 in
+    let l = begun-list (p .0) b in
+    (p .0, (begun-triable (p .0) b e (c .before .before .before .before .before .before .before .count-open .ensures .0) (c .before .before .before .before .before .before .before .before .before .before .before .make-circles .ensures), (l .0, l .1, c .before .before .before .before .before .before .before .count-open .kept .1 .1 .0 ∙ p .1 .2)))
+
+list-open-requires : tie.Need-list-open-requires
+list-open-requires c κs =
+    let p = c .before .before .before .before .before .before .before .before .before .before .before .before .before .before .before .before .before .before .before .before .before .before .before .before .before .before .before .before .before .before .before .before .before .before .before .before .pre in
+    let b = c .before .before .before .before .before .before .before .before .before .before .before .before .before .before .before .before .before .before .before .before .before .before .before .before .before .before .begin-shared .ensures in
+    let e = c .before .before .before .before .before .before .before .before .before .before .before .before .before .before .before .before .before .before .before .before .before .before .before .before .before .before .begin-shared .kept .1 .1 .0 ∙ p .1 .0 in
+    let k = begun-known (p .0) b e (c .before .before .before .before .before .before .before .before .before .before .before .before .before .before .before .count-open .kept .1 .1 .0 ∙ p .1 .2) (c .before .before .before .before .before .before .before .before .before .before .before .before .before .before .before .count-open .ensures .0) (c .before .before .before .before .before .before .before .before .before .before .before .before .before .before .before .before .before .before .before .make-circles .ensures) (c .before .before .before .before .before .before .before .complete-known .ensures) in
+    (p .0, (k .0, (k .1, (begun-width (p .0) b, omega (arith, c .before .before .before .before .before .before .before .before .before .before .before .before .before .before .before .before .before .before .before .before .before .before .if1 .left)))))
+
+same-length-2 : tie.Need-same-length-2
+same-length-2 c = c .before .before .before .before .before .before .before .before .before .before .before .before .before .before .before .before .before .before .before .before .before .before .before .before .before .before .before .before .before .begin-shared .kept .1 .1 .0
+
+same-length-3 : tie.Need-same-length-3
+same-length-3 c = search needs
+
+same-length-4 : tie.Need-same-length-4
+same-length-4 c = search needs
+
+same-length-5 : tie.Need-same-length-5
+same-length-5 c = search needs
+
+returns-2 : tie.Need-returns-2
+returns-2 c = search needs
+
+sub-list-known : tie.Need-sub-list-known
+sub-list-known c = search needs
+
+part-list-known-start : tie.Need-part-list-known-start
+part-list-known-start c = search needs
+
+part-list-known-end : tie.Need-part-list-known-end
+part-list-known-end c = search needs
+
+list-known-requires : tie.Need-list-known-requires
+list-known-requires c κs =
+    let p = c .before .before .before .before .before .before .before .before .before .before .before .before .before .before .before .before .before .before .before .before .before .before .before .before .before .before .before .before .before .before .before .before .before .before .before .before .before .before .pre in
+    let b = c .before .before .before .before .before .before .before .before .before .before .before .before .before .before .before .before .before .before .before .before .before .before .before .before .before .before .before .before .begin-shared .ensures in
+    let e = c .before .before .before .before .before .before .before .before .before .before .before .before .before .before .before .before .before .before .before .before .before .before .before .before .before .before .before .before .begin-shared .kept .1 .1 .0 ∙ p .1 .0 in
+    let n = c .before .before .before .before .before .before .before .before .before .before .before .before .before .before .before .before .before .count-open .ensures in
+    let m = c .before .before .before .before .before .before .before .before .before .complete-known .ensures in
+    let k = begun-known (p .0) b e (c .before .before .before .before .before .before .before .before .before .before .before .before .before .before .before .before .before .count-open .kept .1 .1 .0 ∙ p .1 .2) (n .0) (c .before .before .before .before .before .before .before .before .before .before .before .before .before .before .before .before .before .before .before .before .before .make-circles .ensures) m in
+    (p .0, (k .0, (k .1, (nothing refl (λ i h. m .kept i h ∙ n .1 (c .before .before .before .before .before .before .if2 .left) i h), (begun-width (p .0) b, omega (arith, c .before .before .before .before .before .before .before .before .before .before .before .before .before .before .before .before .before .before .before .before .before .before .before .before .if1 .left))))))
+
+same-length-6 : tie.Need-same-length-6
+same-length-6 c = c .before .before .before .before .before .before .before .before .before .before .before .before .before .before .before .before .before .before .before .before .before .before .before .before .before .before .before .before .before .before .before .begin-shared .kept .1 .1 .0
+
+same-length-7 : tie.Need-same-length-7
+same-length-7 c = search needs
+
+same-length-8 : tie.Need-same-length-8
+same-length-8 c = search needs
+
+same-length-9 : tie.Need-same-length-9
+same-length-9 c = search needs
+
+returns-3 : tie.Need-returns-3
+returns-3 c = search needs
+
+pub list-with-room-spec : {M : Type 1} → statement M
+list-with-room-spec =
+    tie.close
+    (tie.spec
+    begin-shared-requires
+    add-words
+    add-words-2
+    same-length
+    returns
+    make-circles-requires
+    count-open-requires
+    sub-complete-known
+    part-complete-known-start
+    part-complete-known-end
+    complete-known-requires
+    list-open-requires
+    same-length-2
+    same-length-3
+    same-length-4
+    same-length-5
+    returns-2
+    sub-list-known
+    part-list-known-start
+    part-list-known-end
+    list-known-requires
+    same-length-6
+    same-length-7
+    same-length-8
+    same-length-9
+    returns-3)
