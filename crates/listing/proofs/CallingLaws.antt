@@ -46,12 +46,12 @@ use Rattle.listing.specs.declared.Written.{Written}
 use Rattle.listing.specs.Code.Writing.{put, Writes, marked}
 use Rattle.listing.specs.Code.Branch.{Listable, marksIn, widthOf}
 use Rattle.listing.specs.Code.Memory.{keyOf}
-use Rattle.listing.specs.Code.Partners.{Triable, MayPair}
-use Rattle.listing.specs.Code.Known.{knownBytes, mayIn, KnownOf, Completes}
+use Rattle.listing.specs.Code.Partners.{Trying, MayPair}
+use Rattle.listing.specs.Code.Known.{knownBytes, mayIn, PairsKnown, KnownOf}
 use Rattle.listing.specs.Code.Walk.{below, unpairedIn, Walking, Walked, allEntries}
 use Rattle.listing.specs.Code.Calling.{Answers}
 use Rattle.listing.proofs.MemoryLaws.{remembers-none}
-use Rattle.listing.proofs.KnownLaws.{variables-few, known-completed}
+use Rattle.listing.proofs.KnownLaws.{variables-few}
 use Rattle.listing.proofs.HopelessLaws.{unpaired-ones}
 use Rattle.listing.proofs.BelowLaws.{below-listing, below-long, flatten-long}
 use Rattle.listing.proofs.BranchLaws.{paired-none}
@@ -142,17 +142,6 @@ variables-inside {words} {args} {v} s = go (decLt (length (v .nodes)) (v .count)
     go (yes q) = let e = ap length (take-all (v .count) (v .nodes) (omega arith)) in omega (arith, e, long)
     go (no q) = omega arith
 
--- at first any two terms may be paired
-pub all-may : {words args left right : List ℕ} {labels : Labels} → Listable words args left right labels → MayPair words args left right (replicate (maxTerms * maxTerms) 1)
-all-may {left = left} {right = right} g =
-    record {
-      size = refl;
-      never = λ i j p q e. absurd (one (maxTerms * i + j) (omega (arith, p, q, g .left-few, g .right-few)) e);
-    }
-  where
-    one : (j : ℕ) → j < 64 → word (replicate 64 1) j ≡ 0 → ⊥
-    one j h e = let x = getD-replicate {A = ℕ} 64 j 1 0 h in omega (arith, x, e)
-
 -- a part of equal words
 take-replicate : (n m x : ℕ) → n ≤ m → take n (replicate m x) ≡ replicate n x
 take-replicate zero m x h = refl
@@ -162,6 +151,26 @@ take-replicate (suc n) (suc m) x h = ap (x ∷_) (take-replicate n m x (omega ar
 -- and the rest of them
 drop-replicate : (n m x : ℕ) → drop n (replicate (n + m) x) ≡ replicate m x
 drop-replicate n m x = ap (drop n) (sym (replicate-append-replicate n m x)) ∙ drop-at (replicate n x) (replicate m x) n (length-replicate n x)
+
+-- at first any two terms may be paired
+pub pairs-begun : {words args left right known known′ : List ℕ} {labels : Labels} → Listable words args left right labels → known ≡ replicate knownBytes 1 → length known′ ≡ length known → Counts words args known′ (nodeCount words) → mayIn known′ ≡ mayIn known → PairsKnown words args left right known′
+pairs-begun {left = left} {right = right} {known = known} {known′ = known′} g e l c m =
+    record {
+      size = l ∙ ap length e;
+      counts = c;
+      partners = record {
+        size = ap length ones;
+        never = λ i j p q z. absurd (one (maxTerms * i + j) (omega (arith, p, q, g .left-few, g .right-few)) z);
+      };
+    }
+  where
+    ones : mayIn known′ ≡ replicate 64 1
+    ones = m ∙ ap mayIn e ∙ ap (take 64) (drop-replicate 256 128 1) ∙ take-replicate 64 128 1 (omega arith)
+
+    one : (j : ℕ) → j < 64 → word (mayIn known′) j ≡ 0 → ⊥
+    one j h z =
+        let x = ap (λ (r : List ℕ). word r j) ones ∙ getD-replicate {A = ℕ} 64 j 1 0 h in
+        omega (arith, x, z)
 
 -- the classes that unifying begins with
 module _ {words args left right : List ℕ} {labels : Labels} (g : Listable words args left right labels) {v : Variables} {cs : List ℕ} (s : BeginsShared words args v cs) where
@@ -183,22 +192,19 @@ module _ {words args left right : List ℕ} {labels : Labels} (g : Listable word
   pub begun-few : length cs ≡ nodeCount words → length cs ≤ maxNodes
   begun-few e = omega (arith, e, g .sections .limit)
 
-  -- a pair can be tried by itself
-  pub begun-triable : {counts next : List ℕ} → length cs ≡ nodeCount words → Counts words args counts (nodeCount words) → Circles (length cs) cs next → Triable words args counts cs next
-  begun-triable {counts} {next} e c o =
+  -- pairs can be tried by themselves
+  pub begun-trying : {next : List ℕ} → length cs ≡ nodeCount words → Circles (length cs) cs next → Trying words args cs next
+  begun-trying e o =
       record {
         sections = g .sections;
-        counts-right = c;
-        formed = s .formed counts c;
+        formed = s .formed;
         circles = rw e at o;
         stands = begun-always;
       }
 
-  -- what is known, and the classes, once the bytes are complete
-  pub begun-known : {known known′ next : List ℕ} → length cs ≡ nodeCount words → length known ≡ knownBytes → Counts words args known (nodeCount words) → Circles (length cs) cs next → Completes words args left right known known′ → (KnownOf words args known′ × MayPair words args left right (mayIn known′)) × (Formed words args known′ cs × StandsAlways words args cs × Circles (nodeCount words) cs next)
-  begun-known {known′ = known′} e l c o k =
-      let h = known-completed (g .sections) l c k in
-      ((h, k .partners), (s .formed known′ (h .counts), begun-always, rw e at o))
+  -- what is known of the classes
+  pub begun-classes : {known next : List ℕ} → length cs ≡ nodeCount words → KnownOf words args known → Circles (length cs) cs next → Formed words args known cs × StandsAlways words args cs × Circles (nodeCount words) cs next
+  begun-classes {known} e k o = (s .formed known (k .counts), begun-always, rw e at o)
 
 -- the branch without digits
 module _ {words args left right : List ℕ} {labels : Labels} (g : Listable words args left right labels) (width : ℕ) (w : width ≡ widthOf words args left right) where

@@ -1,12 +1,13 @@
 -- What is known, part by part: the marks of pairs and the least nodes of variables are read where they were put, and the counts before them stay.
 -- By cutting the bytes at the places. Assumes nothing.
-use Prim.Native.Nat.{ℕ, _+_, _-_, _≤_, _<_}
+use Prim.Native.Nat.{ℕ, _+_, _*_, _-_, _≤_, _<_}
 use mathlib.Core.List.{List, _++_, append-assoc}
 use mathlib.Core.Logic.{_⊎_, inl, inr}
 use mathlib.Core.Path.{_≡_, refl, sym, ap, _∙_}
 use native.Mathlib.Omega.{arith}
-use lib.ListN.{length, take, drop, length-map, length-take, length-drop, List·getD-append}
-use lib.Seq.{length-take-le, take-at, drop-at, getD-take, getD-drop}
+use lib.ListN.{length, take, drop, set, length-map, length-set, length-take, length-drop, length-append, List·getD-append}
+use lib.Seq.{length-take-le, take-at, drop-at, take-set-lt, drop-set-add, getD-take, getD-drop, getD-set-other}
+use Rattle.table.specs.Limits.{maxTerms}
 use Rattle.table.specs.Layout.{word, countOf, nodeCount}
 use Rattle.unification.specs.Node.{Node}
 use Rattle.unification.specs.Computed.Variables.{variablesOf}
@@ -14,11 +15,15 @@ use Rattle.unification.specs.Computed.Solution.{nodeOf}
 use Rattle.unification.specs.Code.Sections.{nodesFrom, Sections}
 use Rattle.unify.specs.Code.Open.{Marked, Counts}
 use Rattle.unify.specs.Code.Present.{leastNodes}
+use Rattle.unify.specs.Code.Stands.{Never}
+use Rattle.listing.specs.declared.Labels.{Labels}
 use Rattle.listing.specs.Code.Writing.{put}
-use Rattle.listing.specs.Code.Known.{knownBytes, mayIn, KnownOf, Completes}
+use Rattle.listing.specs.Code.Branch.{Listable}
 use Rattle.listing.specs.Code.Partners.{MayPair}
+use Rattle.listing.specs.Code.Known.{mayIn, PairsKnown, KnownOf, KeepsCounts}
 use Rattle.listing.proofs.WritingLaws.{put-long}
 use Rattle.listing.proofs.MemoryLaws.{part-put}
+use Rattle.listing.proofs.PartnerLaws.{pair-marked}
 
 -- the mark of a pair, where it stands among the bytes
 pub may-word : (known : List ℕ) (m : ℕ) → m < 64 → word (mayIn known) m ≡ word known (256 + m)
@@ -86,60 +91,78 @@ put-here at xs lent l =
     ∙ ap (take (length xs)) (drop-at (take at lent) (xs ++ rest) at (length-take-le at lent l))
     ∙ take-at xs rest (length xs) refl
 
--- marks of pairs and least nodes of variables are put behind the counts
-module _ {words args left right : List ℕ} (s : Sections words args) (known may list known₁ known₂ : List ℕ) (size : length known ≡ knownBytes) (m : MayPair words args left right may) (l : list ≡ leastNodes (nodesFrom words args)) (few : length list ≤ 64) (e₁ : known₁ ≡ take 256 known ++ may ++ drop (256 + length may) known) (e₂ : known₂ ≡ take 320 known₁ ++ list ++ drop (320 + length list) known₁) where
-  -- the marks are put
-  first-put : known₁ ≡ put 256 may known
-  unfolding put
-  first-put = e₁
+-- the counts are written before the marks of pairs
+module _ {words args : List ℕ} (known part : List ℕ) (s : Sections words args) (long : length part ≡ 256) where
+  -- a count, where it stands among the bytes
+  begun-word : (i : ℕ) → i < nodeCount words → word (part ++ drop 256 known) i ≡ word part i
+  begun-word i h = List·getD-append part (drop 256 known) 0 i (omega (arith, h, long, s .limit))
 
-  -- then the least nodes
-  then-put : known₂ ≡ put 320 list known₁
-  unfolding put
-  then-put = e₂
+  -- they are right there as well
+  pub begun-counts : Counts words args part (nodeCount words) → Counts words args (part ++ drop 256 known) (nodeCount words)
+  begun-counts c = counts-kept begun-word (omega (arith, s .limit, long, length-append part (drop 256 known))) c
 
-  -- there are as many bytes after the marks
-  first-long : length known₁ ≡ length known
-  first-long = ap length first-put ∙ put-long 256 may known (omega (arith, size, m .size))
+  -- where they are 0 they are 0 there
+  pub begun-noughts : ((i : ℕ) → i < nodeCount words → word part i ≡ 0) → (i : ℕ) → i < nodeCount words → word (part ++ drop 256 known) i ≡ 0
+  begun-noughts z i h = begun-word i h ∙ z i h
 
-  -- and after the least nodes
-  then-long : length known₂ ≡ length known
-  then-long = ap length then-put ∙ put-long 320 list known₁ (omega (arith, size, few, first-long)) ∙ first-long
+  -- and the marks stay
+  pub begun-marks : mayIn (part ++ drop 256 known) ≡ mayIn known
+  begun-marks = ap (take 64) (drop-at part (drop 256 known) 256 long)
 
-  -- the marks stay where they were put
-  marks-there : mayIn known₂ ≡ may
-  marks-there =
-      let n : 64 ≡ length may = sym (m .size) in
-      ap mayIn then-put
-      ∙ part-put 64 256 320 list known₁ (omega arith) (omega (arith, first-long, size))
-      ∙ ap mayIn first-put
-      ∙ ap (λ (v : ℕ). take v (drop 256 (put 256 may known))) n
-      ∙ put-here 256 may known (omega (arith, size))
+-- a mark that is written among the bytes is written among the marks
+may-set : (known : List ℕ) (m v : ℕ) → m < 64 → mayIn (set known (256 + m) v) ≡ set (mayIn known) m v
+may-set known m v h = ap (take 64) (drop-set-add 256 known m v) ∙ take-set-lt 64 (drop 256 known) m v h
 
+-- the mark of a pair is written
+module _ {words args left right known : List ℕ} {labels : Labels} (g : Listable words args left right labels) (k : PairsKnown words args left right known) (i j v : ℕ) (left-term : i < length left) (right-term : j < length right) where
   -- the counts stay
-  pub completed : Completes words args left right known known₂
-  completed =
+  pub mark-keeps : KeepsCounts words known (set known (256 + maxTerms * i + j) v)
+  mark-keeps q h =
+      getD-set-other known (256 + maxTerms * i + j) q v 0 (λ z. omega (arith, z, h, g .sections .limit))
+
+  -- and what is known of pairs stays right, where the mark is 0 only if the pair never has a unifier
+  pub mark-known : {a b : ℕ} → a ≡ word left i → b ≡ word right j → (v ≡ 0 → Never (nodesFrom words args) a b) → PairsKnown words args left right (set known (256 + maxTerms * i + j) v)
+  mark-known {a} {b} x y n =
+      let p : 256 + maxTerms * i + j ≡ 256 + (maxTerms * i + j) = omega arith in
+      let l = length-set known (256 + maxTerms * i + j) v in
+      let e = ap (λ (q : ℕ). mayIn (set known q v)) p ∙ may-set known (maxTerms * i + j) v (omega (arith, left-term, right-term, g .left-few, g .right-few)) in
       record {
-        size = then-long;
-        kept = λ i h.
-            let c : i < 256 = omega (arith, h, s .limit) in
-            ap (λ (r : List ℕ). word r i) then-put
-            ∙ put-word 320 i list known₁ (omega (arith, c)) (omega (arith, first-long, size))
-            ∙ ap (λ (r : List ℕ). word r i) first-put
-            ∙ put-word 256 i may known c (omega (arith, size));
-        partners = rw marks-there m;
-        lists =
-            ap (λ (xs : List ℕ). take (length xs) (drop 320 known₂)) (sym l)
-            ∙ ap (λ (r : List ℕ). take (length list) (drop 320 r)) then-put
-            ∙ put-here 320 list known₁ (omega (arith, first-long, size))
-            ∙ l;
+        size = l ∙ k .size;
+        counts = counts-kept mark-keeps (omega (arith, l, k .size, g .sections .limit)) (k .counts);
+        partners = rw e (pair-marked words args left right (mayIn known) i j a b v (g .left-few) (g .right-few) right-term x y n (k .partners));
       }
 
--- what is known then
-pub known-completed : {words args left right known known′ : List ℕ} → Sections words args → length known ≡ knownBytes → Counts words args known (nodeCount words) → Completes words args left right known known′ → KnownOf words args known′
-known-completed s size c k =
-    record {
-      size = k .size ∙ size;
-      counts = counts-kept (k .kept) (omega (arith, s .limit, k .size, size)) c;
-      lists = k .lists;
-    }
+-- least nodes of variables are put behind the counts and the marks
+module _ {words args left right : List ℕ} (s : Sections words args) (known list known′ : List ℕ) (k : PairsKnown words args left right known) (l : list ≡ leastNodes (nodesFrom words args)) (few : length list ≤ 64) (e : known′ ≡ take 320 known ++ list ++ drop (320 + length list) known) where
+  -- they are put
+  is-put : known′ ≡ put 320 list known
+  unfolding put
+  is-put = e
+
+  -- there are as many bytes
+  put-size : length known′ ≡ length known
+  put-size = ap length is-put ∙ put-long 320 list known (omega (arith, k .size, few))
+
+  -- the counts stay
+  pub put-keeps : KeepsCounts words known known′
+  put-keeps i h =
+      ap (λ (r : List ℕ). word r i) is-put ∙ put-word 320 i list known (omega (arith, h, s .limit)) (omega (arith, k .size))
+
+  -- and so do the marks
+  pub put-partners : MayPair words args left right (mayIn known′)
+  put-partners =
+      let m : mayIn known′ ≡ mayIn known = ap mayIn is-put ∙ part-put 64 256 320 list known (omega arith) (omega (arith, k .size)) in
+      rw m (k .partners)
+
+  -- all that is known is right then
+  pub put-known : KnownOf words args known′
+  put-known =
+      record {
+        size = put-size ∙ k .size;
+        counts = counts-kept put-keeps (omega (arith, s .limit, put-size, k .size)) (k .counts);
+        lists =
+            ap (λ (xs : List ℕ). take (length xs) (drop 320 known′)) (sym l)
+            ∙ ap (λ (r : List ℕ). take (length list) (drop 320 r)) is-put
+            ∙ put-here 320 list known (omega (arith, k .size))
+            ∙ l;
+      }

@@ -11,7 +11,7 @@ use lib.Dec.{eqb, leb}
 use lib.ListN.{length, drop, set, length-drop, length-set}
 use lib.Seq.{getD-drop, getD-set-same, getD-set-other}
 use Rattle.table.specs.Limits.{maxTerms}
-use Rattle.table.specs.Layout.{word}
+use Rattle.table.specs.Layout.{word, nodeCount}
 use Rattle.table.specs.Some.{someBelow}
 use Rattle.table.proofs.BoolLaws.{and-true-left, and-true-right}
 use Rattle.table.proofs.SomeLaws.{some-here, some-next, some-means, none-some}
@@ -21,10 +21,11 @@ use Rattle.unification.specs.Computed.Unifying.{outcome, wordsOf}
 use Rattle.unification.specs.Code.Given.{Inside}
 use Rattle.unification.specs.Code.Sections.{nodesFrom}
 use Rattle.unification.proofs.SectionLaws.{is-node}
+use Rattle.unify.specs.Code.Open.{Counts}
 use Rattle.unify.specs.Code.Stands.{Never}
 use Rattle.listing.specs.declared.Labels.{Labels}
 use Rattle.listing.specs.Code.Branch.{Listable}
-use Rattle.listing.specs.Code.Partners.{MayPair, partnerAt, partnered, leftStuck, leftsStuck, leftAt, someLeft, rightStuck, rightsStuck, stuck}
+use Rattle.listing.specs.Code.Partners.{Triable, Trying, MayPair, partnerAt, partnered, leftStuck, leftsStuck, leftAt, someLeft, rightStuck, rightsStuck, stuck}
 use Rattle.listing.specs.Code.Walk.{ifUnified, onDigit, below}
 use Rattle.listing.proofs.HopelessLaws.{unpaired-set, marked-none, over-none}
 use Rattle.listing.proofs.BelowLaws.{inside-more}
@@ -229,6 +230,17 @@ module _ (may : List ℕ) (i n : ℕ) (marks : List ℕ) (j : ℕ) (b : Bool) (e
   -- right term j is not
   pub rights-next : someBelow j (rightStuck may i n marks) ≡ false → b ≡ false → someBelow (j + 1) (rightStuck may i n marks) ≡ false
   rights-next f t = some-next (rightStuck may i n marks) j f (sym e ∙ t)
+
+-- a pair can be tried by itself, with any counts that are right
+pub triable : {words args cs next counts : List ℕ} → Trying words args cs next → Counts words args counts (nodeCount words) → Triable words args counts cs next
+triable {counts = counts} t c =
+    record {
+      sections = t .sections;
+      counts-right = c;
+      formed = t .formed counts c;
+      circles = t .circles;
+      stands = t .stands;
+    }
 
 -- a pair marked with 0 only if it never has a unifier leaves the marks right
 pub pair-marked : (words args left right may : List ℕ) (i j a b v : ℕ) → length left ≤ maxTerms → length right ≤ maxTerms → j < length right → a ≡ word left i → b ≡ word right j → (v ≡ 0 → Never (nodesFrom words args) a b) → MayPair words args left right may → MayPair words args left right (set may (maxTerms * i + j) v)

@@ -1,18 +1,20 @@
 // Listing an accepted table.
 ghost use mathlib.Core.Path.{_≡_};
-ghost use Prim.Native.Nat.{_≤_, _<_};
-ghost use lib.ListN.{length};
-ghost use Rattle.table.specs.Layout.{nodeCount};
+ghost use mathlib.Core.Bool.{false};
+ghost use Prim.Native.Nat.{ℕ, _≤_, _<_};
+ghost use lib.ListN.{length, replicate};
+ghost use Rattle.table.specs.Layout.{word, nodeCount};
 ghost use Rattle.table.specs.Code.Accepted.{Accepted};
-ghost use Rattle.unification.specs.Code.Sections.{nodesFrom};
+ghost use Rattle.unification.specs.Code.Sections.{Sections, nodesFrom};
 ghost use Rattle.unify.specs.Code.Present.{leastNodes};
+ghost use Rattle.unify.specs.Code.Open.{Counts};
 ghost use Rattle.unify.specs.Code.Circle.{Circles};
 ghost use Rattle.unify.specs.Code.Prepared.{Prepared};
 ghost use Rattle.unify.specs.Code.Stands.{Formed, StandsAlways};
 ghost use Rattle.multiset_unification.specs.Computed.Listing.{completeListing};
 ghost use Rattle.listing.specs.Code.Branch.{Listable, widthOf};
-ghost use Rattle.listing.specs.Code.Known.{knownBytes, mayIn, KnownOf, Completes};
-ghost use Rattle.listing.specs.Code.Partners.{Triable, MayPair};
+ghost use Rattle.listing.specs.Code.Known.{knownBytes, mayIn, PairsKnown, KnownOf, KeepsCounts};
+ghost use Rattle.listing.specs.Code.Partners.{Trying, MayPair};
 ghost use Rattle.listing.specs.Code.Walk.{allEntries};
 ghost use Rattle.listing.specs.Code.Calling.{Answers};
 use crate::Labels;
@@ -20,7 +22,6 @@ use crate::known::KNOWN;
 use crate::known::LIST;
 use crate::known::MAY;
 use crate::memory::SLOTS;
-use crate::partners::PAIRS;
 use crate::partners::find_partners;
 use crate::walk::walk;
 use multiset_unification::Listing;
@@ -37,7 +38,17 @@ use unify::prepared::prepare;
 // Room for an entry: n + m digits and V binding words.
 const ENTRY_WORDS: usize = 80;
 
-// Finds the partners of the terms, and puts them and the least nodes of the variables into what is known.
+// Begins what is known: counts the arguments that are looked at, and says whether there are any. The marks of pairs stay.
+fn begin_known(nodes: &[u32], arguments: &[u32], known: &mut [u8]) -> bool
+    requires { ⌜ Sections (now nodes) (now arguments) × (length (now known) ≡ knownBytes) ⌝ }
+    ensures { λ r. ⌜ Counts (now (nodes .entry)) (now (arguments .entry)) (now (known .exit)) (nodeCount (now (nodes .entry))) ⌝ }
+    ensures { λ r. ⌜ (r ≡ false → (i : ℕ) → i < nodeCount (now (nodes .entry)) → word (now (known .exit)) i ≡ 0) ⌝ }
+    ensures { λ r. ⌜ mayIn (now (known .exit)) ≡ mayIn (now (known .entry)) ⌝ }
+{
+    count_open(nodes, arguments, &mut known[0..MAY])
+}
+
+// Marks the pairs of terms, and puts the least nodes of the variables behind the marks.
 fn complete_known(
     nodes: &[u32],
     arguments: &[u32],
@@ -50,23 +61,12 @@ fn complete_known(
     known: &mut [u8],
 )
     requires { ⌜ Listable (now nodes) (now arguments) (now left) (now right) labels ⌝ }
-    requires { ⌜ Triable (now nodes) (now arguments) (now known) (now of) (now next) ⌝ }
-    requires { ⌜ (now list ≡ leastNodes (nodesFrom (now nodes) (now arguments))) × (length (now list) ≤ 64) × (length (now known) ≡ knownBytes) ⌝ }
-    ensures { λ r. ⌜ Completes (now (nodes .entry)) (now (arguments .entry)) (now (left .entry)) (now (right .entry)) (now (known .entry)) (now (known .exit)) ⌝ }
+    requires { ⌜ Trying (now nodes) (now arguments) (now of) (now next) × PairsKnown (now nodes) (now arguments) (now left) (now right) (now known) ⌝ }
+    requires { ⌜ (now list ≡ leastNodes (nodesFrom (now nodes) (now arguments))) × (length (now list) ≤ 64) ⌝ }
+    ensures { λ r. ⌜ KnownOf (now (nodes .entry)) (now (arguments .entry)) (now (known .exit)) × MayPair (now (nodes .entry)) (now (arguments .entry)) (now (left .entry)) (now (right .entry)) (mayIn (now (known .exit))) ⌝ }
+    ensures { λ r. ⌜ KeepsCounts (now (nodes .entry)) (now (known .entry)) (now (known .exit)) ⌝ }
 {
-    let mut may = [1u8; PAIRS];
-    find_partners(
-        nodes,
-        arguments,
-        left,
-        right,
-        labels,
-        known,
-        of,
-        next,
-        &mut may,
-    );
-    put_bytes(&may, known, MAY);
+    find_partners(nodes, arguments, left, right, labels, of, next, known);
     put_bytes(list, known, LIST);
 }
 
@@ -168,7 +168,7 @@ fn list_with_room(
     out: &mut [u32],
 ) -> Listing
     requires { ⌜ Listable (now nodes) (now arguments) (now left) (now right) labels ⌝ }
-    requires { ⌜ (length (now of) ≡ nodeCount (now nodes)) × (length (now next) ≡ nodeCount (now nodes)) × (length (now known) ≡ knownBytes) ⌝ }
+    requires { ⌜ (length (now of) ≡ nodeCount (now nodes)) × (length (now next) ≡ nodeCount (now nodes)) × (now known ≡ replicate knownBytes 1) ⌝ }
     ensures { λ r. ⌜ Answers (allEntries (now (nodes .entry)) (now (arguments .entry)) (now (left .entry)) (now (right .entry)) labels) (now (out .entry)) r (now (out .exit)) ⌝ }
 {
     let variables = begin_shared(nodes, arguments, of);
@@ -179,7 +179,7 @@ fn list_with_room(
         return Listing::Finished(1);
     }
     make_circles(of, next);
-    let some_open = count_open(nodes, arguments, known);
+    let some_open = begin_known(nodes, arguments, known);
     complete_known(
         nodes,
         arguments,
@@ -236,7 +236,7 @@ fn list_sides(
     let n = index(layout::node_count(nodes));
     let mut of = [0u8; MAX_NODES];
     let mut next = [0u8; MAX_NODES];
-    let mut known = [0u8; KNOWN];
+    let mut known = [1u8; KNOWN];
     list_with_room(
         nodes,
         arguments,

@@ -7,15 +7,14 @@ ghost use Rattle.table.specs.Layout.{nodeCount};
 ghost use Rattle.unification.specs.Code.Sections.{nodesFrom};
 ghost use Rattle.unify.specs.Code.Stands.{Never};
 ghost use Rattle.listing.specs.Code.Branch.{Listable};
-ghost use Rattle.listing.specs.Code.Partners.{partnered, leftsStuck, someLeft, rightStuck, rightsStuck, stuck as stuckFor, Triable, MayPair};
+ghost use Rattle.listing.specs.Code.Partners.{partnered, leftsStuck, someLeft, rightStuck, rightsStuck, stuck as stuckFor, Triable, Trying};
+ghost use Rattle.listing.specs.Code.Known.{PairsKnown, KeepsCounts};
 use crate::Labels;
+use crate::known::MAY;
 use table::Node;
 use table::layout;
 use table::limits::MAX_TERMS;
 use unify::alone::may_unify;
-
-// A mark for each pair of a left and a right term: 0 where they have no common value.
-pub const PAIRS: usize = MAX_TERMS * MAX_TERMS;
 
 // Whether left term q may be paired with one of the right terms whose marks are not 0.
 fn has_partner(may: &[u8], q: usize, marks: &[u32]) -> bool
@@ -129,23 +128,24 @@ fn mark_row(
     left: &[u32],
     right: &[u32],
     labels: Labels,
-    counts: &[u8],
     of: &[u8],
     next: &[u8],
-    may: &mut [u8],
+    known: &mut [u8],
     i: usize,
 )
     requires { ⌜ Listable (now nodes) (now arguments) (now left) (now right) labels ⌝ }
-    requires { ⌜ Triable (now nodes) (now arguments) (now counts) (now of) (now next) ⌝ }
-    requires { ⌜ MayPair (now nodes) (now arguments) (now left) (now right) (now may) ⌝ }
+    requires { ⌜ Trying (now nodes) (now arguments) (now of) (now next) ⌝ }
+    requires { ⌜ PairsKnown (now nodes) (now arguments) (now left) (now right) (now known) ⌝ }
     requires { ⌜ i < length (now left) ⌝ }
-    ensures { λ r. ⌜ MayPair (now (nodes .entry)) (now (arguments .entry)) (now (left .entry)) (now (right .entry)) (now (may .exit)) ⌝ }
+    ensures { λ r. ⌜ PairsKnown (now (nodes .entry)) (now (arguments .entry)) (now (left .entry)) (now (right .entry)) (now (known .exit)) ⌝ }
+    ensures { λ r. ⌜ KeepsCounts (now (nodes .entry)) (now (known .entry)) (now (known .exit)) ⌝ }
 {
     let a = layout::node_at(left, i);
     let mut j: usize = 0;
     while j < right.len() {
         let b = layout::node_at(right, j);
-        may[MAX_TERMS * i + j] = pair_mark(nodes, arguments, counts, of, next, a, b);
+        let mark = pair_mark(nodes, arguments, known, of, next, a, b);
+        known[MAY + MAX_TERMS * i + j] = mark;
         j += 1;
     }
 }
@@ -157,30 +157,19 @@ fn mark_pairs(
     left: &[u32],
     right: &[u32],
     labels: Labels,
-    counts: &[u8],
     of: &[u8],
     next: &[u8],
-    may: &mut [u8],
+    known: &mut [u8],
 )
     requires { ⌜ Listable (now nodes) (now arguments) (now left) (now right) labels ⌝ }
-    requires { ⌜ Triable (now nodes) (now arguments) (now counts) (now of) (now next) ⌝ }
-    requires { ⌜ MayPair (now nodes) (now arguments) (now left) (now right) (now may) ⌝ }
-    ensures { λ r. ⌜ MayPair (now (nodes .entry)) (now (arguments .entry)) (now (left .entry)) (now (right .entry)) (now (may .exit)) ⌝ }
+    requires { ⌜ Trying (now nodes) (now arguments) (now of) (now next) ⌝ }
+    requires { ⌜ PairsKnown (now nodes) (now arguments) (now left) (now right) (now known) ⌝ }
+    ensures { λ r. ⌜ PairsKnown (now (nodes .entry)) (now (arguments .entry)) (now (left .entry)) (now (right .entry)) (now (known .exit)) ⌝ }
+    ensures { λ r. ⌜ KeepsCounts (now (nodes .entry)) (now (known .entry)) (now (known .exit)) ⌝ }
 {
     let mut i: usize = 0;
     while i < left.len() {
-        mark_row(
-            nodes,
-            arguments,
-            left,
-            right,
-            labels,
-            counts,
-            of,
-            next,
-            may,
-            i,
-        );
+        mark_row(nodes, arguments, left, right, labels, of, next, known, i);
         i += 1;
     }
 }
@@ -193,18 +182,18 @@ pub fn find_partners(
     left: &[u32],
     right: &[u32],
     labels: Labels,
-    counts: &[u8],
     of: &[u8],
     next: &[u8],
-    may: &mut [u8],
+    known: &mut [u8],
 )
     requires { ⌜ Listable (now nodes) (now arguments) (now left) (now right) labels ⌝ }
-    requires { ⌜ Triable (now nodes) (now arguments) (now counts) (now of) (now next) ⌝ }
-    requires { ⌜ MayPair (now nodes) (now arguments) (now left) (now right) (now may) ⌝ }
-    ensures { λ r. ⌜ MayPair (now (nodes .entry)) (now (arguments .entry)) (now (left .entry)) (now (right .entry)) (now (may .exit)) ⌝ }
+    requires { ⌜ Trying (now nodes) (now arguments) (now of) (now next) ⌝ }
+    requires { ⌜ PairsKnown (now nodes) (now arguments) (now left) (now right) (now known) ⌝ }
+    ensures { λ r. ⌜ PairsKnown (now (nodes .entry)) (now (arguments .entry)) (now (left .entry)) (now (right .entry)) (now (known .exit)) ⌝ }
+    ensures { λ r. ⌜ KeepsCounts (now (nodes .entry)) (now (known .entry)) (now (known .exit)) ⌝ }
 {
     if left.len() < 2 {
         return;
     }
-    mark_pairs(nodes, arguments, left, right, labels, counts, of, next, may);
+    mark_pairs(nodes, arguments, left, right, labels, of, next, known);
 }

@@ -1,7 +1,7 @@
 -- The least node of each variable: nodes are noted from the last down, so that the least one stays; those of the variables
 -- present, in rising order, are then picked out. Assumes nothing.
 use Prim.Native.Nat.{ℕ, zero, suc, _+_, _-_, _<_, _≤_}
-use mathlib.Core.Bool.{Bool, true, false, cond}
+use mathlib.Core.Bool.{Bool, true, false, cond, false≢true}
 use mathlib.Core.List.{List, [], _∷_, _++_, map, append-nil, map-append, List·Memᴰ, List·Memᴰ·head, List·Memᴰ·not-nil, List·Memᴰ·eq-of-singleton}
 use mathlib.Core.Logic.{inl, inr}
 use mathlib.Core.Path.{_≡_, refl, sym, ap, _∙_}
@@ -26,7 +26,7 @@ use Rattle.unification.proofs.PresentLaws.{present-or-not}
 use Rattle.unification.proofs.FirstLaws.{node-of, node-of-none}
 use Rattle.unification.proofs.SectionLaws.{nodes-long, section-variable}
 use Rattle.unify.specs.Code.Kept.{Kept, Touched}
-use Rattle.unify.specs.Code.Present.{variableNames, noted, LeastByName, presentBelow, KeepsVariable, ListsPresent, leastNodes}
+use Rattle.unify.specs.Code.Present.{variableNames, noted, Passes, LeastByName, NoneFrom, presentBelow, KeepsVariable, ListsPresent, leastNodes}
 use Rattle.unify.proofs.KeptLaws.{kept-none, kept-skip, kept-set, touched-skip, touched-set}
 
 -- a variable is noted at its number
@@ -137,6 +137,58 @@ module _ (words args : List ℕ) (s : Sections words args) where
       let r = rw e at t in
       record { long = r .long; within = noted-within least r; right = noted-right least r }
 
+-- a variable of which the number is not below e is passed by the next one
+pub passed-here : (words : List ℕ) (e i x : ℕ) → x ≡ nameOf words i → e ≤ x → x < variableNames → Passes words e i (x + 1)
+passed-here words e i x q l h =
+    record { more = omega arith; within = omega arith; past = λ k. omega arith }
+
+-- another is passed by e
+pub passed-before : (words : List ℕ) (e i x : ℕ) → x ≡ nameOf words i → x < e → e ≤ variableNames → Passes words e i e
+passed-before words e i x q l h = record { more = omega arith; within = h; past = λ k. omega arith }
+
+-- an application has none to pass
+pub passed-other : (words : List ℕ) (e i : ℕ) → eqb (kindOf words i) 0 ≡ false → e ≤ variableNames → Passes words e i e
+passed-other words e i q h =
+    record { more = omega arith; within = h; past = λ k. absurd (false≢true (sym q ∙ eq-eqb (kindOf words i) 0 k)) }
+
+-- The variables of the nodes from i on have numbers below e.
+pub record NamesBelow (words : List ℕ) (e i : ℕ) : Type 0 where
+  pub within : e ≤ variableNames
+  pub below : (k : ℕ) → i ≤ k → k < nodeCount words → kindOf words k ≡ 0 → nameOf words k < e
+
+-- there is no node yet
+pub names-none : (words : List ℕ) (i : ℕ) → nodeCount words ≡ i → NamesBelow words 0 i
+names-none words i e = record { within = omega arith; below = λ k l h z. absurd (omega arith) }
+
+-- one node more
+pub names-down : (words : List ℕ) (e i r : ℕ) → NamesBelow words e i → Passes words e (i - 1) r → NamesBelow words r (i - 1)
+names-down words e i r b p =
+    record { within = p .within; below = λ k l h z. pick k h z (ℕ-discrete k (i - 1)) l }
+  where
+    pick : (k : ℕ) → k < nodeCount words → kindOf words k ≡ 0 → Dec (k ≡ i - 1) → i - 1 ≤ k → nameOf words k < r
+    pick k h z (yes q) l = rw q (p .past (rw q at z))
+    pick k h z (no q) l =
+        let a : i ≤ k = omega (arith, q) in
+        let c = b .below k a h z in
+        let d = p .more in
+        omega (arith, c, d)
+
+-- what stands past the numbers of all nodes is the number of nodes
+pub noted-end : (words least : List ℕ) (e i : ℕ) → i ≤ 0 → NotedFrom words least i → NamesBelow words e i → NoneFrom least (nodeCount words) e
+noted-end words least e i z t b =
+    record { within = b .within; none = λ x l h. pick x l (t .touched x h) }
+  where
+    pick : (x : ℕ) → e ≤ x → Touched (IsVariable words) (nameOf words) (nodeCount words) i (nodeCount words) least x → word least x ≡ nodeCount words
+    pick x l (inl q) = q
+    pick x l (inr (k, w)) =
+        let c = b .below k (w .0) (w .1) (w .2) in
+        let d = w .3 in
+        absurd (omega (arith, c, d))
+
+-- the number of nodes by another name
+pub none-named : (least : List ℕ) (n m e : ℕ) → n ≡ m → NoneFrom least m e → NoneFrom least n e
+none-named least n m e q o = record { within = o .within; none = λ x l h. o .none x l h ∙ sym q }
+
 module _ (least : List ℕ) (n : ℕ) (list : List ℕ) (count x : ℕ) where
   -- a variable that has a node is kept
   pub kept-variable : (v : ℕ) → v ≡ word least x → v < n → count < length list → KeepsVariable least n list count x (count + 1) (set list count v)
@@ -159,11 +211,26 @@ pub present-next : (least : List ℕ) (n x : ℕ) (list list′ : List ℕ) (cou
 unfolding presentBelow gather
 present-next least n x list list′ count r e k = k .kept ∙ rw (e, add-one x)
 
+-- the variables that have no node add nothing
+present-more : (least : List ℕ) (n e x : ℕ) → NoneFrom least n e → e ≤ x → x ≤ variableNames → presentBelow least n e ≡ presentBelow least n x
+unfolding presentBelow gather
+present-more least n e zero o l h = let q : e ≡ 0 = omega arith in rw q
+present-more least n e (suc x) o l h = pick (λ k. present-more least n e x o k (omega arith)) (ℕ-discrete e (suc x))
+  where
+    pick : (e ≤ x → presentBelow least n e ≡ presentBelow least n x) → Dec (e ≡ suc x) → presentBelow least n e ≡ presentBelow least n (suc x)
+    pick r (yes q) = ap (presentBelow least n) q
+    pick r (no q) =
+        let k : e ≤ x = omega (arith, q) in
+        let a = o .none x k (omega arith) in
+        let b : ltb (word least x) n ≡ false = le-ltb (word least x) n (omega arith) in
+        r k ∙ rw b (sym (append-nil (presentBelow least n x)))
+
 -- all variables
-pub present-all : (least : List ℕ) (n x count : ℕ) (list : List ℕ) → x ≤ variableNames → variableNames ≤ x → count ≤ x → length list ≡ variableNames → take count list ≡ presentBelow least n x → ListsPresent least n count list
-present-all least n x count list h k l m e =
-    let z : x ≡ variableNames = omega arith in
-    let d = rw z at e in
+pub present-all : (least : List ℕ) (n e x count : ℕ) (list : List ℕ) → NoneFrom least n e → x ≤ e → e ≤ x → count ≤ x → length list ≡ variableNames → take count list ≡ presentBelow least n x → ListsPresent least n count list
+present-all least n e x count list o h k l m t =
+    let z : x ≡ e = omega arith in
+    let w = o .within in
+    let d = t ∙ ap (presentBelow least n) z ∙ present-more least n e variableNames o w (omega arith) in
     record { within = omega arith; counted = sym (length-take-le count list (omega arith)) ∙ ap length d; listed = d }
 
 -- what is in a list stands at some place

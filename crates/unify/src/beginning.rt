@@ -58,9 +58,9 @@ pub fn variables(nodes: &[u32], arguments: &[u32]) -> Variables
 {
     let n = nodes::node_count(nodes, arguments);
     let mut least = [n as u16; VARIABLE_NAMES];
-    present::note_variables(nodes, arguments, &mut least);
+    let end = present::note_variables(nodes, arguments, &mut least);
     let mut list = [0u8; VARIABLE_NAMES];
-    let count = present::list_variables(&least, n, &mut list);
+    let count = present::list_variables(&least, n, end, &mut list);
     Variables { count, nodes: list }
 }
 
@@ -106,9 +106,9 @@ pub fn begin_shared(nodes: &[u32], arguments: &[u32], of: &mut [u8]) -> Variable
 {
     let n = nodes::node_count(nodes, arguments);
     let mut least = [n as u16; VARIABLE_NAMES];
-    present::note_variables(nodes, arguments, &mut least);
+    let end = present::note_variables(nodes, arguments, &mut least);
     let mut list = [0u8; VARIABLE_NAMES];
-    let count = present::list_variables(&least, n, &mut list);
+    let count = present::list_variables(&least, n, end, &mut list);
     let mut starts = [0u8; MAX_NODES];
     let mut order = [0u8; MAX_NODES];
     let mut names = [0u8; MAX_NODES];

@@ -21,15 +21,18 @@ mayIn known = take 64 (drop 256 known)
 abbrev pub listIn : List ℕ → ℕ → List ℕ
 listIn known v = take v (drop 320 known)
 
+-- The counts of arguments and the marks of pairs are right.
+pub record PairsKnown (words args left right known : List ℕ) : Type 0 where
+  pub size : length known ≡ knownBytes
+  pub counts : Counts words args known (nodeCount words)
+  pub partners : MayPair words args left right (mayIn known)
+
 -- The counts of arguments and the least nodes of the variables are right.
 pub record KnownOf (words args known : List ℕ) : Type 0 where
   pub size : length known ≡ knownBytes
   pub counts : Counts words args known (nodeCount words)
   pub lists : listIn known (length (leastNodes (nodesFrom words args))) ≡ leastNodes (nodesFrom words args)
 
--- The marks of pairs and the least nodes of variables are put behind the counts, which stay.
-pub record Completes (words args left right known known′ : List ℕ) : Type 0 where
-  pub size : length known′ ≡ length known
-  pub kept : (i : ℕ) → i < nodeCount words → word known′ i ≡ word known i
-  pub partners : MayPair words args left right (mayIn known′)
-  pub lists : listIn known′ (length (leastNodes (nodesFrom words args))) ≡ leastNodes (nodesFrom words args)
+-- The counts of arguments stay.
+abbrev pub KeepsCounts : List ℕ → List ℕ → List ℕ → Type 0
+KeepsCounts words known known′ = (i : ℕ) → i < nodeCount words → word known′ i ≡ word known i

@@ -21,6 +21,13 @@ pub record Triable (words args counts cs next : List ℕ) : Type 0 where
   pub circles : Circles (nodeCount words) cs next
   pub stands : StandsAlways words args cs
 
+-- The same of the classes, whatever the counts are, as long as these are right.
+pub record Trying (words args cs next : List ℕ) : Type 0 where
+  pub sections : Sections words args
+  pub formed : (counts : List ℕ) → Counts words args counts (nodeCount words) → Formed words args counts cs
+  pub circles : Circles (nodeCount words) cs next
+  pub stands : StandsAlways words args cs
+
 -- A pair of terms with mark 0 has no common value.
 pub record MayPair (words args left right may : List ℕ) : Type 0 where
   pub size : length may ≡ maxTerms * maxTerms

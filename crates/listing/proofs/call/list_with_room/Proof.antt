@@ -1,10 +1,11 @@
 -- `listing::call::list_with_room` meets its contract: the counts stay where what is known is completed, so that the classes begun with serve for it
 -- too, and where no argument is looked at, nothing has to be prepared. Assumes nothing.
-use mathlib.Core.Path.{refl, sym, _∙_}
+use mathlib.Core.Path.{refl, sym, ap, _∙_}
 use native.Mathlib.Omega.{arith}
 use borrow.Author.Needs.{needs}
+use lib.ListN.{length}
 use Rattle.unify.specs.Code.Prepared.{nothing}
-use Rattle.listing.proofs.CallingLaws.{written-empty, all-empty, variables-inside, begun-width, begun-list, begun-few, begun-triable, begun-known}
+use Rattle.listing.proofs.CallingLaws.{written-empty, all-empty, variables-inside, begun-width, begun-list, begun-few, pairs-begun, begun-trying, begun-classes}
 use Rattle.listing.proofs.call.list_with_room.Statement.{statement}
 use Rattle.listing.proofs.call.list_with_room.Tie as tie
 
@@ -31,8 +32,10 @@ make-circles-requires c κs =
     let e = c .before .before .before .before .before .before .begin-shared .kept .1 .1 .0 ∙ p .1 .0 in
     (p .1 .1 ∙ sym e, rw e (b .first), begun-few (p .0) b e)
 
-count-open-requires : tie.Need-count-open-requires
-count-open-requires c κs = search needs
+begin-known-requires : tie.Need-begin-known-requires
+begin-known-requires c κs =
+    let p = c .before .before .before .before .before .before .before .before .before .before .before .before .before .before .before .before .before .before .before .before .pre in
+    (p .0 .sections, ap length (p .1 .2))
 
 sub-complete-known : tie.Need-sub-complete-known
 sub-complete-known c = search needs
@@ -46,18 +49,18 @@ part-complete-known-end c = variables-inside (c .before .before .before .before 
 complete-known-requires : tie.Need-complete-known-requires
 complete-known-requires c κs =
     let p = c .before .before .before .before .before .before .before .before .before .before .before .before .before .before .before .before .before .before .before .before .before .before .before .before .before .before .before .before .pre in
-    let b = c .before .before .before .before .before .before .before .before .before .before .before .before .before .before .before .before .before .before .begin-shared .ensures in
-    let e = c .before .before .before .before .before .before .before .before .before .before .before .before .before .before .before .before .before .before .begin-shared .kept .1 .1 .0 ∙ p .1 .0 in
-    let l = begun-list (p .0) b in
-    (p .0, (begun-triable (p .0) b e (c .before .before .before .before .before .before .before .count-open .ensures .0) (c .before .before .before .before .before .before .before .before .before .before .before .make-circles .ensures), (l .0, l .1, c .before .before .before .before .before .before .before .count-open .kept .1 .1 .0 ∙ p .1 .2)))
+    let b = c .before .before .before .before .before .before .before .before .before .before .before .before .before .before .before .before .before .before .begin-shared in
+    let e = b .kept .1 .1 .0 ∙ p .1 .0 in
+    let k = c .before .before .before .before .before .before .before .begin-known in
+    (p .0, ((begun-trying (p .0) (b .ensures) e (c .before .before .before .before .before .before .before .before .before .before .before .make-circles .ensures), pairs-begun (p .0) (p .1 .2) (k .kept .1 .1 .0) (k .ensures .0) (k .ensures .1 .1)), begun-list (p .0) (b .ensures)))
 
 list-open-requires : tie.Need-list-open-requires
 list-open-requires c κs =
     let p = c .before .before .before .before .before .before .before .before .before .before .before .before .before .before .before .before .before .before .before .before .before .before .before .before .before .before .before .before .before .before .before .before .before .before .before .before .pre in
-    let b = c .before .before .before .before .before .before .before .before .before .before .before .before .before .before .before .before .before .before .before .before .before .before .before .before .before .before .begin-shared .ensures in
-    let e = c .before .before .before .before .before .before .before .before .before .before .before .before .before .before .before .before .before .before .before .before .before .before .before .before .before .before .begin-shared .kept .1 .1 .0 ∙ p .1 .0 in
-    let k = begun-known (p .0) b e (c .before .before .before .before .before .before .before .before .before .before .before .before .before .before .before .count-open .kept .1 .1 .0 ∙ p .1 .2) (c .before .before .before .before .before .before .before .before .before .before .before .before .before .before .before .count-open .ensures .0) (c .before .before .before .before .before .before .before .before .before .before .before .before .before .before .before .before .before .before .before .make-circles .ensures) (c .before .before .before .before .before .before .before .complete-known .ensures) in
-    (p .0, (k .0, (k .1, (begun-width (p .0) b, omega (arith, c .before .before .before .before .before .before .before .before .before .before .before .before .before .before .before .before .before .before .before .before .before .before .if1 .left)))))
+    let b = c .before .before .before .before .before .before .before .before .before .before .before .before .before .before .before .before .before .before .before .before .before .before .before .before .before .before .begin-shared in
+    let e = b .kept .1 .1 .0 ∙ p .1 .0 in
+    let k = c .before .before .before .before .before .before .before .complete-known .ensures in
+    (p .0, (k .0, (begun-classes (p .0) (b .ensures) e (k .0 .0) (c .before .before .before .before .before .before .before .before .before .before .before .before .before .before .before .before .before .before .before .make-circles .ensures), (begun-width (p .0) (b .ensures), omega (arith, c .before .before .before .before .before .before .before .before .before .before .before .before .before .before .before .before .before .before .before .before .before .before .if1 .left)))))
 
 same-length-2 : tie.Need-same-length-2
 same-length-2 c = c .before .before .before .before .before .before .before .before .before .before .before .before .before .before .before .before .before .before .before .before .before .before .before .before .before .before .before .before .before .begin-shared .kept .1 .1 .0
@@ -86,12 +89,11 @@ part-list-known-end c = search needs
 list-known-requires : tie.Need-list-known-requires
 list-known-requires c κs =
     let p = c .before .before .before .before .before .before .before .before .before .before .before .before .before .before .before .before .before .before .before .before .before .before .before .before .before .before .before .before .before .before .before .before .before .before .before .before .before .before .pre in
-    let b = c .before .before .before .before .before .before .before .before .before .before .before .before .before .before .before .before .before .before .before .before .before .before .before .before .before .before .before .before .begin-shared .ensures in
-    let e = c .before .before .before .before .before .before .before .before .before .before .before .before .before .before .before .before .before .before .before .before .before .before .before .before .before .before .before .before .begin-shared .kept .1 .1 .0 ∙ p .1 .0 in
-    let n = c .before .before .before .before .before .before .before .before .before .before .before .before .before .before .before .before .before .count-open .ensures in
-    let m = c .before .before .before .before .before .before .before .before .before .complete-known .ensures in
-    let k = begun-known (p .0) b e (c .before .before .before .before .before .before .before .before .before .before .before .before .before .before .before .before .before .count-open .kept .1 .1 .0 ∙ p .1 .2) (n .0) (c .before .before .before .before .before .before .before .before .before .before .before .before .before .before .before .before .before .before .before .before .before .make-circles .ensures) m in
-    (p .0, (k .0, (k .1, (nothing refl (λ i h. m .kept i h ∙ n .1 (c .before .before .before .before .before .before .if2 .left) i h), (begun-width (p .0) b, omega (arith, c .before .before .before .before .before .before .before .before .before .before .before .before .before .before .before .before .before .before .before .before .before .before .before .before .if1 .left))))))
+    let b = c .before .before .before .before .before .before .before .before .before .before .before .before .before .before .before .before .before .before .before .before .before .before .before .before .before .before .before .before .begin-shared in
+    let e = b .kept .1 .1 .0 ∙ p .1 .0 in
+    let n = c .before .before .before .before .before .before .before .before .before .before .before .before .before .before .before .before .before .begin-known .ensures in
+    let k = c .before .before .before .before .before .before .before .before .before .complete-known .ensures in
+    (p .0, (k .0, (begun-classes (p .0) (b .ensures) e (k .0 .0) (c .before .before .before .before .before .before .before .before .before .before .before .before .before .before .before .before .before .before .before .before .before .make-circles .ensures), (nothing refl (λ i h. k .1 i h ∙ n .1 .0 (c .before .before .before .before .before .before .if2 .left) i h), (begun-width (p .0) (b .ensures), omega (arith, c .before .before .before .before .before .before .before .before .before .before .before .before .before .before .before .before .before .before .before .before .before .before .before .before .if1 .left))))))
 
 same-length-6 : tie.Need-same-length-6
 same-length-6 c = c .before .before .before .before .before .before .before .before .before .before .before .before .before .before .before .before .before .before .before .before .before .before .before .before .before .before .before .before .before .before .before .begin-shared .kept .1 .1 .0
@@ -118,7 +120,7 @@ list-with-room-spec =
     same-length
     returns
     make-circles-requires
-    count-open-requires
+    begin-known-requires
     sub-complete-known
     part-complete-known-start
     part-complete-known-end

@@ -8,7 +8,7 @@ returns : tie.Need-returns
 returns c = search needs
 
 mark-pairs-requires : tie.Need-mark-pairs-requires
-mark-pairs-requires c κs = c .before .before .before .before .before .before .before .before .before .before .pre
+mark-pairs-requires c κs = c .before .before .before .before .before .before .before .before .before .pre
 
 same-length : tie.Need-same-length
 same-length c = search needs

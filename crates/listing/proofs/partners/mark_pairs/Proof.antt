@@ -1,24 +1,25 @@
--- `listing::partners::mark_pairs` meets its contract: the marks stay right with each row that is written. Assumes nothing.
+-- `listing::partners::mark_pairs` meets its contract: what is known of pairs stays right with each row of marks that is written. Assumes nothing.
 use Prim.Native.Nat.{_≤_, _-_}
-use mathlib.Core.Path.{_≡_}
+use mathlib.Core.Path.{_≡_, _∙_}
 use borrow.Author.Needs.{needs}
 use lib.ListN.{length}
-use Rattle.listing.specs.Code.Partners.{MayPair}
+use Rattle.listing.specs.Code.Known.{PairsKnown, KeepsCounts}
 use Rattle.listing.proofs.partners.mark_pairs.Statement.{statement}
 use Rattle.listing.proofs.partners.mark_pairs.Tie as tie
 
 abbrev Inv-loop : tie.InvT-loop
-Inv-loop nodes arguments left right labels counts of next may₀ i₀ may i = (i ≤ length left) × MayPair nodes arguments left right may × (length may ≡ length may₀)
+Inv-loop nodes arguments left right labels of next known₀ i₀ known i =
+    (i ≤ length left) × PairsKnown nodes arguments left right known × KeepsCounts nodes known₀ known × (length known ≡ length known₀)
 
 abbrev μ-loop : tie.MeasureT-loop
-μ-loop nodes arguments left right labels counts of next may₀ i₀ may i = length left - i
+μ-loop nodes arguments left right labels of next known₀ i₀ known i = length left - i
 
 loop-holds : tie.Need-loop-holds Inv-loop μ-loop
 loop-holds c = search needs
 
 mark-row-requires : tie.Need-mark-row-requires Inv-loop μ-loop
 mark-row-requires c κs =
-    let p = c .before .before .before .before .before .before .before .before .before .before .before .pre in
+    let p = c .before .before .before .before .before .before .before .before .before .before .pre in
     (p .0, (p .1 .0, (c .before .before .loop .inv .1, c .before .loop-test .taken)))
 
 add-i : tie.Need-add-i Inv-loop μ-loop
@@ -28,7 +29,10 @@ loop-less : tie.Need-loop-less Inv-loop μ-loop
 loop-less c = search needs
 
 loop-again : tie.Need-loop-again Inv-loop μ-loop
-loop-again c = search needs
+loop-again c =
+    let l = c .before .before .before .before .before .loop in
+    let r = c .before .before .mark-row in
+    (search needs, r .ensures .0, (λ q h. r .ensures .1 q h ∙ l .inv .2 q h), search needs)
 
 same-length : tie.Need-same-length Inv-loop μ-loop
 same-length c = search needs

@@ -1,19 +1,21 @@
--- `listing::partners::mark_row` meets its contract: the marks stay right with each that is written (`pair-marked`).
+-- `listing::partners::mark_row` meets its contract: what is known of pairs stays right with each mark that is written (`mark-known`).
 -- Assumes nothing.
 use Prim.Native.Nat.{_≤_, _-_}
-use mathlib.Core.Path.{_≡_}
+use mathlib.Core.Path.{_≡_, _∙_}
 use borrow.Author.Needs.{needs}
-use lib.ListN.{length}
-use Rattle.listing.specs.Code.Partners.{MayPair}
-use Rattle.listing.proofs.PartnerLaws.{pair-marked}
+use lib.ListN.{length, length-set}
+use Rattle.listing.specs.Code.Known.{PairsKnown, KeepsCounts}
+use Rattle.listing.proofs.PartnerLaws.{triable}
+use Rattle.listing.proofs.KnownLaws.{mark-keeps, mark-known}
 use Rattle.listing.proofs.partners.mark_row.Statement.{statement}
 use Rattle.listing.proofs.partners.mark_row.Tie as tie
 
 abbrev Inv-loop : tie.InvT-loop
-Inv-loop nodes arguments left right counts of next may₀ i a j₀ may j = (j ≤ length right) × MayPair nodes arguments left right may × (length may ≡ length may₀)
+Inv-loop nodes arguments left right of next known₀ i a j₀ known j =
+    (j ≤ length right) × PairsKnown nodes arguments left right known × KeepsCounts nodes known₀ known × (length known ≡ length known₀)
 
 abbrev μ-loop : tie.MeasureT-loop
-μ-loop nodes arguments left right counts of next may₀ i a j₀ may j = length right - j
+μ-loop nodes arguments left right of next known₀ i a j₀ known j = length right - j
 
 node-at-requires : tie.Need-node-at-requires Inv-loop μ-loop
 node-at-requires c κs = search needs
@@ -28,16 +30,19 @@ pair-mark-requires : tie.Need-pair-mark-requires Inv-loop μ-loop
 pair-mark-requires c κs =
     let p = c .before .before .before .before .before .before .before .before .before .before .before .before .pre in
     let l = p .0 in
-    (p .1 .0, (rw (c .before .before .before .node-at .ensures) (l .left-nodes _ (p .1 .1 .1)), rw (c .node-at2 .ensures) (l .right-nodes _ (c .before .loop-test .taken))))
+    (triable (p .1 .0) (c .before .before .before .loop .inv .1 .counts), (rw (c .before .before .before .before .node-at .ensures) (l .left-nodes _ (p .1 .1 .1)), rw (c .before .node-at2 .ensures) (l .right-nodes _ (c .before .before .loop-test .taken))))
 
-mul-may : tie.Need-mul-may Inv-loop μ-loop
-mul-may c = search needs
+mul-known : tie.Need-mul-known Inv-loop μ-loop
+mul-known c = search needs
 
-add-may : tie.Need-add-may Inv-loop μ-loop
-add-may c = search needs
+add-known : tie.Need-add-known Inv-loop μ-loop
+add-known c = search needs
 
-slice-write-may : tie.Need-slice-write-may Inv-loop μ-loop
-slice-write-may c = search needs
+add-known-2 : tie.Need-add-known-2 Inv-loop μ-loop
+add-known-2 c = search needs
+
+slice-write-known : tie.Need-slice-write-known Inv-loop μ-loop
+slice-write-known c = search needs
 
 add-j : tie.Need-add-j Inv-loop μ-loop
 add-j c = search needs
@@ -47,8 +52,11 @@ loop-less c = search needs
 
 loop-again : tie.Need-loop-again Inv-loop μ-loop
 loop-again c =
-    let l = c .before .before .before .before .before .before .before .before .before .before .before .before .before .pre .0 in
-    (search needs, pair-marked _ _ _ _ _ _ (c .before .before .before .loop .j) _ _ _ (l .left-few) (l .right-few) (c .before .before .loop-test .taken) (c .before .before .before .before .node-at .ensures) (c .before .node-at2 .ensures) (c .pair-mark .ensures) (c .before .before .before .loop .inv .1), search needs)
+    let p = c .before .before .before .before .before .before .before .before .before .before .before .before .before .pre in
+    let l = c .before .before .before .before .loop in
+    let r = c .pair-mark in
+    let t = c .before .before .before .loop-test .taken in
+    (search needs, mark-known (p .0) (l .inv .1) _ (l .j) (r .result) (p .1 .1 .1) t (c .before .before .before .before .before .node-at .ensures) (c .before .before .node-at2 .ensures) (r .ensures), (λ q h. mark-keeps (p .0) (l .inv .1) _ (l .j) (r .result) (p .1 .1 .1) t q h ∙ l .inv .2 q h), length-set (l .known) _ (r .result) ∙ l .inv .3)
 
 same-length : tie.Need-same-length Inv-loop μ-loop
 same-length c = search needs
@@ -66,9 +74,10 @@ mark-row-spec =
     loop-holds
     node-at-requires-2
     pair-mark-requires
-    mul-may
-    add-may
-    slice-write-may
+    mul-known
+    add-known
+    add-known-2
+    slice-write-known
     add-j
     loop-less
     loop-again

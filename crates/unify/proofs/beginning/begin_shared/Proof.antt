@@ -3,6 +3,7 @@
 use mathlib.Core.Path.{_∙_}
 use lib.ListN.{getD-replicate}
 use Rattle.unification.proofs.ListLaws.{first-long}
+use Rattle.unify.proofs.LeastLaws.{none-named}
 use Rattle.unify.proofs.StartLaws.{present-lists}
 use Rattle.unify.proofs.SharedLaws.{begun-shared}
 use borrow.Author.Needs.{needs}
@@ -30,7 +31,8 @@ slice-aggregate-list-variables-2 : tie.Need-slice-aggregate-list-variables-2
 slice-aggregate-list-variables-2 c = search needs
 
 list-variables-requires : tie.Need-list-variables-requires
-list-variables-requires c κs = search needs
+list-variables-requires c κs =
+    (search needs, none-named _ _ _ _ (c .before .before .before .before .before .node-count .ensures .0) (c .before .before .before .note-variables .ensures .1))
 
 slice-aggregate-share : tie.Need-slice-aggregate-share
 slice-aggregate-share c = search needs
@@ -67,14 +69,14 @@ share-requires c κs =
     let s = c .before .before .before .before .before .before .before .before .before .before .before .before .before .before .before .before in
     let n = c .before .before .before .before .before .before .before .before .before .before .before .before .node-count in
     let l = first-long (n .result) (n .ensures .1) ∙ n .ensures .0 in
-    (s .pre .0, (c .before .before .before .before .before .before .before .before .before .before .note-variables .ensures, ((l, l), (l, s .pre .1))))
+    (s .pre .0, (c .before .before .before .before .before .before .before .before .before .before .note-variables .ensures .0, ((l, l), (l, s .pre .1))))
 
 same-length : tie.Need-same-length
 same-length c = search needs
 
 returns : tie.Need-returns
 returns c =
-    begun-shared (present-lists _ _ _ _ (c .before .before .before .before .before .before .before .before .before .before .before .before .before .before .before .before .before .before .before .before .before .before .pre .0) (c .before .before .before .before .before .before .before .before .before .before .before .before .before .before .before .before .note-variables .ensures) (c .before .before .before .before .before .before .before .before .before .before .before .before .before .before .before .before .before .before .node-count .ensures .0) (c .before .before .before .before .before .before .before .before .before .before .before .before .list-variables .ensures)) (c .before .before .before .before .before .share .ensures)
+    begun-shared (present-lists _ _ _ _ (c .before .before .before .before .before .before .before .before .before .before .before .before .before .before .before .before .before .before .before .before .before .before .pre .0) (c .before .before .before .before .before .before .before .before .before .before .before .before .before .before .before .before .note-variables .ensures .0) (c .before .before .before .before .before .before .before .before .before .before .before .before .before .before .before .before .before .before .node-count .ensures .0) (c .before .before .before .before .before .before .before .before .before .before .before .before .list-variables .ensures)) (c .before .before .before .before .before .share .ensures)
 
 pub begin-shared-spec : {M : Type 1} → statement M
 begin-shared-spec =

@@ -3,6 +3,7 @@
 use mathlib.Core.Path.{_∙_}
 use borrow.Author.Needs.{needs}
 use lib.ListN.{getD-replicate}
+use Rattle.unify.proofs.LeastLaws.{none-named}
 use Rattle.unify.proofs.StartLaws.{present-lists}
 use Rattle.unify.proofs.beginning.variables.Statement.{statement}
 use Rattle.unify.proofs.beginning.variables.Tie as tie
@@ -26,11 +27,12 @@ slice-aggregate-list-variables-2 : tie.Need-slice-aggregate-list-variables-2
 slice-aggregate-list-variables-2 c = search needs
 
 list-variables-requires : tie.Need-list-variables-requires
-list-variables-requires c κs = search needs
+list-variables-requires c κs =
+    (search needs, none-named _ _ _ _ (c .before .before .before .before .before .node-count .ensures .0) (c .before .before .before .note-variables .ensures .1))
 
 returns : tie.Need-returns
 returns c =
-    present-lists _ _ _ _ (c .before .before .before .before .before .before .before .before .before .before .pre) (c .before .before .before .before .before .note-variables .ensures) (c .before .before .before .before .before .before .before .node-count .ensures .0) (c .before .list-variables .ensures)
+    present-lists _ _ _ _ (c .before .before .before .before .before .before .before .before .before .before .pre) (c .before .before .before .before .before .note-variables .ensures .0) (c .before .before .before .before .before .before .before .node-count .ensures .0) (c .before .list-variables .ensures)
 
 pub variables-spec : {M : Type 1} → statement M
 variables-spec =

@@ -11,14 +11,14 @@ use Rattle.unify.proofs.present.list_variables.Statement.{statement}
 use Rattle.unify.proofs.present.list_variables.Tie as tie
 
 abbrev Inv-loop : tie.InvT-loop
-Inv-loop least n list₀ count₀ x₀ list count x = (x ≤ variableNames) × (count ≤ x) × (length list ≡ variableNames) × (take count list ≡ presentBelow least n x)
+Inv-loop least n end list₀ count₀ x₀ list count x = (x ≤ end) × (end ≤ variableNames) × (count ≤ x) × (length list ≡ variableNames) × (take count list ≡ presentBelow least n x)
 
 abbrev μ-loop : tie.MeasureT-loop
-μ-loop least n list₀ count₀ x₀ list count x = variableNames - x
+μ-loop least n end list₀ count₀ x₀ list count x = end - x
 
 loop-holds : tie.Need-loop-holds Inv-loop μ-loop
 unfolding presentBelow gather
-loop-holds c = (search needs, search needs, search needs, refl)
+loop-holds c = (search needs, search needs, search needs, search needs, refl)
 
 keep-variable-requires : tie.Need-keep-variable-requires Inv-loop μ-loop
 keep-variable-requires c κs = search needs
@@ -33,7 +33,7 @@ loop-again : tie.Need-loop-again Inv-loop μ-loop
 loop-again c =
     let l = c .before .before .before .before .before in
     let k = c .before .before .keep-variable .ensures in
-    (search needs, omega (arith, k .more), k .long ∙ l .loop .inv .2, present-next _ _ _ _ _ _ _ (l .loop .inv .3) k)
+    (search needs, search needs, omega (arith, k .more), k .long ∙ l .loop .inv .3, present-next _ _ _ _ _ _ _ (l .loop .inv .4) k)
 
 same-length : tie.Need-same-length Inv-loop μ-loop
 same-length c = search needs
@@ -41,7 +41,7 @@ same-length c = search needs
 returns : tie.Need-returns Inv-loop μ-loop
 returns c =
     let l = c .before .loop in
-    present-all _ _ (l .x) _ _ (l .inv .0) (c .loop-test .left) (l .inv .1) (l .inv .2) (l .inv .3)
+    present-all _ _ _ (l .x) _ _ (c .before .before .before .before .pre .1) (l .inv .0) (c .loop-test .left) (l .inv .2) (l .inv .3) (l .inv .4)
 
 pub list-variables-spec : {M : Type 1} → statement M
 list-variables-spec =
