@@ -16,6 +16,9 @@ use table::layout;
 use table::limits::MAX_TERMS;
 use unify::alone::may_unify;
 
+// Fewer terms than these have too few pairs to be tried by themselves.
+const FEW_TERMS: usize = 4;
+
 // Whether left term q may be paired with one of the right terms whose marks are not 0.
 fn has_partner(may: &[u8], q: usize, marks: &[u32]) -> bool
     requires { ⌜ (length (now may) ≡ maxTerms * maxTerms) × (q < maxTerms) × (length (now marks) ≤ maxTerms) ⌝ }
@@ -175,7 +178,7 @@ fn mark_pairs(
 }
 
 // Marks the pairs of terms that have no common value with 0, given classes in which nodes of one term are together. One left term has
-// nothing to look ahead for.
+// nothing to look ahead for, and a few pairs are sooner tried by the walk.
 pub fn find_partners(
     nodes: &[u32],
     arguments: &[u32],
@@ -192,7 +195,7 @@ pub fn find_partners(
     ensures { λ r. ⌜ PairsKnown (now (nodes .entry)) (now (arguments .entry)) (now (left .entry)) (now (right .entry)) (now (known .exit)) ⌝ }
     ensures { λ r. ⌜ KeepsCounts (now (nodes .entry)) (now (known .entry)) (now (known .exit)) ⌝ }
 {
-    if left.len() < 2 {
+    if (left.len() < 2) | (left.len() + right.len() < FEW_TERMS) {
         return;
     }
     mark_pairs(nodes, arguments, left, right, labels, of, next, known);

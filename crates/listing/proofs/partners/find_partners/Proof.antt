@@ -1,8 +1,14 @@
 -- `listing::partners::find_partners` meets its contract: it calls what marks all pairs, or leaves the marks as they are.
 -- Assumes nothing.
+use native.Mathlib.Omega.{arith}
 use borrow.Author.Needs.{needs}
 use Rattle.listing.proofs.partners.find_partners.Statement.{statement}
 use Rattle.listing.proofs.partners.find_partners.Tie as tie
+
+add-if1 : tie.Need-add-if1
+add-if1 c =
+    let l = c .before .before .before .before .before .before .before .pre .0 in
+    omega (arith, l .left-few, l .right-few)
 
 returns : tie.Need-returns
 returns c = search needs
@@ -17,4 +23,4 @@ returns-2 : tie.Need-returns-2
 returns-2 c = search needs
 
 pub find-partners-spec : {M : Type 1} → statement M
-find-partners-spec = tie.close (tie.spec returns mark-pairs-requires same-length returns-2)
+find-partners-spec = tie.close (tie.spec add-if1 returns mark-pairs-requires same-length returns-2)
