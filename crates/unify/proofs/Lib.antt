@@ -24,8 +24,8 @@ pub mod PreparedLaws
 pub mod FindLaws
 pub mod NamingLaws
 pub mod NamedLaws
-pub mod PrefixLaws
 pub mod NotingLaws
 pub mod SharedLaws
 pub mod BindingLaws
+pub mod PrefixLaws
 pub mod CallingLaws
