@@ -99,6 +99,11 @@ def growth():
         yield f"nodes-closed-twice-{4 * size + 5:02}", "imp(x,y), x | G = " + ", ".join(
             [f"imp({closed(size, k)},{closed(size, k)})" for k in range(3)] + [closed(size, k) for k in range(3)]
         )
+    for size in (1, 4, 8, 16, 28):
+        yield f"nodes-hopeless-{7 * size + 8:03}", (
+            many("x#", 6) + ", f(" + many("x#", 6) + ") = "
+            + ", ".join(closed(size, number) for number in range(6)) + ", f(" + many("d", 6) + ")"
+        )
     for count in (4, 8, 16, 32, 63):
         yield f"variables-chain-{count:02}", numbered("x#", count) + " = " + nest([f"x{k + 1}" for k in range(count)])
     for count in range(2, 8):
