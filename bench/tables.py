@@ -104,18 +104,31 @@ def growth():
             many("x#", 6) + ", f(" + many("x#", 6) + ") = "
             + ", ".join(closed(size, number) for number in range(6)) + ", f(" + many("d", 6) + ")"
         )
+    for size in (1, 4, 8, 16, 28):
+        yield f"nodes-hopeless-open-{7 * size + 8:03}", (
+            many("x#", 6) + ", f(" + many("x#", 6) + ") = "
+            + ", ".join(closed(size, number).replace(f"c{number}", f"y{number}") for number in range(6)) + ", f(" + many("d", 6) + ")"
+        )
     for count in (4, 8, 16, 32, 63):
         yield f"variables-chain-{count:02}", numbered("x#", count) + " = " + nest([f"x{k + 1}" for k in range(count)])
     for count in range(2, 8):
         yield f"terms-{count}", many("f(x#)", count) + " = " + many("f(c#)", count)
     for count in range(2, 8):
         yield f"terms-repeated-{count}", ", ".join(["a"] * count) + " = " + ", ".join(["a"] * count)
+    for count in range(1, 5):
+        yield f"terms-labels-{count}", many("f(x#)", count) + " | M, N = " + many("f(y#)", count) + " | P, Q"
     for count in range(2, 7):
         yield f"terms-hopeless-{count}", (
             many("x#", count) + ", f(" + many("x#", count) + ") = " + many("c#", count) + ", f(" + many("d", count) + ")"
         )
     for count in (1, 2, 4, 8):
         yield f"variables-{8 * count:02}", tuples("f", "x#", count, 8) + " = " + tuples("f", "c#", count, 8)
+
+
+    for count in (1, 2, 4, 8):
+        yield f"variables-entries-{8 * count:02}", (
+            "t(" + tuples("f", "x#", count, 8) + "), " + many("c#", 4, 64) + " = t(" + tuples("f", "c#", count, 8) + ") | P, Q, R, S"
+        )
 
 
 def main(words):

@@ -30,7 +30,7 @@ use Rattle.unification.proofs.AnswerLaws.{words-counted}
 use Rattle.unify.specs.declared.Variables.{Variables}
 use Rattle.unify.specs.Code.Present.{leastNodes}
 use Rattle.unify.specs.Code.Open.{Counts}
-use Rattle.unify.specs.Code.Circle.{Circles}
+use Rattle.unify.specs.Code.Trail.{Trailed}
 use Rattle.unify.specs.Code.Prepared.{Prepared}
 use Rattle.unify.specs.Code.Stands.{Formed, StandsAlways, Lists, BeginsShared}
 use Rattle.multiset_unification.specs.declared.Listing.{Listing}
@@ -193,17 +193,17 @@ module _ {words args left right : List ℕ} {labels : Labels} (g : Listable word
   begun-few e = omega (arith, e, g .sections .limit)
 
   -- pairs can be tried by themselves
-  pub begun-trying : {next : List ℕ} → length cs ≡ nodeCount words → Circles (length cs) cs next → Trying words args cs next
+  pub begun-trying : {next : List ℕ} → length cs ≡ nodeCount words → Trailed (length cs) cs next → Trying words args cs next
   begun-trying e o =
       record {
         sections = g .sections;
         formed = s .formed;
-        circles = rw e at o;
+        trailed = rw e at o;
         stands = begun-always;
       }
 
   -- what is known of the classes
-  pub begun-classes : {known next : List ℕ} → length cs ≡ nodeCount words → KnownOf words args known → Circles (length cs) cs next → Formed words args known cs × StandsAlways words args cs × Circles (nodeCount words) cs next
+  pub begun-classes : {known next : List ℕ} → length cs ≡ nodeCount words → KnownOf words args known → Trailed (length cs) cs next → Formed words args known cs × StandsAlways words args cs × Trailed (nodeCount words) cs next
   begun-classes {known} e k o = (s .formed known (k .counts), begun-always, rw e at o)
 
 -- the branch without digits
@@ -228,7 +228,7 @@ module _ {words args left right : List ℕ} {labels : Labels} (g : Listable word
         ∙ take-replicate (length right) (length right + c) 1 (omega arith)
 
     -- what the walk needs to know of it
-    pub first-walking : {known prepared cs next : List ℕ} → KnownOf words args known → MayPair words args left right (mayIn known) → Formed words args known cs → StandsAlways words args cs → Circles (nodeCount words) cs next → Prepared words args known cs prepared → (lent : List ℕ) → Walking words args left right labels known prepared cs next 0 1 (length right) 0 first-entry (replicate 128 0) lent 0
+    pub first-walking : {known prepared cs next : List ℕ} → KnownOf words args known → MayPair words args left right (mayIn known) → Formed words args known cs → StandsAlways words args cs → Trailed (nodeCount words) cs next → Prepared words args known cs prepared → (lent : List ℕ) → Walking words args left right labels known prepared cs next 0 1 (length right) 0 first-entry (replicate 128 0) lent 0
     unfolding keyOf
     first-walking k m f s o y lent =
         record {
@@ -236,7 +236,7 @@ module _ {words args left right : List ℕ} {labels : Labels} (g : Listable word
           known-right = k;
           partners = m;
           formed = f;
-          circles = o;
+          trailed = o;
           ready = y;
           standing = record { pairs = s .pairs; stands = s .stands; unifiers = λ σ. rw (paired-none left right []) ((λ u a b n. absurd (List·Memᴰ·not-nil n)), (λ u. s .same σ)) };
           branching = record {

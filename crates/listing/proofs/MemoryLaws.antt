@@ -2,7 +2,7 @@
 -- By induction on the digits, and by cutting the lent words at the places. Assumes nothing.
 use Prim.Native.Nat.{ℕ, zero, suc, _+_, _-_, _*_, _^_, _<_, _≤_}
 use mathlib.Core.Bool.{Bool, true, false, cond}
-use mathlib.Core.List.{List, [], _∷_, _++_, flatten, append-assoc, append-nil, List·Memᴰ, List·Memᴰ·head, List·Memᴰ·tail, List·Memᴰ·not-nil}
+use mathlib.Core.List.{List, [], _∷_, _++_, flatten, append-assoc, append-nil, List·Memᴰ, List·Memᴰ·head, List·Memᴰ·not-nil}
 use mathlib.Core.Path.{_≡_, refl, sym, ap, _∙_}
 use native.Mathlib.Decide.{ℕ-discrete, decLt}
 use native.Mathlib.Nat.{mul-left-comm, pow-succ', pow-le-pow-right}
@@ -14,10 +14,10 @@ use lib.Dec.{leb}
 use lib.ListN.{length, take, drop, set, replicate, length-append, length-take, length-drop, length-set, length-replicate, getD-replicate, take-append-drop, drop-of-length-le, List·getD-append}
 use lib.Seq.{length-take-le, take-all, take-append-le, drop-append-le, drop-at, drop-drop, getD-append-add, getD-set-same, getD-set-other, getD-take}
 use Rattle.table.specs.Layout.{word, nodeCount}
-use Rattle.unification.specs.Node.{Node}
+use Rattle.unification.specs.Outcome.{unified}
 use Rattle.unification.specs.Code.Given.{Inside}
 use Rattle.unification.specs.Code.Sections.{Sections, nodesFrom}
-use Rattle.unification.specs.Computed.Unifying.{wordsOf}
+use Rattle.unification.specs.Computed.Unifying.{outcome, wordsOf}
 use Rattle.unification.specs.Computed.Variables.{variablesOf}
 use Rattle.unification.proofs.AnswerLaws.{words-counted}
 use Rattle.unification.proofs.ListLaws.{length-none}
@@ -33,6 +33,8 @@ use Rattle.listing.specs.Code.Writing.{put, Writes}
 use Rattle.listing.specs.Code.Branch.{pairedBy, pairsIn, Standing, widthOf}
 use Rattle.listing.specs.Code.Memory.{slots, slotOf, keyOf, Keyed, Pairable, Lies, Remembers, Bound, Notes}
 use Rattle.listing.proofs.WritingLaws.{put-none, writes-room}
+use Rattle.listing.proofs.BelowLaws.{same-unified}
+use Rattle.listing.proofs.BranchLaws.{paired-inside}
 
 -- What digit d counts in a key, where there are m right terms.
 abbrev digit : ℕ → ℕ → ℕ
@@ -215,6 +217,7 @@ lies-later {words} {args} {left} {right} {key} {place} {lent} {at} {es} {lent′
       positive = l .positive;
       keyed = l .keyed;
       room = omega (arith, l .room, r .used);
+      unifiable = l .unifiable;
       bound =
           ap (λ (xs : List ℕ). take v (drop (place + (length left + length right)) xs)) (r .words)
           ∙ part-put v (place + (length left + length right)) at (flatten (fitting (length lent - at) es)) lent (omega (arith, l .room)) h
@@ -241,7 +244,7 @@ first-fits room (e ∷ es) h = pick (leb (length e) room) h
     pick true q = (e, flatten (fitting (room - length e) es), List·Memᴰ·head refl, refl)
     pick false q = absurd (omega (arith, q))
 
-module _ {words args left right memory lent : List ℕ} {at : ℕ} {es : List (List ℕ)} {lent′ : List ℕ} {w : Written} {memory′ : List ℕ} (entry : List ℕ) (i key : ℕ) (g : Remembers words args left right memory lent at) (k : Keyed left right entry i key) (depth : i ≤ length left) (long : i ≤ length entry) (positive : (j : ℕ) → j < i → 0 < word entry j) (each : (e : List ℕ) → List·Memᴰ e es → (length e ≡ widthOf words args left right) × (drop (length left + length right) e ≡ wordsOf (nodesFrom words args) (pairsIn left right entry i))) (r : Writes es lent at lent′ w) (n : Notes memory key at (w .used) memory′) where
+module _ {words args left right memory lent : List ℕ} {at : ℕ} {es : List (List ℕ)} {lent′ : List ℕ} {w : Written} {memory′ : List ℕ} (entry : List ℕ) (i key : ℕ) (g : Remembers words args left right memory lent at) (k : Keyed left right entry i key) (depth : i ≤ length left) (long : i ≤ length entry) (positive : (j : ℕ) → j < i → 0 < word entry j) (unifiable : outcome (nodesFrom words args) (pairsIn left right entry i) ≡ unified) (each : (e : List ℕ) → List·Memᴰ e es → (length e ≡ widthOf words args left right) × (drop (length left + length right) e ≡ wordsOf (nodesFrom words args) (pairsIn left right entry i))) (r : Writes es lent at lent′ w) (n : Notes memory key at (w .used) memory′) where
   -- the first entry that was written lies where the lent words were used from
   lies-here : at < w .used → Lies words args left right (suc key) at lent′ (w .used)
   lies-here h =
@@ -261,6 +264,7 @@ module _ {words args left right memory lent : List ℕ} {at : ℕ} {es : List (L
         positive = positive-after ds (replicate c (m + 1)) (first-positive entry i positive) (labels-positive m c);
         keyed = ap suc (k ∙ sym (labels-after m ds c));
         room = omega (arith, r .used, ap length (f .3), x, e .0);
+        unifiable = ap (outcome (nodesFrom words args)) (labels-paired left right ds [] c) ∙ unifiable;
         bound =
             ap (λ (xs : List ℕ). take v (drop (at + (length left + m)) xs)) (r .words ∙ ap (λ (xs : List ℕ). put at xs lent) (f .3))
             ∙ put-part v (length left + m) at (f .0) (f .1) lent (sym (e .0)) (g .room)
@@ -304,19 +308,26 @@ module _ {words args left right memory lent : List ℕ} {at : ℕ} {es : List (L
       pick (yes h) = noted h
       pick (no h) = rw (n .none (omega (arith, h))) (remembers-later g r)
 
--- the pairs of digits are pairs of nodes
-paired-inside : (ns : List Node) (ls rs ds : List ℕ) (ps : List (ℕ × ℕ)) → ((j : ℕ) → j < length ls → word ls j < length ns) → ((j : ℕ) → j < length rs → word rs j < length ns) → Positive ds → Inside ns ps → Inside ns (pairedBy ls rs ds ps)
-unfolding pairedBy
-paired-inside ns [] rs ds ps l r p h = h
-paired-inside ns (a ∷ ls) rs [] ps l r p h = h
-paired-inside ns (a ∷ ls) rs (d ∷ ds) ps l r p h =
-    paired-inside ns ls rs ds (cond (leb d (length rs)) ((a, word rs (d - 1)) ∷ ps) ps) (λ j q. l (suc j) (omega arith)) r (λ j q. p (suc j) (omega arith)) (pick (leb d (length rs)) refl)
-  where
-    pick : (b : Bool) → leb d (length rs) ≡ b → Inside ns (cond b ((a, word rs (d - 1)) ∷ ps) ps)
-    pick true e x y (List·Memᴰ·head q) =
-        (rw (ap (λ (z : ℕ × ℕ). z .0) q) (l 0 (omega arith)), rw (ap (λ (z : ℕ × ℕ). z .1) q) (r (d - 1) (omega (arith, leb-true d (length rs) e, p 0 (omega arith)))))
-    pick true e x y (List·Memᴰ·tail m) = h x y m
-    pick false e x y m = h x y m
+-- the pairs of an entry are pairs of nodes
+pairable-inside : {words left right entry : List ℕ} {i : ℕ} (args : List ℕ) → Pairable words left right entry i → Inside (nodesFrom words args) (pairsIn left right entry i)
+pairable-inside {words} {left} {right} {entry} {i} args p =
+    paired-inside (nodesFrom words args) right (λ j h. is-node words args (word right j) (p .right-nodes j h)) left (λ j h. is-node words args (word left j) (p .left-nodes j h)) (take i entry) (first-positive entry i (p .positive)) [] (λ x y m. absurd (List·Memᴰ·not-nil m))
+
+-- they have a unifier where classes stand for them
+pub standing-unified : {words args left right entry counts cs : List ℕ} {i : ℕ} → Sections words args → Counts words args counts (nodeCount words) → Formed words args counts cs → Standing words args left right cs entry i → Pairable words left right entry i → outcome (nodesFrom words args) (pairsIn left right entry i) ≡ unified
+standing-unified {words} {args} {left} {right} {entry} {counts} {cs} {i} s c f g p =
+    same-unified (nodesFrom words args) (sections-well-formed words args s) (g .pairs) (pairsIn left right entry i) (g .stands .inside) (pairable-inside args p) (g .unifiers) .0 (formed-unified words args counts cs s f c (g .pairs) (g .stands))
+
+-- an entry that lies there for the key of other digits has their pairs
+lies-paired : {words args left right : List ℕ} {kept place : ℕ} {lent : List ℕ} {at : ℕ} (l : Lies words args left right kept place lent at) {entry : List ℕ} {i key : ℕ} → Pairable words left right entry i → Keyed left right entry i key → length right ≤ 8 → kept ≡ key + 1 → pairedBy left right (l .digits) [] ≡ pairsIn left right entry i
+lies-paired {left = left} {right = right} l {entry} {i} p k m e =
+    paired-same left right (l .digits) (take i entry) [] m (l .positive) (first-positive entry i (p .positive)) (omega (arith, k, e, l .keyed))
+
+-- so pairs have a unifier for whose key words are kept
+pub kept-unified : {words args left right entry memory lent : List ℕ} {i at key : ℕ} → Pairable words left right entry i → Keyed left right entry i key → Remembers words args left right memory lent at → length right ≤ 8 → word memory (slotOf key) ≡ key + 1 → outcome (nodesFrom words args) (pairsIn left right entry i) ≡ unified
+kept-unified {words} {args} {key = key} p k g m e =
+    let l = g .lies (slotOf key) (omega arith) (λ z. omega (arith, e, z)) in
+    ap (outcome (nodesFrom words args)) (sym (lies-paired l p k m e)) ∙ l .unifiable
 
 -- an entry that is remembered lies in the lent words
 pub lies-within : {words args left right memory lent : List ℕ} {at : ℕ} → Remembers words args left right memory lent at → (s key : ℕ) → s < slots → word memory s ≡ key + 1 → word memory (slots + s) + widthOf words args left right ≤ length lent
@@ -349,7 +360,7 @@ module _ {words args left right entry : List ℕ} {i : ℕ} (long : length entry
       let c : to - from ≡ length (variablesOf (nodesFrom words args)) = omega (arith, b) in
       let d : take (to - from) (drop from lent) ≡ take (length (variablesOf (nodesFrom words args))) (drop (word memory (slots + s) + (length left + length right)) lent) = ap (λ (j : ℕ). take j (drop from lent)) c ∙ ap (λ (j : ℕ). take (length (variablesOf (nodesFrom words args))) (drop j lent)) a in
       put-bound (take (to - from) (drop from lent))
-      (d ∙ l .bound ∙ ap (wordsOf (nodesFrom words args)) (paired-same left right (l .digits) (take i entry) [] m (l .positive) (first-positive entry i (p .positive)) (omega (arith, k, e, l .keyed))))
+      (d ∙ l .bound ∙ ap (wordsOf (nodesFrom words args)) (lies-paired l p k m e))
       q
 
   -- words of the classes are those of the pairs
@@ -359,9 +370,8 @@ module _ {words args left right entry : List ℕ} {i : ℕ} (long : length entry
       let n = length left + length right in
       let o = formed-unified words args counts cs s f c (g .pairs) (g .stands) in
       let inside = g .stands .inside in
-      let others : Inside ns (pairsIn left right entry i) = paired-inside ns left right (take i entry) [] (λ j q. is-node words args (word left j) (p .left-nodes j q)) (λ j q. is-node words args (word right j) (p .right-nodes j q)) (first-positive entry i (p .positive)) (λ x y m. absurd (List·Memᴰ·not-nil m)) in
       let w = sections-well-formed words args s in
-      let e = same-unifiers ns w (g .pairs) (pairsIn left right entry i) inside others (g .unifiers) (outcome-unified ns w (g .pairs) inside .0 o) in
+      let e = same-unifiers ns w (g .pairs) (pairsIn left right entry i) inside (pairable-inside args p) (g .unifiers) (outcome-unified ns w (g .pairs) inside .0 o) in
       let x = mid-len n (length entry) entry (omega (arith, long)) in
       let y = drop-of-length-le (midOf n (length entry - n) entry) {i = length (variablesOf ns)} (omega (arith, x, long)) in
       let z = post-is n (length entry) entry (omega (arith, long)) ∙ drop-of-length-le entry {i = length entry} (omega arith) in

@@ -238,7 +238,7 @@ triable {counts = counts} t c =
       sections = t .sections;
       counts-right = c;
       formed = t .formed counts c;
-      circles = t .circles;
+      trailed = t .trailed;
       stands = t .stands;
     }
 

@@ -8,25 +8,26 @@ use mathlib.Core.Path.{_≡_, refl, sym, ap, _∙_}
 use native.Mathlib.Omega.{arith}
 use borrow.Author.Tests.{eqb-true}
 use lib.Dec.{eqb}
-use lib.ListN.{length, take, drop, length-append, length-drop}
-use lib.Seq.{length-take-le, take-take, take-at, drop-at, take-append-le, take-add, drop-length}
+use lib.ListN.{length, take, drop, length-append, length-drop, take-append-drop}
+use lib.Seq.{length-take-le, take-take, take-at, drop-at, drop-drop, take-add, drop-length}
 use Rattle.table.specs.Layout.{word}
 use Rattle.unification.specs.Node.{Node}
-use Rattle.unification.specs.Computed.Unifying.{wordsOf}
+use Rattle.unification.specs.Outcome.{unified}
+use Rattle.unification.specs.Computed.Unifying.{outcome, wordsOf}
 use Rattle.unification.specs.Code.Sections.{nodesFrom}
 use Rattle.unification.proofs.AnswerLaws.{words-counted}
 use Rattle.multiset_unification.specs.Computed.Choices.{branch}
 use Rattle.listing.specs.declared.Labels.{Labels}
 use Rattle.listing.specs.declared.Written.{Written}
 use Rattle.listing.specs.Code.Writing.{marked, rightEntries, labelStrings, labelEntries, Writes, Restored, Relabelled}
-use Rattle.listing.specs.Code.Branch.{pairsIn, marksIn}
+use Rattle.listing.specs.Code.Branch.{Listable, pairedBy, pairsIn, marksIn}
 use Rattle.listing.specs.Code.Memory.{Bound, Notes, Pairable, Remembers}
-use Rattle.listing.specs.Code.Walk.{over, onDigit, below, unpairedIn, Walking, branchEntries, Walked}
+use Rattle.listing.specs.Code.Walk.{over, onDigit, below, unpairedIn, Branching, Ending, branchEntries, KeepsBranch, Walked}
 use Rattle.listing.proofs.RightLaws.{right-words}
 use Rattle.listing.proofs.LabelLaws.{label-words}
 use Rattle.listing.proofs.MemoryLaws.{key-fits, remembers-noted}
 use Rattle.listing.proofs.BelowLaws.{flat-one, flat-branch, over-same}
-use Rattle.listing.proofs.BranchLaws.{digit-label, digit-taken, branch-room, marks-long}
+use Rattle.listing.proofs.BranchLaws.{digit-label, digit-taken, keeps-again, branch-room, branching-kept}
 
 -- where every right term is paired, every mark is 0
 noughts : (marks : List ℕ) → unpairedIn marks ≡ 0 → (j : ℕ) → word marks j ≡ 0
@@ -85,108 +86,136 @@ below-labels ns rs k l (a ∷ ls) ds ps marks h =
     (λ d q. digit-label ns rs (below ns rs k l ls) ds ps marks a d (omega (arith, q)) ∙ below-labels ns rs k l ls (ds ++ d ∷ []) ps marks h ∙ simp append-assoc)
     ∙ sym (map-branch (λ es. ds ++ es ++ (marks ++ wordsOf ns ps)) (suc (length rs)) l (λ d. labelStrings (length rs) l (length ls)))
 
+-- the marks are the last of the words before the binding words
+marks-last : (left right entry : List ℕ) → length left ≤ length entry → drop (length left) (take (length left + length right) entry) ≡ marksIn left right entry
+marks-last left right entry h =
+    ap (drop (length left)) (take-add (length left) (length right) entry) ∙ drop-at (take (length left) entry) _ _ (length-take-le (length left) entry h)
+
 -- one of two, where it is not the first
 pub other : {a b c : ℕ} → (a ≡ b) ⊎ (c ≡ 0) → (a ≡ b → ⊥) → c ≡ 0
 other (inl e) n = absurd (n e)
 other (inr e) n = e
 
-module _ {words args left right : List ℕ} {labels : Labels} {known prepared cs next : List ℕ} {key weight unpaired i : ℕ} {entry memory lent : List ℕ} {at : ℕ} (g : Walking words args left right labels known prepared cs next key weight unpaired i entry memory lent at) where
+-- a branch that stands in an entry
+module _ {words args left right entry : List ℕ} {labels : Labels} {key weight unpaired i : ℕ} (l : Listable words args left right labels) (g : Branching words args left right entry key weight unpaired i) where
   -- its digits pair nodes
   pub branch-pairable : Pairable words left right entry i
   branch-pairable =
       record {
-        depth = g .branching .depth;
-        positive = g .branching .positive;
-        left-nodes = g .listable .left-nodes;
-        right-nodes = g .listable .right-nodes;
+        depth = g .depth;
+        positive = g .positive;
+        left-nodes = l .left-nodes;
+        right-nodes = l .right-nodes;
       }
 
   -- its key is in range
   pub key-room : key + 1 < 2 ^ 64
-  key-room = rw (g .branching .keyed) (key-fits (length right) i entry (g .listable .right-few) (omega (arith, g .branching .depth, g .listable .left-few)))
+  key-room = rw (g .keyed) (key-fits (length right) i entry (l .right-few) (omega (arith, g .depth, l .left-few)))
 
   -- the binding words are put behind its digits
   module _ {entry₁ : List ℕ} (b : Bound words args left right entry i entry₁) where
-    -- there is room for the digits and the marks
-    room : length left + length right ≤ length entry
-    room = branch-room (g .branching)
-
     -- as many words come before them
     digits-long : length (take (length left + length right) entry) ≡ length left + length right
-    digits-long = length-take-le (length left + length right) entry room
+    digits-long = length-take-le (length left + length right) entry (branch-room g)
 
     -- the entry is as long as before
-    pub bound-long : length entry₁ ≡ length entry
+    bound-long : length entry₁ ≡ length entry
     bound-long =
         let x = length-append (take (length left + length right) entry) (wordsOf (nodesFrom words args) (pairsIn left right entry i)) in
         let y = words-counted (nodesFrom words args) (pairsIn left right entry i) in
-        ap length (b .words-put) ∙ omega (arith, x, y, digits-long, g .branching .size)
+        ap length (b .words-put) ∙ omega (arith, x, y, digits-long, g .size)
 
-    -- they stand behind the digits and the marks
-    bound-behind : drop (length left + length right) entry₁ ≡ wordsOf (nodesFrom words args) (pairsIn left right entry i)
+    -- the digits and the marks stay
+    bound-first : take (length left + length right) entry₁ ≡ take (length left + length right) entry
+    bound-first = ap (take (length left + length right)) (b .words-put) ∙ take-at (take (length left + length right) entry) _ _ digits-long
+
+    -- so the branch does
+    bound-keeps : KeepsBranch left right i entry entry₁
+    bound-keeps =
+        let n = length left + length right in
+        let d : i ≤ n = omega (arith, g .depth) in
+        let r = branch-room g in
+        record {
+          digits = sym (take-take i n entry₁ d) ∙ ap (take i) bound-first ∙ take-take i n entry d;
+          marks = sym (marks-last left right entry₁ (omega (arith, r, bound-long))) ∙ ap (drop (length left)) bound-first ∙ marks-last left right entry (omega (arith, r));
+        }
+
+    -- they stand behind
+    bound-behind : drop (length left + length right) entry₁ ≡ wordsOf (nodesFrom words args) (pairsIn left right entry₁ i)
     bound-behind =
-        ap (drop (length left + length right)) (b .words-put) ∙ drop-at (take (length left + length right) entry) _ _ digits-long
+        ap (drop (length left + length right)) (b .words-put)
+        ∙ drop-at (take (length left + length right) entry) _ _ digits-long
+        ∙ ap (λ (ds : List ℕ). wordsOf (nodesFrom words args) (pairedBy left right ds [])) (sym (bound-keeps .digits))
 
-    -- the digits stay
-    bound-digits : (j : ℕ) → j ≤ length left → take j entry₁ ≡ take j entry
-    bound-digits j h =
-        ap (take j) (b .words-put)
-        ∙ take-append-le j (take (length left + length right) entry) _ (omega (arith, digits-long, h))
-        ∙ take-take j (length left + length right) entry (omega (arith, h))
+    -- so the entries can be written
+    pub bound-ending : {memory lent : List ℕ} {at : ℕ} → outcome (nodesFrom words args) (pairsIn left right entry i) ≡ unified → Remembers words args left right memory lent at → Ending words args left right labels key weight unpaired i entry₁ memory lent at
+    bound-ending u r =
+        record {
+          listable = l;
+          branching = branching-kept g bound-long bound-keeps;
+          unifiable = ap (λ (ds : List ℕ). outcome (nodesFrom words args) (pairedBy left right ds [])) (bound-keeps .digits) ∙ u;
+          bound = bound-behind;
+          remembers = r;
+          room = r .room;
+        }
 
-    -- the marks stand before them
-    bound-tail : drop (length left) entry₁ ≡ marksIn left right entry ++ wordsOf (nodesFrom words args) (pairsIn left right entry i)
-    bound-tail =
-        let l : length (take (length left) entry) ≡ length left = length-take-le (length left) entry (omega (arith, room)) in
-        ap (drop (length left)) (b .words-put)
-        ∙ ap (λ (es : List ℕ). drop (length left) (es ++ wordsOf (nodesFrom words args) (pairsIn left right entry i))) (take-add (length left) (length right) entry)
-        ∙ ap (drop (length left)) (append-assoc (take (length left) entry) (marksIn left right entry) (wordsOf (nodesFrom words args) (pairsIn left right entry i)))
-        ∙ drop-at (take (length left) entry) _ _ l
+    -- and they are those of the branch
+    pub bound-walked : {memory lent : List ℕ} {at : ℕ} {entry₂ memory′ lent′ : List ℕ} {w : Written} → Walked words args left right labels i entry₁ memory lent at entry₂ memory′ lent′ w → Walked words args left right labels i entry memory lent at entry₂ memory′ lent′ w
+    bound-walked y =
+        record {
+          writes = rw (bound-keeps .digits, bound-keeps .marks) at (y .writes);
+          size = y .size ∙ bound-long;
+          keeps = λ z. keeps-again bound-keeps (y .keeps z);
+          remembers = y .remembers;
+        }
 
-    -- and stay too
-    bound-marks : marksIn left right entry₁ ≡ marksIn left right entry
-    bound-marks = ap (take (length right)) bound-tail ∙ take-at (marksIn left right entry) _ _ (marks-long (g .branching))
+-- a branch whose binding words stand behind its digits
+module _ {words args left right : List ℕ} {labels : Labels} {key weight unpaired i : ℕ} {entry memory lent : List ℕ} {at : ℕ} (g : Ending words args left right labels key weight unpaired i entry memory lent at) where
+  -- the marks stand before the binding words
+  marks-before : drop (length left) entry ≡ marksIn left right entry ++ wordsOf (nodesFrom words args) (pairsIn left right entry i)
+  marks-before =
+      sym (take-append-drop (length right) (drop (length left) entry)) ∙ ap (λ (ws : List ℕ). marksIn left right entry ++ ws) (drop-drop (length right) (length left) entry ∙ g .bound)
 
-    -- its right digits give the entries of a whole string of left digits
-    string-entries : i ≡ length left → rightEntries (labels .left) entry₁ (length left) (length left + length right) ≡ branchEntries words args left right labels entry i
-    unfolding rightEntries below
-    string-entries q =
-        let t : take (length left) entry₁ ≡ take i entry = bound-digits (length left) (omega arith) ∙ ap (λ (j : ℕ). take j entry) (sym q) in
-        let z : drop i left ≡ [] = ap (λ (j : ℕ). drop j left) q ∙ drop-length left in
-        let m : length left + length right - length left ≡ length right = omega arith in
-        rw (m, t, bound-behind, bound-marks, z) refl
+  -- its right digits give the entries of a whole string of left digits
+  string-entries : i ≡ length left → rightEntries (labels .left) entry (length left) (length left + length right) ≡ branchEntries words args left right labels entry i
+  unfolding rightEntries below
+  string-entries q =
+      let m : length left + length right - length left ≡ length right = omega arith in
+      let z : drop i left ≡ [] = ap (λ (j : ℕ). drop j left) q ∙ drop-length left in
+      let t : take (length left) entry ≡ take i entry = ap (λ (j : ℕ). take j entry) (sym q) in
+      rw (m, t, g .bound, z) refl
 
-    -- its strings of labels those of a branch in which every right term is paired
-    label-entries : unpaired ≡ 0 → labelEntries (length right) (labels .right) entry₁ i (length left) ≡ branchEntries words args left right labels entry i
-    unfolding labelEntries
-    label-entries q =
-        let x = below-labels (nodesFrom words args) right (labels .left) (labels .right) (drop i left) (take i entry) (pairsIn left right entry i) (marksIn left right entry) (sym (g .branching .counted) ∙ q) in
-        rw (x, length-drop i left, bound-digits i (g .branching .depth), bound-tail) refl
+  -- its strings of labels those of a branch in which every right term is paired
+  label-entries : unpaired ≡ 0 → labelEntries (length right) (labels .right) entry i (length left) ≡ branchEntries words args left right labels entry i
+  unfolding labelEntries
+  label-entries q =
+      let x = below-labels (nodesFrom words args) right (labels .left) (labels .right) (drop i left) (take i entry) (pairsIn left right entry i) (marksIn left right entry) (sym (g .branching .counted) ∙ q) in
+      rw (x, length-drop i left) (ap (λ (r : List ℕ). map (λ es. take i entry ++ es ++ r) (labelStrings (length right) (labels .right) (length left - i))) marks-before)
 
-    module _ {lent′ : List ℕ} {w : Written} {memory′ : List ℕ} (n : Notes memory key at (w .used) memory′) where
-      -- entries with these binding words are remembered
-      noted : {es : List (List ℕ)} → ((e : List ℕ) → List·Memᴰ e es → (length e ≡ length entry₁) × (drop (length left + length right) e ≡ drop (length left + length right) entry₁)) → Writes es lent at lent′ w → Remembers words args left right memory′ lent′ (w .used)
-      noted f x =
-          let d = g .branching .depth in
-          remembers-noted entry i key (g .remembers) (g .branching .keyed) d (omega (arith, room, d)) (g .branching .positive)
-          (λ e m. (f e m .0 ∙ bound-long ∙ g .branching .size, f e m .1 ∙ bound-behind)) x n
+  module _ {lent′ : List ℕ} {w : Written} {memory′ : List ℕ} (n : Notes memory key at (w .used) memory′) where
+    -- entries with these binding words are remembered
+    noted : {es : List (List ℕ)} → ((e : List ℕ) → List·Memᴰ e es → (length e ≡ length entry) × (drop (length left + length right) e ≡ drop (length left + length right) entry)) → Writes es lent at lent′ w → Remembers words args left right memory′ lent′ (w .used)
+    noted f x =
+        let d = g .branching .depth in
+        remembers-noted entry i key (g .remembers) (g .branching .keyed) d (omega (arith, branch-room (g .branching), d)) (g .branching .positive) (g .unifiable)
+        (λ e m. (f e m .0 ∙ g .branching .size, f e m .1 ∙ g .bound)) x n
 
-      -- every left term has its digit
-      pub string-walked : {entry₂ : List ℕ} → i ≡ length left → Writes (rightEntries (labels .left) entry₁ (length left) (length left + length right)) lent at lent′ w → Restored entry₁ w entry₂ → Walked words args left right labels i entry memory lent at entry₂ memory′ lent′ w
-      string-walked q x r =
-          record {
-            writes = rw (string-entries q) at x;
-            size = r .size ∙ bound-long;
-            keeps = λ z. record { digits = ap (take i) (r .same z) ∙ bound-digits i (g .branching .depth); marks = ap (marksIn left right) (r .same z) ∙ bound-marks };
-            remembers = λ z. noted (right-words (labels .left) entry₁ (length left) (length right) (omega (arith, bound-long, room))) x;
-          }
+    -- every left term has its digit
+    pub string-walked : {entry′ : List ℕ} → i ≡ length left → Writes (rightEntries (labels .left) entry (length left) (length left + length right)) lent at lent′ w → Restored entry w entry′ → Walked words args left right labels i entry memory lent at entry′ memory′ lent′ w
+    string-walked q x r =
+        record {
+          writes = rw (string-entries q) at x;
+          size = r .size;
+          keeps = λ z. record { digits = ap (take i) (r .same z); marks = ap (marksIn left right) (r .same z) };
+          remembers = λ z. noted (right-words (labels .left) entry (length left) (length right) (branch-room (g .branching))) x;
+        }
 
-      -- every right term is paired
-      pub label-walked : {entry₂ : List ℕ} → unpaired ≡ 0 → Writes (labelEntries (length right) (labels .right) entry₁ i (length left)) lent at lent′ w → Relabelled entry₁ i (length left) entry₂ → Walked words args left right labels i entry memory lent at entry₂ memory′ lent′ w
-      label-walked q x r =
-          record {
-            writes = rw (label-entries q) at x;
-            size = r .size ∙ bound-long;
-            keeps = λ z. record { digits = r .first ∙ bound-digits i (g .branching .depth); marks = ap (take (length right)) (r .last) ∙ bound-marks };
-            remembers = λ z. noted (label-words (length right) (labels .right) entry₁ i (length left) (g .branching .depth) (omega (arith, bound-long, room)) (length right)) x;
-          }
+    -- every right term is paired
+    pub label-walked : {entry′ : List ℕ} → unpaired ≡ 0 → Writes (labelEntries (length right) (labels .right) entry i (length left)) lent at lent′ w → Relabelled entry i (length left) entry′ → Walked words args left right labels i entry memory lent at entry′ memory′ lent′ w
+    label-walked q x r =
+        record {
+          writes = rw (label-entries q) at x;
+          size = r .size;
+          keeps = λ z. record { digits = r .first; marks = ap (take (length right)) (r .last) };
+          remembers = λ z. noted (label-words (length right) (labels .right) entry i (length left) (g .branching .depth) (omega (arith, branch-room (g .branching))) (length right)) x;
+        }

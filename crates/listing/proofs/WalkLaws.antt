@@ -1,44 +1,45 @@
 -- One step of the walk: what a branch writes, by its digits, and what holds of the branch after one digit more.
 -- The definition mirrors the code, so that each way through the code is one equation of it. Assumes nothing.
 use Prim.Native.Nat.{ℕ, suc, _+_, _-_, _*_, _^_, _≤_, _<_}
-use mathlib.Core.Bool.{Bool, true, false, _||_, false≢true}
+use mathlib.Core.Bool.{Bool, true, false, _&&_, _||_, false≢true}
 use mathlib.Core.List.{List, [], _∷_, _++_, List·Memᴰ·not-nil}
-use mathlib.Core.Logic.{_⊎_, inl, inr, _↔_}
+use mathlib.Core.Logic.{_⊎_, ⊎-elim, inl, inr, _↔_}
 use mathlib.Core.Path.{_≡_, refl, sym, ap, _∙_}
 use native.Mathlib.Nat.{mul-le-mul-right, pow-suc, pow-le-pow-right}
 use native.Mathlib.Numerals.{add-one}
 use native.Mathlib.Omega.{arith}
 use borrow.Author.Tests.{eqb-true, eqb-false}
 use lib.Dec.{eqb}
-use lib.ListN.{length, take, drop, set, replicate, length-set, length-drop, length-append}
+use lib.ListN.{length, take, drop, set, length-set, length-drop}
 use lib.Seq.{length-take-le, drop-cons, take-take, take-at, set-set, set-getD}
-use Rattle.table.specs.Limits.{maxTerms, maxNodes}
+use Rattle.table.specs.Limits.{maxTerms}
 use Rattle.table.specs.Layout.{word, nodeCount}
+use Rattle.table.proofs.BoolLaws.{and-true-left, and-true-right}
 use Rattle.unification.specs.Node.{Node}
 use Rattle.unification.specs.Outcome.{unified}
 use Rattle.unification.specs.Computed.Classes.{classOf}
 use Rattle.unification.specs.Computed.Unifying.{outcome}
 use Rattle.unification.specs.Code.Given.{Inside}
 use Rattle.unification.specs.Code.Sections.{nodesFrom}
-use Rattle.unification.proofs.ListLaws.{part-long}
 use Rattle.unification.proofs.SectionLaws.{is-node, sections-well-formed}
 use Rattle.unify.specs.declared.Extended.{Extended}
 use Rattle.unify.specs.declared.Extended.the-variants.{Unified, Clash, Occurs}
-use Rattle.unify.specs.Code.Circle.{Circles}
 use Rattle.unify.specs.Code.Prepared.{Prepared}
 use Rattle.unify.specs.Code.Stands.{Formed, Stands, Extends, extended}
+use Rattle.unify.specs.Code.Trail.{links, gone, Trailed, Since, Before}
 use Rattle.listing.specs.declared.Labels.{Labels}
 use Rattle.listing.specs.declared.Written.{Written}
 use Rattle.listing.specs.Code.Writing.{Writes, Remains}
 use Rattle.listing.specs.Code.Branch.{Listable, pairedBy, pairsIn, marksIn}
-use Rattle.listing.specs.Code.Memory.{keyOf, Remembers}
+use Rattle.listing.specs.Code.Memory.{keyOf, slotOf, Remembers}
 use Rattle.listing.specs.Code.Partners.{stuck}
 use Rattle.listing.specs.Code.Known.{mayIn}
 use Rattle.listing.specs.Code.Walk.{over, ifUnified, onDigit, below, unpairedIn, hopeless, Branching, Walking, Joining, branchEntries, digitEntries, KeepsBranch, WritesBelow, Walked, WalkedJoined, Stepped, Turning}
 use Rattle.unify.proofs.AtOnceLaws.{together, formed-unified}
 use Rattle.unify.proofs.PreparedLaws.{prepared-kept}
+use Rattle.unify.proofs.TrailLaws.{merges-trailed, undoable, undone-same}
 use Rattle.listing.proofs.KnownLaws.{may-word}
-use Rattle.listing.proofs.MemoryLaws.{key-placed, key-paired, key-bound}
+use Rattle.listing.proofs.MemoryLaws.{key-placed, key-paired, key-bound, key-fits}
 use Rattle.listing.proofs.PartnerLaws.{below-stuck, may-none}
 use Rattle.listing.proofs.WritingLaws.{remains-whole, remains-next, remains-full, remains-done, writes-none}
 use Rattle.listing.proofs.HopelessLaws.{below-hopeless, unpaired-set}
@@ -80,6 +81,19 @@ nothing-below {es} {entry = entry} {lent = lent} {at = at} r h e =
       remembers = λ z. r;
     }
 
+-- what is written is the same under other names
+pub written-as : {es : List (List ℕ)} {words args left right : List ℕ} {i : ℕ} {entry memory lent : List ℕ} {at : ℕ} {entry₁ memory₁ lent₁ : List ℕ} {w₁ : Written} → WritesBelow es words args left right i entry memory lent at entry₁ memory₁ lent₁ w₁ → {entry₂ memory₂ lent₂ : List ℕ} {w₂ : Written} → entry₂ ≡ entry₁ → memory₂ ≡ memory₁ → lent₂ ≡ lent₁ → w₂ ≡ w₁ → WritesBelow es words args left right i entry memory lent at entry₂ memory₂ lent₂ w₂
+written-as y p q s e = rw (p, q, s, e) y
+
+-- one of two tests of numbers is met
+either : (i n j m : ℕ) → eqb i n || eqb j m ≡ true → (i ≡ n) ⊎ (j ≡ m)
+either i n j m h = pick (eqb i n) refl (eqb j m) refl h
+  where
+    pick : (x : Bool) → eqb i n ≡ x → (y : Bool) → eqb j m ≡ y → x || y ≡ true → (i ≡ n) ⊎ (j ≡ m)
+    pick true p y q e = inl (eqb-true i n p)
+    pick false p true q e = inr (eqb-true j m q)
+    pick false p false q e = absurd (false≢true e)
+
 -- the pairs of a branch are of nodes
 branch-inside : {words args left right : List ℕ} {labels : Labels} {entry : List ℕ} {key weight unpaired i : ℕ} → Listable words args left right labels → Branching words args left right entry key weight unpaired i → Inside (nodesFrom words args) (pairsIn left right entry i)
 branch-inside {words} {args} {left} {right} {labels} {entry} {i = i} l g =
@@ -116,7 +130,7 @@ module _ {words args left right : List ℕ} {labels : Labels} {known prepared cs
         known-right = g .known-right;
         partners = g .partners;
         formed = g .formed;
-        circles = g .circles;
+        trailed = g .trailed;
         ready = g .ready;
         standing = record { pairs = g .standing .pairs; stands = g .standing .stands; unifiers = λ σ. rw (k .digits) (g .standing .unifiers σ) };
         branching = branching-kept (g .branching) l k;
@@ -126,12 +140,7 @@ module _ {words args left right : List ℕ} {labels : Labels} {known prepared cs
 
   -- every left term has its digit, or every right term is paired
   pub ending : eqb i (length left) || eqb unpaired 0 ≡ true → (i ≡ length left) ⊎ (unpaired ≡ 0)
-  ending h = pick (eqb i (length left)) refl (eqb unpaired 0) refl h
-    where
-      pick : (x : Bool) → eqb i (length left) ≡ x → (y : Bool) → eqb unpaired 0 ≡ y → x || y ≡ true → (i ≡ length left) ⊎ (unpaired ≡ 0)
-      pick true p y q e = inl (eqb-true i (length left) p)
-      pick false p true q e = inr (eqb-true unpaired 0 q)
-      pick false p false q e = absurd (false≢true e)
+  ending h = either i (length left) unpaired 0 h
 
   -- or there is a next left term
   pub going-on : eqb i (length left) || eqb unpaired 0 ≡ false → i < length left
@@ -195,7 +204,7 @@ module _ {words args left right : List ℕ} {labels : Labels} {known prepared cs
             known-right = g .known-right;
             partners = g .partners;
             formed = g .formed;
-            circles = g .circles;
+            trailed = g .trailed;
             ready = g .ready;
             standing = record { pairs = g .standing .pairs; stands = g .standing .stands; unifiers = λ σ. rw pairs-placed (g .standing .unifiers σ) };
             branching = branching-next (g .branching) h p (length-set entry i d) digits-next (g .branching .keyed ∙ sym (key-placed (length right) (take i entry) d l)) (g .branching .counted ∙ ap unpairedIn (sym (set-marks left right entry i d h)));
@@ -296,7 +305,7 @@ module _ {words args left right : List ℕ} {labels : Labels} {known prepared cs
                 known-right = g .known-right;
                 partners = g .partners;
                 formed = g .formed;
-                circles = g .circles;
+                trailed = g .trailed;
                 ready = g .ready;
                 standing = record { pairs = g .standing .pairs; stands = g .standing .stands; unifiers = λ σ. rw pairs-before (g .standing .unifiers σ) };
                 branching = branching-next (g .branching) h p paired-long paired-digits keyed (omega (arith, unpaired-next));
@@ -353,9 +362,9 @@ module _ {words args left right : List ℕ} {labels : Labels} {i : ℕ} {entry�
   digit-kept : digitEntries words args left right labels entry i d ≡ digitEntries words args left right labels entry₀ i d
   digit-kept = rw (t .keeps .digits, t .keeps .marks) refl
 
-  -- what is known of the branch still stands
-  pub turning-walking : {known prepared cs next : List ℕ} {key weight unpaired : ℕ} {memory₀ : List ℕ} → Walking words args left right labels known prepared cs next key weight unpaired i entry₀ memory₀ lent₀ at₀ → Walking words args left right labels known prepared cs next key weight unpaired i entry memory lent at
-  turning-walking g = walking-kept g (t .size) (t .keeps) (t .remembers) (t .remains .within)
+  -- what is known of the branch still stands, where the classes are the same
+  pub turning-walking : {known prepared cs next cs′ next′ : List ℕ} {key weight unpaired : ℕ} {memory₀ : List ℕ} → cs′ ≡ cs → next′ ≡ next → Walking words args left right labels known prepared cs next key weight unpaired i entry₀ memory₀ lent₀ at₀ → Walking words args left right labels known prepared cs′ next′ key weight unpaired i entry memory lent at
+  turning-walking p q g = rw (p, q) (walking-kept g (t .size) (t .keeps) (t .remembers) (t .remains .within))
 
   module _ (h : d ≤ length right + labels .right) where
     next-remains : Remains (branchEntries words args left right labels entry₀ i) lent₀ at₀ (digitEntries words args left right labels entry₀ i d ++ over (d + 1) (suc (length right + labels .right) - (d + 1)) (λ e. digitEntries words args left right labels entry₀ i e)) lent at
@@ -397,10 +406,6 @@ module _ {words args left right : List ℕ} {labels : Labels} {i : ℕ} {entry�
         remembers = λ z. t .remembers;
       }
 
--- a part that was lent from a list's start lies within the list that it comes back to
-pub part-reach : (n : ℕ) (part rest : List ℕ) → length part ≡ n - 0 → n ≤ length (part ++ rest)
-part-reach n part rest e = omega (arith, e, length-append part rest)
-
 -- a pair is to be joined to the classes
 module _ {words args left right : List ℕ} {labels : Labels} {known prepared cs next : List ℕ} {key weight unpaired i a b : ℕ} {entry memory lent : List ℕ} {at : ℕ} (g : Joining words args left right labels known prepared cs next key weight unpaired i a b entry memory lent at) where
   -- it fails or not, whichever of the two lists it comes to
@@ -415,14 +420,14 @@ module _ {words args left right : List ℕ} {labels : Labels} {known prepared cs
   failed f = nothing-below (g .remembers) (g .room) (not-unified _ _ (λ z. f (joined-unified .1 z)))
 
   -- one that does not is walked on with
-  walking-on : {cs′ next′ : List ℕ} → Formed words args known cs′ → Circles (nodeCount words) cs′ next′ → Prepared words args known cs′ prepared → Stands words args cs′ ((a, b) ∷ g .standing .pairs) → Walking words args left right labels known prepared cs′ next′ key weight unpaired (i + 1) entry memory lent at
+  walking-on : {cs′ next′ : List ℕ} → Formed words args known cs′ → Trailed (nodeCount words) cs′ next′ → Prepared words args known cs′ prepared → Stands words args cs′ ((a, b) ∷ g .standing .pairs) → Walking words args left right labels known prepared cs′ next′ key weight unpaired (i + 1) entry memory lent at
   walking-on f o y s =
       record {
         listable = g .listable;
         known-right = g .known-right;
         partners = g .partners;
         formed = f;
-        circles = o;
+        trailed = o;
         ready = y;
         standing = record { pairs = (a, b) ∷ g .standing .pairs; stands = s; unifiers = λ σ. rw (g .pair) (same-more (nodesFrom words args) (a, b) (g .standing .pairs) (pairsIn left right entry i) (g .standing .unifiers) σ) };
         branching = g .branching;
@@ -435,6 +440,29 @@ module _ {words args left right : List ℕ} {labels : Labels} {known prepared cs
   unfolding ifUnified
   walked-on u r = rw (joined-unified .0 u) r
 
+  -- the key with its pair is in range
+  pub joined-key-room : key + 1 < 2 ^ 64
+  joined-key-room = rw (g .branching .keyed) (key-fits (length right) (i + 1) entry (g .listable .right-few) (omega (arith, g .branching .depth, g .listable .left-few)))
+
+  -- binding words are kept for the pairs, and nothing else is to be decided: x is whether they are kept
+  module _ {x : Bool} (y : x ≡ eqb (word memory (slotOf key)) (key + 1)) (e : (eqb unpaired 0 || eqb (i + 1) (length left)) && x ≡ true) where
+    -- every left term has its digit with the pair, or every right term is paired
+    pub kept-ending : (i + 1 ≡ length left) ⊎ (unpaired ≡ 0)
+    kept-ending = ⊎-elim inr inl (either unpaired 0 (i + 1) (length left) (and-true-left (eqb unpaired 0 || eqb (i + 1) (length left)) x e))
+
+    -- the key stands in its slot
+    pub kept-key : word memory (slotOf key) ≡ key + 1
+    kept-key = eqb-true (word memory (slotOf key)) (key + 1) (sym y ∙ and-true-right (eqb unpaired 0 || eqb (i + 1) (length left)) x e)
+
+  -- pairs for which they are kept have a unifier, so that the entries of the pair are those below it
+  pub kept-joined : outcome (nodesFrom words args) (pairsIn left right entry (i + 1)) ≡ unified → {entry′ memory′ lent′ : List ℕ} {w : Written} → Walked words args left right labels (i + 1) entry memory lent at entry′ memory′ lent′ w → WalkedJoined words args left right labels i a b entry memory lent at entry′ memory′ lent′ w
+  unfolding ifUnified
+  kept-joined u r = rw (sym (ap (outcome (nodesFrom words args)) (g .pair)) ∙ u) r
+
+  -- how many heads have gone can be read
+  pub mark-room : 256 < length next
+  mark-room = omega (arith, g .trailed .size)
+
   -- the two nodes have one head already
   module _ (e : classOf cs a ≡ classOf cs b) where
     -- the classes stand for the pair as well
@@ -443,30 +471,14 @@ module _ {words args left right : List ℕ} {labels : Labels} {known prepared cs
 
     -- so the walk goes on with them
     pub same-next : Walking words args left right labels known prepared cs next key weight unpaired (i + 1) entry memory lent at
-    same-next = walking-on (g .formed) (g .circles) (g .ready) at-once
+    same-next = walking-on (g .formed) (g .trailed) (g .ready) at-once
 
     -- and the pair has the entries below it
     pub same-joined : {entry′ memory′ lent′ : List ℕ} {w : Written} → Walked words args left right labels (i + 1) entry memory lent at entry′ memory′ lent′ w → WalkedJoined words args left right labels i a b entry memory lent at entry′ memory′ lent′ w
     same-joined r = walked-on (formed-unified words args known cs (g .listable .sections) (g .formed) (g .known-right .counts) ((a, b) ∷ g .standing .pairs) at-once) r
 
-  -- there are not too many classes
-  pub heads-few : length cs ≤ maxNodes
-  heads-few = omega (arith, g .formed .partition .size, g .listable .sections .limit)
-
-  -- they have room
-  pub heads-room : length cs ≡ length {A = ℕ} (take (length cs - 0) (replicate maxNodes 0))
-  heads-room = sym (part-long (replicate maxNodes 0) (length cs) heads-few)
-
-  -- and so have the circles
-  pub circles-room : length next ≡ length {A = ℕ} (take (length cs - 0) (replicate maxNodes 0))
-  circles-room = g .circles .size ∙ sym (g .formed .partition .size) ∙ heads-room
-
-  -- what has room comes back as long
-  pub heads-long : {n : ℕ} → n ≡ length {A = ℕ} (take (length cs - 0) (replicate maxNodes 0)) → n ≡ length cs - 0
-  heads-long e = omega (arith, e, heads-room)
-
   -- the classes are extended
-  module _ {r : Extended} {cs′ next′ : List ℕ} (x : Extends words args known cs a b r cs′ next′) where
+  module _ {r : Extended} {cs′ next′ : List ℕ} (x : Extends words args known cs next a b r cs′ next′) where
     -- the answer is what the pairs come to
     came-to : outcome (nodesFrom words args) ((a, b) ∷ g .standing .pairs) ≡ extended r
     came-to = sym (x .answers (g .standing .pairs) (g .standing .stands))
@@ -481,15 +493,28 @@ module _ {words args left right : List ℕ} {labels : Labels} {known prepared cs
 
     module _ (e : r ≡ Unified) where
       -- the walk goes on with the extended classes
-      pub joined-next : {cs″ next″ : List ℕ} → cs″ ≡ cs′ → next″ ≡ next′ → Walking words args left right labels known prepared cs″ next″ key weight unpaired (i + 1) entry memory lent at
-      joined-next q u =
-          rw (q, u)
-          (walking-on
+      pub joined-next : Walking words args left right labels known prepared cs′ next′ key weight unpaired (i + 1) entry memory lent at
+      joined-next =
+          walking-on
           (x .formed e (g .standing .pairs) (g .standing .stands))
-          (x .circles e)
+          (merges-trailed (g .trailed) (x .merges))
           (prepared-kept words args known cs cs′ prepared (g .listable .sections) (g .known-right .counts) (x .kept e) (g .ready))
-          (x .stands e (g .standing .pairs) (g .standing .stands)))
+          (x .stands e (g .standing .pairs) (g .standing .stands))
 
       -- and the pair has the entries below it
       pub unified-joined : {entry′ memory′ lent′ : List ℕ} {w : Written} → Walked words args left right labels (i + 1) entry memory lent at entry′ memory′ lent′ w → WalkedJoined words args left right labels i a b entry memory lent at entry′ memory′ lent′ w
       unified-joined y = walked-on (came-to ∙ ap extended e) y
+
+    -- whatever the answer, the joins can be undone: mark heads had gone before them
+    module _ {mark : ℕ} (u : mark ≡ gone next) (l : length cs′ ≡ length cs) {cs″ next″ : List ℕ} (p : cs″ ≡ cs′) (q : next″ ≡ next′) where
+      -- as long as the classes are, so many nodes there are
+      nodes-long : nodeCount words ≡ length cs″
+      nodes-long = sym (ap length p ∙ l ∙ g .formed .partition .size)
+
+      -- there are classes to go back to
+      pub joins-since : Since (length cs″) mark cs″ next″ × (length next″ ≡ links)
+      joins-since = (rw (← nodes-long, p, q) (undoable u (x .merges)), ap length q ∙ merges-trailed (g .trailed) (x .merges) .size)
+
+      -- these are the classes before the joins
+      pub joins-undone : {cs₁ next₁ : List ℕ} → Before (length cs″) mark cs₁ next₁ cs″ next″ → (cs₁ ≡ cs) × (next₁ ≡ next)
+      joins-undone o = undone-same u (x .merges) (rw (← nodes-long, p, q) at o)

@@ -8,7 +8,7 @@ ghost use Rattle.table.specs.Code.Accepted.{Accepted};
 ghost use Rattle.unification.specs.Code.Sections.{Sections, nodesFrom};
 ghost use Rattle.unify.specs.Code.Present.{leastNodes};
 ghost use Rattle.unify.specs.Code.Open.{Counts};
-ghost use Rattle.unify.specs.Code.Circle.{Circles};
+ghost use Rattle.unify.specs.Code.Trail.{links, Trailed};
 ghost use Rattle.unify.specs.Code.Prepared.{Prepared};
 ghost use Rattle.unify.specs.Code.Stands.{Formed, StandsAlways};
 ghost use Rattle.multiset_unification.specs.Computed.Listing.{completeListing};
@@ -34,6 +34,7 @@ use unify::bytes::put_bytes;
 use unify::prepared::PREPARED;
 use unify::prepared::count_open;
 use unify::prepared::prepare;
+use unify::trail::LINKS;
 
 // Room for an entry: n + m digits and V binding words.
 const ENTRY_WORDS: usize = 80;
@@ -56,8 +57,8 @@ fn complete_known(
     right: &[u32],
     labels: Labels,
     list: &[u8],
-    of: &[u8],
-    next: &[u8],
+    of: &mut [u8],
+    next: &mut [u8],
     known: &mut [u8],
 )
     requires { ⌜ Listable (now nodes) (now arguments) (now left) (now right) labels ⌝ }
@@ -65,6 +66,7 @@ fn complete_known(
     requires { ⌜ (now list ≡ leastNodes (nodesFrom (now nodes) (now arguments))) × (length (now list) ≤ 64) ⌝ }
     ensures { λ r. ⌜ KnownOf (now (nodes .entry)) (now (arguments .entry)) (now (known .exit)) × MayPair (now (nodes .entry)) (now (arguments .entry)) (now (left .entry)) (now (right .entry)) (mayIn (now (known .exit))) ⌝ }
     ensures { λ r. ⌜ KeepsCounts (now (nodes .entry)) (now (known .entry)) (now (known .exit)) ⌝ }
+    ensures { λ r. ⌜ (now (of .exit) ≡ now (of .entry)) × (now (next .exit) ≡ now (next .entry)) ⌝ }
 {
     find_partners(nodes, arguments, left, right, labels, of, next, known);
     put_bytes(list, known, LIST);
@@ -79,14 +81,14 @@ fn list_known(
     labels: Labels,
     known: &[u8],
     prepared: &[u16],
-    of: &[u8],
-    next: &[u8],
+    of: &mut [u8],
+    next: &mut [u8],
     words: usize,
     out: &mut [u32],
 ) -> Listing
     requires { ⌜ Listable (now nodes) (now arguments) (now left) (now right) labels ⌝ }
     requires { ⌜ KnownOf (now nodes) (now arguments) (now known) × MayPair (now nodes) (now arguments) (now left) (now right) (mayIn (now known)) ⌝ }
-    requires { ⌜ Formed (now nodes) (now arguments) (now known) (now of) × StandsAlways (now nodes) (now arguments) (now of) × Circles (nodeCount (now nodes)) (now of) (now next) ⌝ }
+    requires { ⌜ Formed (now nodes) (now arguments) (now known) (now of) × StandsAlways (now nodes) (now arguments) (now of) × Trailed (nodeCount (now nodes)) (now of) (now next) ⌝ }
     requires { ⌜ Prepared (now nodes) (now arguments) (now known) (now of) (now prepared) ⌝ }
     requires { ⌜ (words ≡ widthOf (now nodes) (now arguments) (now left) (now right)) × (0 < words) ⌝ }
     ensures { λ r. ⌜ Answers (allEntries (now (nodes .entry)) (now (arguments .entry)) (now (left .entry)) (now (right .entry)) labels) (now (out .entry)) r (now (out .exit)) ⌝ }
@@ -127,14 +129,14 @@ fn list_open(
     right: &[u32],
     labels: Labels,
     known: &[u8],
-    of: &[u8],
-    next: &[u8],
+    of: &mut [u8],
+    next: &mut [u8],
     words: usize,
     out: &mut [u32],
 ) -> Listing
     requires { ⌜ Listable (now nodes) (now arguments) (now left) (now right) labels ⌝ }
     requires { ⌜ KnownOf (now nodes) (now arguments) (now known) × MayPair (now nodes) (now arguments) (now left) (now right) (mayIn (now known)) ⌝ }
-    requires { ⌜ Formed (now nodes) (now arguments) (now known) (now of) × StandsAlways (now nodes) (now arguments) (now of) × Circles (nodeCount (now nodes)) (now of) (now next) ⌝ }
+    requires { ⌜ Formed (now nodes) (now arguments) (now known) (now of) × StandsAlways (now nodes) (now arguments) (now of) × Trailed (nodeCount (now nodes)) (now of) (now next) ⌝ }
     requires { ⌜ (words ≡ widthOf (now nodes) (now arguments) (now left) (now right)) × (0 < words) ⌝ }
     ensures { λ r. ⌜ Answers (allEntries (now (nodes .entry)) (now (arguments .entry)) (now (left .entry)) (now (right .entry)) labels) (now (out .entry)) r (now (out .exit)) ⌝ }
 {
@@ -168,7 +170,7 @@ fn list_with_room(
     out: &mut [u32],
 ) -> Listing
     requires { ⌜ Listable (now nodes) (now arguments) (now left) (now right) labels ⌝ }
-    requires { ⌜ (length (now of) ≡ nodeCount (now nodes)) × (length (now next) ≡ nodeCount (now nodes)) × (now known ≡ replicate knownBytes 1) ⌝ }
+    requires { ⌜ (length (now of) ≡ nodeCount (now nodes)) × (now next ≡ replicate links 0) × (now known ≡ replicate knownBytes 1) ⌝ }
     ensures { λ r. ⌜ Answers (allEntries (now (nodes .entry)) (now (arguments .entry)) (now (left .entry)) (now (right .entry)) labels) (now (out .entry)) r (now (out .exit)) ⌝ }
 {
     let variables = begin_shared(nodes, arguments, of);
@@ -235,7 +237,7 @@ fn list_sides(
 {
     let n = index(layout::node_count(nodes));
     let mut of = [0u8; MAX_NODES];
-    let mut next = [0u8; MAX_NODES];
+    let mut next = [0u8; LINKS];
     let mut known = [1u8; KNOWN];
     list_with_room(
         nodes,
@@ -244,7 +246,7 @@ fn list_sides(
         right,
         labels,
         &mut of[0..n],
-        &mut next[0..n],
+        &mut next,
         &mut known,
         out,
     )

@@ -109,14 +109,15 @@ fn pair_mark(
     nodes: &[u32],
     arguments: &[u32],
     counts: &[u8],
-    of: &[u8],
-    next: &[u8],
+    of: &mut [u8],
+    next: &mut [u8],
     a: Node,
     b: Node,
 ) -> u8
     requires { ⌜ Triable (now nodes) (now arguments) (now counts) (now of) (now next) ⌝ }
     requires { ⌜ (a .0 < nodeCount (now nodes)) × (b .0 < nodeCount (now nodes)) ⌝ }
     ensures { λ r. ⌜ (r ≡ 0 → Never (nodesFrom (now (nodes .entry)) (now (arguments .entry))) (a .0) (b .0)) ⌝ }
+    ensures { λ r. ⌜ (now (of .exit) ≡ now (of .entry)) × (now (next .exit) ≡ now (next .entry)) ⌝ }
 {
     if may_unify(nodes, arguments, counts, of, next, a, b) {
         return 1;
@@ -131,8 +132,8 @@ fn mark_row(
     left: &[u32],
     right: &[u32],
     labels: Labels,
-    of: &[u8],
-    next: &[u8],
+    of: &mut [u8],
+    next: &mut [u8],
     known: &mut [u8],
     i: usize,
 )
@@ -142,6 +143,7 @@ fn mark_row(
     requires { ⌜ i < length (now left) ⌝ }
     ensures { λ r. ⌜ PairsKnown (now (nodes .entry)) (now (arguments .entry)) (now (left .entry)) (now (right .entry)) (now (known .exit)) ⌝ }
     ensures { λ r. ⌜ KeepsCounts (now (nodes .entry)) (now (known .entry)) (now (known .exit)) ⌝ }
+    ensures { λ r. ⌜ (now (of .exit) ≡ now (of .entry)) × (now (next .exit) ≡ now (next .entry)) ⌝ }
 {
     let a = layout::node_at(left, i);
     let mut j: usize = 0;
@@ -160,8 +162,8 @@ fn mark_pairs(
     left: &[u32],
     right: &[u32],
     labels: Labels,
-    of: &[u8],
-    next: &[u8],
+    of: &mut [u8],
+    next: &mut [u8],
     known: &mut [u8],
 )
     requires { ⌜ Listable (now nodes) (now arguments) (now left) (now right) labels ⌝ }
@@ -169,6 +171,7 @@ fn mark_pairs(
     requires { ⌜ PairsKnown (now nodes) (now arguments) (now left) (now right) (now known) ⌝ }
     ensures { λ r. ⌜ PairsKnown (now (nodes .entry)) (now (arguments .entry)) (now (left .entry)) (now (right .entry)) (now (known .exit)) ⌝ }
     ensures { λ r. ⌜ KeepsCounts (now (nodes .entry)) (now (known .entry)) (now (known .exit)) ⌝ }
+    ensures { λ r. ⌜ (now (of .exit) ≡ now (of .entry)) × (now (next .exit) ≡ now (next .entry)) ⌝ }
 {
     let mut i: usize = 0;
     while i < left.len() {
@@ -185,8 +188,8 @@ pub fn find_partners(
     left: &[u32],
     right: &[u32],
     labels: Labels,
-    of: &[u8],
-    next: &[u8],
+    of: &mut [u8],
+    next: &mut [u8],
     known: &mut [u8],
 )
     requires { ⌜ Listable (now nodes) (now arguments) (now left) (now right) labels ⌝ }
@@ -194,6 +197,7 @@ pub fn find_partners(
     requires { ⌜ PairsKnown (now nodes) (now arguments) (now left) (now right) (now known) ⌝ }
     ensures { λ r. ⌜ PairsKnown (now (nodes .entry)) (now (arguments .entry)) (now (left .entry)) (now (right .entry)) (now (known .exit)) ⌝ }
     ensures { λ r. ⌜ KeepsCounts (now (nodes .entry)) (now (known .entry)) (now (known .exit)) ⌝ }
+    ensures { λ r. ⌜ (now (of .exit) ≡ now (of .entry)) × (now (next .exit) ≡ now (next .entry)) ⌝ }
 {
     if (left.len() < 2) | (left.len() + right.len() < FEW_TERMS) {
         return;

@@ -7,7 +7,13 @@ ghost use mathlib.Core.Path.{_≡_};
 ghost use mathlib.Core.Logic.{_⊎_};
 ghost use Prim.Native.Nat.{_+_, _<_, _≤_};
 ghost use lib.ListN.{length};
-ghost use Rattle.listing.specs.Code.Walk.{hopeless as hopelessFor, Walking, Walked, Stepped, Joining, WalkedJoined};
+ghost use Rattle.table.specs.Layout.{word};
+ghost use Rattle.unification.specs.Outcome.{unified};
+ghost use Rattle.unification.specs.Computed.Unifying.{outcome};
+ghost use Rattle.unification.specs.Code.Sections.{nodesFrom};
+ghost use Rattle.listing.specs.Code.Branch.{Listable, pairsIn};
+ghost use Rattle.listing.specs.Code.Memory.{slotOf, Remembers};
+ghost use Rattle.listing.specs.Code.Walk.{hopeless as hopelessFor, Branching, Walking, Ending, Walked, Stepped, Joining, WalkedJoined};
 use crate::Labels;
 use crate::Written;
 use crate::known::LIST;
@@ -17,10 +23,11 @@ use crate::partners::stuck;
 use crate::writing;
 use table::Node;
 use table::layout;
-use table::limits::MAX_NODES;
 use table::limits::MAX_TERMS;
 use unify::Extended;
-use unify::settle::extend_copy;
+use unify::settle::extend;
+use unify::trail::GONE;
+use unify::trail::undo;
 
 // What a key is multiplied by for each left digit: more than any right term's number.
 const BASE: usize = 16;
@@ -32,7 +39,40 @@ fn hopeless(labels: Labels, left: usize, unpaired: usize) -> bool
     (labels.left == 0) & (left < unpaired) | (labels.right == 0) & (unpaired < left)
 }
 
-// Writes the entries of a branch in which every left term has its digit, or every right term is paired: all have the same binding words.
+// Writes the entries of a branch in which every left term has its digit, or every right term is paired, and whose binding words stand in the
+// entry: all have the same.
+fn write_out(
+    nodes: &[u32],
+    arguments: &[u32],
+    left: &[u32],
+    right: &[u32],
+    labels: Labels,
+    key: usize,
+    weight: usize,
+    unpaired: usize,
+    i: usize,
+    entry: &mut [u32],
+    memory: &mut [usize],
+    out: &mut [u32],
+    at: usize,
+) -> Written
+    requires { ⌜ Ending (now nodes) (now arguments) (now left) (now right) labels key weight unpaired i (now entry) (now memory) (now out) at ⌝ }
+    requires { ⌜ (i ≡ length (now left)) ⊎ (unpaired ≡ 0) ⌝ }
+    ensures { λ r. ⌜ Walked (now (nodes .entry)) (now (arguments .entry)) (now (left .entry)) (now (right .entry)) labels i (now (entry .entry)) (now (memory .entry)) (now (out .entry)) at (now (entry .exit)) (now (memory .exit)) (now (out .exit)) r ⌝ }
+{
+    let n = left.len();
+    let m = right.len();
+    if i == n {
+        let w = writing::write_rights(labels.left, entry, n, n + m, out, at);
+        memory::note_place(memory, key, at, w.used);
+        return w;
+    }
+    let w = writing::write_labels(m, labels.right, entry, i, n, out, at);
+    memory::note_place(memory, key, at, w.used);
+    w
+}
+
+// The same where the binding words are still to be put into the entry.
 fn write_branch(
     nodes: &[u32],
     arguments: &[u32],
@@ -56,8 +96,6 @@ fn write_branch(
     requires { ⌜ (i ≡ length (now left)) ⊎ (unpaired ≡ 0) ⌝ }
     ensures { λ r. ⌜ Walked (now (nodes .entry)) (now (arguments .entry)) (now (left .entry)) (now (right .entry)) labels i (now (entry .entry)) (now (memory .entry)) (now (out .entry)) at (now (entry .exit)) (now (memory .exit)) (now (out .exit)) r ⌝ }
 {
-    let n = left.len();
-    let m = right.len();
     memory::put_words(
         nodes,
         arguments,
@@ -73,17 +111,78 @@ fn write_branch(
         out,
         at,
     );
-    if i == n {
-        let w = writing::write_rights(labels.left, entry, n, n + m, out, at);
-        memory::note_place(memory, key, at, w.used);
-        return w;
-    }
-    let w = writing::write_labels(m, labels.right, entry, i, n, out, at);
-    memory::note_place(memory, key, at, w.used);
-    w
+    write_out(
+        nodes,
+        arguments,
+        left,
+        right,
+        labels,
+        key,
+        weight,
+        unpaired,
+        i,
+        entry,
+        memory,
+        out,
+        at,
+    )
 }
 
-// Writes the entries of a branch whose next pair, a and b, is joined on top of the classes so far.
+// The same where binding words are kept for the pairs.
+fn write_kept(
+    nodes: &[u32],
+    arguments: &[u32],
+    left: &[u32],
+    right: &[u32],
+    labels: Labels,
+    key: usize,
+    weight: usize,
+    unpaired: usize,
+    i: usize,
+    entry: &mut [u32],
+    memory: &mut [usize],
+    out: &mut [u32],
+    at: usize,
+) -> Written
+    requires { ⌜ Listable (now nodes) (now arguments) (now left) (now right) labels ⌝ }
+    requires { ⌜ Branching (now nodes) (now arguments) (now left) (now right) (now entry) key weight unpaired i ⌝ }
+    requires { ⌜ Remembers (now nodes) (now arguments) (now left) (now right) (now memory) (now out) at ⌝ }
+    requires { ⌜ word (now memory) (slotOf key) ≡ key + 1 ⌝ }
+    requires { ⌜ (i ≡ length (now left)) ⊎ (unpaired ≡ 0) ⌝ }
+    ensures { λ r. ⌜ outcome (nodesFrom (now (nodes .entry)) (now (arguments .entry))) (pairsIn (now (left .entry)) (now (right .entry)) (now (entry .entry)) i) ≡ unified ⌝ }
+    ensures { λ r. ⌜ Walked (now (nodes .entry)) (now (arguments .entry)) (now (left .entry)) (now (right .entry)) labels i (now (entry .entry)) (now (memory .entry)) (now (out .entry)) at (now (entry .exit)) (now (memory .exit)) (now (out .exit)) r ⌝ }
+{
+    memory::put_kept(
+        nodes,
+        arguments,
+        left,
+        right,
+        key,
+        i,
+        entry,
+        memory,
+        out,
+        at,
+    );
+    write_out(
+        nodes,
+        arguments,
+        left,
+        right,
+        labels,
+        key,
+        weight,
+        unpaired,
+        i,
+        entry,
+        memory,
+        out,
+        at,
+    )
+}
+
+// Writes the entries of a branch whose next pair, a and b, is joined on top of the classes so far, unless binding words are kept for its pairs.
+// The classes are as before.
 fn walk_joined(
     nodes: &[u32],
     arguments: &[u32],
@@ -92,8 +191,8 @@ fn walk_joined(
     labels: Labels,
     known: &[u8],
     prepared: &[u16],
-    of: &[u8],
-    next: &[u8],
+    of: &mut [u8],
+    next: &mut [u8],
     key: usize,
     weight: usize,
     unpaired: usize,
@@ -107,21 +206,27 @@ fn walk_joined(
 ) -> Written
     requires { ⌜ Joining (now nodes) (now arguments) (now left) (now right) labels (now known) (now prepared) (now of) (now next) key weight unpaired i (a .0) (b .0) (now entry) (now memory) (now out) at ⌝ }
     ensures { λ r. ⌜ WalkedJoined (now (nodes .entry)) (now (arguments .entry)) (now (left .entry)) (now (right .entry)) labels i (a .0) (b .0) (now (entry .entry)) (now (memory .entry)) (now (out .entry)) at (now (entry .exit)) (now (memory .exit)) (now (out .exit)) r ⌝ }
+    ensures { λ r. ⌜ (now (of .exit) ≡ now (of .entry)) × (now (next .exit) ≡ now (next .entry)) ⌝ }
 {
-    let n = of.len();
-    let mut heads = [0u8; MAX_NODES];
-    let mut after = [0u8; MAX_NODES];
-    match extend_copy(
-        nodes,
-        arguments,
-        known,
-        of,
-        next,
-        &mut heads[0..n],
-        &mut after[0..n],
-        a,
-        b,
-    ) {
+    if ((unpaired == 0) | (i + 1 == left.len())) & memory::is_kept(memory, key) {
+        return write_kept(
+            nodes,
+            arguments,
+            left,
+            right,
+            labels,
+            key,
+            weight,
+            unpaired,
+            i + 1,
+            entry,
+            memory,
+            out,
+            at,
+        );
+    }
+    let mark = next[GONE];
+    let w = match extend(nodes, arguments, known, of, next, a, b) {
         Extended::Clash => Written {
             used: at,
             missed: 0,
@@ -138,8 +243,8 @@ fn walk_joined(
             labels,
             known,
             prepared,
-            &heads[0..n],
-            &after[0..n],
+            of,
+            next,
             key,
             weight,
             unpaired,
@@ -149,7 +254,9 @@ fn walk_joined(
             out,
             at,
         ),
-    }
+    };
+    undo(of, next, mark);
+    w
 }
 
 // Writes the entries of a branch whose next left term has digit d.
@@ -161,8 +268,8 @@ fn step(
     labels: Labels,
     known: &[u8],
     prepared: &[u16],
-    of: &[u8],
-    next: &[u8],
+    of: &mut [u8],
+    next: &mut [u8],
     key: usize,
     weight: usize,
     unpaired: usize,
@@ -176,6 +283,7 @@ fn step(
     requires { ⌜ Walking (now nodes) (now arguments) (now left) (now right) labels (now known) (now prepared) (now of) (now next) key weight unpaired i (now entry) (now memory) (now out) at ⌝ }
     requires { ⌜ (i < length (now left)) × (0 < d) × (d ≤ length (now right) + labels .right) ⌝ }
     ensures { λ r. ⌜ Stepped (now (nodes .entry)) (now (arguments .entry)) (now (left .entry)) (now (right .entry)) labels i d (now (entry .entry)) (now (memory .entry)) (now (out .entry)) at (now (entry .exit)) (now (memory .exit)) (now (out .exit)) r ⌝ }
+    ensures { λ r. ⌜ (now (of .exit) ≡ now (of .entry)) × (now (next .exit) ≡ now (next .entry)) ⌝ }
 {
     if right.len() < d {
         entry[i] = d as u32;
@@ -268,8 +376,8 @@ pub fn walk(
     labels: Labels,
     known: &[u8],
     prepared: &[u16],
-    of: &[u8],
-    next: &[u8],
+    of: &mut [u8],
+    next: &mut [u8],
     key: usize,
     weight: usize,
     unpaired: usize,
@@ -281,6 +389,7 @@ pub fn walk(
 ) -> Written
     requires { ⌜ Walking (now nodes) (now arguments) (now left) (now right) labels (now known) (now prepared) (now of) (now next) key weight unpaired i (now entry) (now memory) (now out) at ⌝ }
     ensures { λ r. ⌜ Walked (now (nodes .entry)) (now (arguments .entry)) (now (left .entry)) (now (right .entry)) labels i (now (entry .entry)) (now (memory .entry)) (now (out .entry)) at (now (entry .exit)) (now (memory .exit)) (now (out .exit)) r ⌝ }
+    ensures { λ r. ⌜ (now (of .exit) ≡ now (of .entry)) × (now (next .exit) ≡ now (next .entry)) ⌝ }
 {
     let n = left.len();
     let m = right.len();

@@ -95,8 +95,8 @@ module _ (words args counts : List ℕ) (s : Sections words args) (cs : List ℕ
           (always (classOf cs a) first var σ ∙ sym (head-value σ a p) ∙ u a b (List·Memᴰ·head refl) ∙ head-value σ b q ∙ always (classOf cs b) second σ var) ∙ f .partition .own b q
 
   -- a pair that clashes with the classes
-  pub never-clash : (r : Extended) (cs′ next′ : List ℕ) → r ≡ Clash → Extends words args counts cs a b r cs′ next′ → Never ns a b
-  never-clash r cs′ next′ e x =
+  pub never-clash : (r : Extended) (next cs′ next′ : List ℕ) → r ≡ Clash → Extends words args counts cs next a b r cs′ next′ → Never ns a b
+  never-clash r next cs′ next′ e x =
       never-by
       (λ u.
       let k : clash ≡ unified = sym (ap extended e) ∙ x .answers (z .pairs) (z .stands) ∙ u in
@@ -104,8 +104,8 @@ module _ (words args counts : List ℕ) (s : Sections words args) (cs : List ℕ
       omega arith)
 
   -- and one that makes a cycle
-  pub never-occurs : (r : Extended) (cs′ next′ : List ℕ) → r ≡ Occurs → Extends words args counts cs a b r cs′ next′ → Never ns a b
-  never-occurs r cs′ next′ e x =
+  pub never-occurs : (r : Extended) (next cs′ next′ : List ℕ) → r ≡ Occurs → Extends words args counts cs next a b r cs′ next′ → Never ns a b
+  never-occurs r next cs′ next′ e x =
       never-by
       (λ u.
       let k : occurs ≡ unified = sym (ap extended e) ∙ x .answers (z .pairs) (z .stands) ∙ u in

@@ -8,7 +8,7 @@ use native.Mathlib.Nat.{sub-zero}
 use native.Mathlib.Omega.{arith}
 use borrow.Author.Tests.{leb-false, ltb-false, lt-leb, lt-ltb, le-ltb}
 use lib.Dec.{leb, ltb}
-use lib.ListN.{length, take}
+use lib.ListN.{length, take, replicate}
 use Rattle.table.specs.declared.Refusal.{Refusal}
 use Rattle.table.specs.declared.Checked.{Checked}
 use Rattle.table.specs.Answer as table
@@ -40,6 +40,7 @@ use Rattle.unify.specs.declared.Variables.{Variables}
 use Rattle.unify.specs.declared.Extended.{Extended}
 use Rattle.unify.specs.Code.Circle.{HeadsFirst}
 use Rattle.unify.specs.Code.Present.{leastNodes}
+use Rattle.unify.specs.Code.Trail.{links}
 use Rattle.unify.specs.Code.Stands.{Stands, extended, Extends, Lists, Leaves, BeginsShared}
 use Rattle.unify.specs.Code.Calling.{called, Answers}
 use Rattle.unify.proofs.LeastLaws.{least-long}
@@ -127,7 +128,7 @@ module _ (words args : List ℕ) (s : Sections words args) (a b : ℕ) (h : (a <
       either x y u (inr m) = g .same σ x y m
 
   -- Enough words are lent, and the classes are extended by the pair.
-  module _ (l : v .count ≤ length lent) (counts : List ℕ) (r : Extended) (cs′ next′ : List ℕ) (x : Extends words args counts cs a b r cs′ next′) where
+  module _ (l : v .count ≤ length lent) (counts next : List ℕ) (r : Extended) (cs′ next′ : List ℕ) (x : Extends words args counts cs next a b r cs′ next′) where
     -- what unifying the two nodes comes to
     comes : extended r ≡ outcome ns ((a, b) ∷ [])
     comes =
@@ -170,9 +171,9 @@ module _ (words args : List ℕ) (s : Sections words args) (a b : ℕ) (h : (a <
           answers-ended Unification.Unified lent′ (rw e)
           (rw (e, ← one-words, words-counted ns ((a, b) ∷ g .pairs)) (w ((a, b) ∷ g .pairs) unified-stands))
 
--- what putting the members of each class into a circle asks, where there is room for m of them
-pub circles-ready : (n : ℕ) (cs : List ℕ) (m : ℕ) → n ≤ maxNodes → length cs ≡ n → m ≡ n → HeadsFirst n cs → (m ≡ length cs) × HeadsFirst (length cs) cs × (length cs ≤ maxNodes)
-circles-ready n cs m b e d h = (d ∙ sym e, rw e h, omega (arith, b, e))
+-- what putting the members of each class into a circle asks
+pub circles-ready : (n : ℕ) (cs next : List ℕ) → n ≤ maxNodes → length cs ≡ n → next ≡ replicate links 0 → HeadsFirst n cs → (next ≡ replicate links 0) × HeadsFirst (length cs) cs × (length cs ≤ maxNodes)
+circles-ready n cs next b e d h = (d, rw e h, omega (arith, b, e))
 
 -- the least nodes of the variables present, for which enough words are lent
 pub list-given : (words args : List ℕ) (v : Variables) (n : ℕ) → Lists words args v → v .count ≤ n → (take (v .count - 0) (v .nodes) ≡ leastNodes (nodesFrom words args)) × (length (take (v .count - 0) (v .nodes)) ≤ n)

@@ -26,7 +26,7 @@ follows-on here g = g
 follows-on (onward f) g = onward (follows-on f g)
 
 -- what follows on the node after node i
-step-on : {next : List ℕ} {x j : ℕ} (i : ℕ) → word next i ≡ x → Follows next x j → Follows next i j
+pub step-on : {next : List ℕ} {x j : ℕ} (i : ℕ) → word next i ≡ x → Follows next x j → Follows next i j
 step-on {j = j} i e f = onward {i = i} {j = j} (rw e f)
 
 -- The node k steps after node i.
@@ -53,22 +53,22 @@ module _ (next : List ℕ) where
   steps-more (suc p) r zero i e = absurd (omega arith)
   steps-more (suc p) r (suc s) i e = steps-more p r s (word next i) (omega arith)
 
-  module _ (below : (i : ℕ) → i < length next → word next i < length next) where
+  module _ (n : ℕ) (below : (i : ℕ) → i < n → word next i < n) where
     -- they come to nodes
-    steps-below : (k i : ℕ) → i < length next → stepsOn next k i < length next
+    steps-below : (k i : ℕ) → i < n → stepsOn next k i < n
     unfolding stepsOn
     steps-below zero i h = h
     steps-below (suc k) i h = steps-below k (word next i) (below i h)
 
     -- fewer steps than there are nodes are enough: more pass some node twice
-    enough : (b k i j : ℕ) → k < b → i < length next → stepsOn next k i ≡ j → (m : ℕ) × (m < length next) × (stepsOn next m i ≡ j)
+    enough : (b k i j : ℕ) → k < b → i < n → stepsOn next k i ≡ j → (m : ℕ) × (m < n) × (stepsOn next m i ≡ j)
     enough zero k i j l h e = absurd (omega arith)
-    enough (suc b) k i j l h e = go (λ p u v. enough b p i j u h v) (decLt k (length next))
+    enough (suc b) k i j l h e = go (λ p u v. enough b p i j u h v) (decLt k (n))
       where
-        go : ((p : ℕ) → p < b → stepsOn next p i ≡ j → (m : ℕ) × (m < length next) × (stepsOn next m i ≡ j)) → Dec (k < length next) → (m : ℕ) × (m < length next) × (stepsOn next m i ≡ j)
+        go : ((p : ℕ) → p < b → stepsOn next p i ≡ j → (m : ℕ) × (m < n) × (stepsOn next m i ≡ j)) → Dec (k < n) → (m : ℕ) × (m < n) × (stepsOn next m i ≡ j)
         go f (yes z) = (k, z, e)
         go f (no z) =
-            let r = pigeons (length next) (λ p. stepsOn next p i) (λ p q. steps-below p i h) in
+            let r = pigeons (n) (λ p. stepsOn next p i) (λ p q. steps-below p i h) in
             let x = r .2 in
             let y = r .3 in
             let a = steps-more (r .1) (k - r .1) k i (omega (arith, y, z)) in
@@ -94,11 +94,13 @@ module _ (next : List ℕ) where
       rw (ne-eqb i g d) (omega (arith, q))
 
 -- a step nearer to a node that follows
-pub nearer : (next : List ℕ) (g i : ℕ) → Circling next g → i < length next → Follows next i g → (i ≡ g → ⊥) → distance next g (length next) (word next i) < distance next g (length next) i
-nearer next g i c l f d =
+pub nearer : (n : ℕ) (next : List ℕ) (g i : ℕ) → Circling n next g → i < n → Follows next i g → (i ≡ g → ⊥) → distance next g (length next) (word next i) < distance next g (length next) i
+nearer n next g i c l f d =
     let r = follows-steps next f in
-    let m = enough next (c .below) (suc (r .0)) (r .0) i g (omega arith) l (r .1) in
-    distance-less next g (length next) (m .0) i (m .1) (m .2) d
+    let m = enough next n (c .below) (suc (r .0)) (r .0) i g (omega arith) l (r .1) in
+    let u = m .1 in
+    let v = c .size in
+    distance-less next g (length next) (m .0) i (omega (arith, u, v)) (m .2) d
 
 -- it follows still
 pub follows-still : {next : List ℕ} {i g : ℕ} → Follows next i g → (i ≡ g → ⊥) → Follows next (word next i) g
@@ -110,12 +112,12 @@ pub not-there : (i g : ℕ) (b : Bool) → (not (eqb i g) && b) ≡ true → i �
 not-there i g b e = eqb-false i g (not-true _ (and-true-left (not (eqb i g)) b e))
 
 -- a head can be come back to
-pub circling : {n : ℕ} {cs next : List ℕ} {g h : ℕ} → TwoHeads n cs next g h → Circling next g
-circling {n = n} {next = next} {g = g} t =
-    let e = t .circles .size in
+pub circling : {n : ℕ} {cs next : List ℕ} {g h : ℕ} → TwoHeads n cs next g h → Circling n next g
+circling {next = next} {g = g} t =
     record {
-      inside = rw e (t .first);
-      below = λ i l. let b : i < n = rw e at l in rw e (t .circles .below i b);
+      inside = t .first;
+      size = t .circles .size;
+      below = t .circles .below;
       back = t .circles .around (word next g) g (t .circles .below g (t .first)) (t .first) (t .circles .same g (t .first));
     }
 
@@ -133,7 +135,7 @@ turned t =
     }
 
 -- Nodes g and h exchange the ones after them.
-record Exchange (next : List ℕ) (g h : ℕ) (next′ : List ℕ) : Type 0 where
+pub record Exchange (next : List ℕ) (g h : ℕ) (next′ : List ℕ) : Type 0 where
   pub first : word next′ g ≡ word next h
   pub second : word next′ h ≡ word next g
   pub other : (i : ℕ) → (i ≡ g → ⊥) → (i ≡ h → ⊥) → word next′ i ≡ word next i
@@ -203,7 +205,7 @@ exchange-turned x = record { first = x .second; second = x .first; other = λ i 
 
 module _ (n : ℕ) (cs next : List ℕ) (g h : ℕ) (t : TwoHeads n cs next g h) where
   -- the two heads do
-  exchange : Exchange next g h (exchanged next g h)
+  pub exchange : Exchange next g h (exchanged next g h)
   unfolding exchanged
   exchange =
       let e = t .circles .size in
@@ -247,7 +249,7 @@ module _ (n : ℕ) (cs next : List ℕ) (g h : ℕ) (t : TwoHeads n cs next g h)
       ∙ sym (map-at (renamed g h) cs h (rw (t .partition .size) (t .second)) ∙ ap (renamed g h) (t .second-own) ∙ renamed-other g h h (λ z. t .apart (sym z)))
 
   -- there are as many nodes
-  long : length (exchanged next g h) ≡ length next
+  pub long : length (exchanged next g h) ≡ length next
   unfolding exchanged
   long = length-set (set next g (word next h)) h (word next g) ∙ length-set next g (word next h)
 
@@ -296,7 +298,7 @@ module _ (n : ℕ) (cs next : List ℕ) (g h : ℕ) (t : TwoHeads n cs next g h)
   pub circles-linked : Circles n (map (renamed g h) cs) (exchanged next g h)
   circles-linked =
       record {
-        size = long ∙ t .circles .size;
+        size = rw long (t .circles .size);
         below = λ i l. below-after i l (ℕ-discrete i g) (ℕ-discrete i h);
         same = λ i l. one-class i l (ℕ-discrete i g) (ℕ-discrete i h);
         around = λ i j l k e. around-after i j l k e (case-of i l) (case-of j k);

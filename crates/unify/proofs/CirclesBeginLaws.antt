@@ -3,39 +3,60 @@
 use Prim.Native.Nat.{ℕ, _+_, _≤_, _<_}
 use mathlib.Core.List.{List}
 use mathlib.Core.Path.{_≡_, sym, ap, subst, _∙_}
-use native.Mathlib.Decide.{ℕ-discrete}
+use native.Mathlib.Decide.{ℕ-discrete, decLt}
 use native.Mathlib.Omega.{arith}
-use lib.ListN.{length, set, length-set}
+use lib.ListN.{length, replicate, set, length-set, length-replicate, getD-replicate, List·getD-eq-default}
 use lib.Seq.{getD-set-same, getD-set-other}
+use Rattle.table.specs.Limits.{maxNodes}
 use Rattle.table.specs.Layout.{word}
 use Rattle.unification.specs.Computed.Classes.{classOf}
-use Rattle.unify.specs.Code.Circle.{Follows, here, onward, Circles, HeadsFirst, CirclesBefore}
+use Rattle.unification.proofs.CountLaws.{roots-most}
+use Rattle.unify.specs.Code.Circle.{Follows, here, onward, HeadsFirst, CirclesBefore}
+use Rattle.unify.specs.Code.Trail.{links, Trailed}
 use Rattle.unify.proofs.CircleLaws.{follows-on}
 
+-- zeros are 0 at each place, and past the end
+zeros : (n k : ℕ) → word (replicate n 0) k ≡ 0
+zeros n k = go (decLt k n)
+  where
+    go : Dec (k < n) → word (replicate n 0) k ≡ 0
+    go (yes l) = getD-replicate n k 0 0 l
+    go (no l) = List·getD-eq-default (replicate n 0) 0 (let e = length-replicate {A = ℕ} n 0 in omega (arith, l, e))
+
 -- no node is in a circle yet
-pub circles-none : (cs next : List ℕ) → length next ≡ length cs → CirclesBefore cs next 0
+pub circles-none : (cs next : List ℕ) → next ≡ replicate links 0 → CirclesBefore cs next 0
 circles-none cs next e =
     record {
-      size = e;
+      size = rw e (length-replicate {A = ℕ} links 0);
+      clear = λ k h. rw e (zeros links k);
       below = λ k h. absurd (omega arith);
       same = λ k h. absurd (omega arith);
       around = λ j k h. absurd (omega arith);
     }
 
--- all are
-pub circles-all : (cs next : List ℕ) (i : ℕ) → i ≤ length cs → length cs ≤ i → CirclesBefore cs next i → Circles (length cs) cs next
-circles-all cs next i h l c =
+-- all are, and no head has gone
+pub circles-all : (cs next : List ℕ) (i : ℕ) → length cs ≤ maxNodes → i ≤ length cs → length cs ≤ i → CirclesBefore cs next i → Trailed (length cs) cs next
+circles-all cs next i few h l c =
     let e : length cs ≡ i = omega arith in
-    record { size = c .size; below = rw e (c .below); same = rw e (c .same); around = rw e (c .around) }
+    let q = c .size in
+    let z = c .clear 256 (omega arith) in
+    let r = roots-most (length cs) cs in
+    record {
+      circles = record { size = omega (arith, few, q); below = rw e (c .below); same = rw e (c .same); around = rw e (c .around) };
+      few = few;
+      size = q;
+      room = omega (arith, z, r, few);
+      clear = λ k w. c .clear k (omega (arith, w));
+    }
 
-module _ (cs next : List ℕ) (i : ℕ) (b : i < length cs) (f : HeadsFirst (length cs) cs) (c : CirclesBefore cs next i) where
+module _ (cs next : List ℕ) (i : ℕ) (b : i < length cs) (few : length cs ≤ maxNodes) (f : HeadsFirst (length cs) cs) (c : CirclesBefore cs next i) where
   -- a node that is its own head
   module _ (e : classOf cs i ≡ i) where
     abbrev begun : List ℕ
     begun = set next i i
 
     begun-here : word begun i ≡ i
-    begun-here = let l = c .size in getD-set-same next i i 0 (omega (arith, l))
+    begun-here = let l = c .size in getD-set-same next i i 0 (omega (arith, l, few))
 
     begun-other : (k : ℕ) → k < i → word begun k ≡ word next k
     begun-other k h = getD-set-other next i k i 0 (λ z. omega (arith, z, h))
@@ -54,6 +75,7 @@ module _ (cs next : List ℕ) (i : ℕ) (b : i < length cs) (f : HeadsFirst (len
           below = λ k h. below-at k h (ℕ-discrete k i);
           same = λ k h. same-at k h (ℕ-discrete k i);
           around = λ j k h l q. around-at j k h l q (ℕ-discrete j i) (ℕ-discrete k i);
+          clear = λ k h. getD-set-other next i k i 0 (λ z. omega (arith, z, h, b, few)) ∙ c .clear k h;
         }
       where
         below-at : (k : ℕ) → k < i + 1 → Dec (k ≡ i) → word begun k < i + 1
@@ -98,12 +120,12 @@ module _ (cs next : List ℕ) (i : ℕ) (b : i < length cs) (f : HeadsFirst (len
     put-head =
         let l = c .size in
         let x = length-set next i (word next h) in
-        getD-set-same (set next i (word next h)) h i 0 (omega (arith, l, x, head-before))
+        getD-set-same (set next i (word next h)) h i 0 (omega (arith, l, x, few, head-before))
 
     put-here : word put i ≡ word next h
     put-here =
         let l = c .size in
-        getD-set-other (set next i (word next h)) h i i 0 (λ z. d (sym z)) ∙ getD-set-same next i (word next h) 0 (omega (arith, l))
+        getD-set-other (set next i (word next h)) h i i 0 (λ z. d (sym z)) ∙ getD-set-same next i (word next h) 0 (omega (arith, l, few))
 
     put-other : (k : ℕ) → k < i → (k ≡ h → ⊥) → word put k ≡ word next k
     put-other k l n =
@@ -131,6 +153,8 @@ module _ (cs next : List ℕ) (i : ℕ) (b : i < length cs) (f : HeadsFirst (len
           below = λ k l. below-at k l (ℕ-discrete k i) (ℕ-discrete k h);
           same = λ k l. same-at k l (ℕ-discrete k i) (ℕ-discrete k h);
           around = λ j k l m q. around-at j k l m q (ℕ-discrete j i) (ℕ-discrete k i);
+          clear = λ k l.
+              getD-set-other (set next i (word next h)) h k i 0 (λ z. omega (arith, z, l, head-before, few)) ∙ getD-set-other next i k (word next h) 0 (λ z. omega (arith, z, l, few)) ∙ c .clear k l;
         }
       where
         below-at : (k : ℕ) → k < i + 1 → Dec (k ≡ i) → Dec (k ≡ h) → word put k < i + 1

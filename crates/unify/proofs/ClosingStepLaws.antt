@@ -21,9 +21,10 @@ use Rattle.unification.proofs.ListLaws.{tabulate-member, tabulate-from, zip-bac
 use Rattle.unification.proofs.CountLaws.{join-length, join-keeps, join-lowers, join-second, join-other, unites-front, in-list}
 use Rattle.unification.proofs.SectionLaws.{symbols-differ, run, run-long, nodes-long, variable-from, application-from, from-application, symbol-test, is-node, pair-place}
 use Rattle.unify.specs.Code.Open.{Marked, markedTest, KeepsClosed}
-use Rattle.unify.specs.Code.Circle.{Circles}
-use Rattle.unify.specs.Code.Uniting.{TwoHeads, Goes}
+use Rattle.unify.specs.Code.Uniting.{TwoHeads}
+use Rattle.unify.specs.Code.Trail.{Trailed, Merges, none, Goes}
 use Rattle.unify.specs.Code.Closing.{Closing, argumentPair, argumentPairs, Joinable, Joins}
+use Rattle.unify.proofs.TrailLaws.{one-merged, merges-on, merges-trailed}
 use Rattle.unify.proofs.OpenLaws.{marked-true, marked-false, weaker-variable, weaker-closed, closed-kept}
 use Rattle.unify.proofs.ClosedClashLaws.{Same, closed-joined}
 use Rattle.unify.proofs.ClosingLaws.{Wanted, HeadsMeet, retold, already, heads-clash, united, classes-joined, variable-meets}
@@ -94,18 +95,18 @@ module _ (words args : List ℕ) (s : Sections words args) (g h : ℕ) (hg : g <
       (r .0, r .1, l, ap (λ (p : ℕ × ℕ). p .0) (r .2), ap (λ (p : ℕ × ℕ). p .1) (r .2))
 
 -- Classes cs′ come of classes cs when some pairs are joined, and whatever the closure then joins.
-pub record Advances (words args counts cs : List ℕ) (new : List (ℕ × ℕ)) (cs′ next′ : List ℕ) : Type 0 where
+pub record Advances (words args counts cs next : List ℕ) (new : List (ℕ × ℕ)) (cs′ next′ : List ℕ) : Type 0 where
   pub partition : Partition (nodeCount words) cs′
-  pub circles : Circles (nodeCount words) cs′ next′
+  pub merges : Merges (nodeCount words) cs next cs′ next′
   pub fewer : roots (nodeCount words) cs′ ≤ roots (nodeCount words) cs
   pub heads : (i : ℕ) → i < nodeCount words → classOf cs (classOf cs′ i) ≡ classOf cs′ i
   pub kept : KeepsClosed words counts cs cs′
   pub closes : (ps todo : List (ℕ × ℕ)) → Closing (nodesFrom words args) ps cs (new ++ todo) → Closing (nodesFrom words args) ps cs′ todo
 
 -- Classes ds come of classes cs when those of nodes a and b are made one: the pair is traded for the pairs of new.
-pub record Trades (words args counts cs : List ℕ) (a b : ℕ) (new : List (ℕ × ℕ)) (ds next′ : List ℕ) : Type 0 where
+pub record Trades (words args counts cs next : List ℕ) (a b : ℕ) (new : List (ℕ × ℕ)) (ds next′ : List ℕ) : Type 0 where
   pub partition : Partition (nodeCount words) ds
-  pub circles : Circles (nodeCount words) ds next′
+  pub merges : Merges (nodeCount words) cs next ds next′
   pub fewer : roots (nodeCount words) ds < roots (nodeCount words) cs
   pub heads : (i : ℕ) → i < nodeCount words → classOf cs (classOf ds i) ≡ classOf ds i
   pub kept : KeepsClosed words counts cs ds
@@ -131,34 +132,34 @@ firstPairs words args g h j = tabulate j (argumentPair words args g h)
 
 -- The arguments of nodes g and h, joined one after the other.
 module _ (words args counts : List ℕ) (g h : ℕ) where
-  module _ (cs : List ℕ) where
+  module _ (cs next : List ℕ) where
     -- no pair is joined yet
-    pub arguments-none : (a b : ℕ) (new : List (ℕ × ℕ)) (bs next : List ℕ) → Trades words args counts bs a b new cs next → Advances words args counts cs (firstPairs words args g h 0) cs next
+    pub arguments-none : (a b : ℕ) (new : List (ℕ × ℕ)) (bs nextb : List ℕ) → Trades words args counts bs nextb a b new cs next → Advances words args counts cs next (firstPairs words args g h 0) cs next
     unfolding tabulate
-    arguments-none a b new bs next t =
+    arguments-none a b new bs nextb t =
         record {
           partition = t .partition;
-          circles = t .circles;
+          merges = none;
           fewer = omega arith;
           heads = t .partition .own;
           kept = λ i m. refl;
           closes = λ ps todo c. c;
         }
 
-    module _ (j : ℕ) (cs′ next′ : List ℕ) (v : Advances words args counts cs (firstPairs words args g h j) cs′ next′) (a b : ℕ) (fine : Bool) (cs″ next″ : List ℕ) (d : a ≡ argumentOf words args g j) (e : b ≡ argumentOf words args h j) (w : Joins words args counts cs′ a b fine cs″ next″) where
+    module _ (j : ℕ) (cs′ next′ : List ℕ) (v : Advances words args counts cs next (firstPairs words args g h j) cs′ next′) (a b : ℕ) (fine : Bool) (cs″ next″ : List ℕ) (d : a ≡ argumentOf words args g j) (e : b ≡ argumentOf words args h j) (w : Joins words args counts cs′ next′ a b fine cs″ next″) where
       -- the pair that comes next
       next-waits : (ps todo : List (ℕ × ℕ)) → Closing (nodesFrom words args) ps cs (firstPairs words args g h (j + 1) ++ todo) → Closing (nodesFrom words args) ps cs′ ((a, b) ∷ todo)
       unfolding tabulate argumentPair
       next-waits ps todo c = v .closes ps ((a, b) ∷ todo) (rw (d, e) (rw (append-assoc (firstPairs words args g h j)) at (rw (add-one j) at c)))
 
       -- one pair more
-      pub arguments-next : fine ≡ true → Advances words args counts cs (firstPairs words args g h (j + 1)) cs″ next″
+      pub arguments-next : fine ≡ true → Advances words args counts cs next (firstPairs words args g h (j + 1)) cs″ next″
       arguments-next t =
           let p = v .fewer in
           let q = w .fewer in
           record {
             partition = w .partition;
-            circles = w .circles;
+            merges = merges-on (v .merges) (w .merges);
             fewer = omega (arith, p, q);
             heads = heads-on (nodeCount words) cs cs′ cs″ (w .partition) (v .heads) (w .heads);
             kept = λ i k. w .kept i k ∙ v .kept i k;
@@ -226,11 +227,11 @@ pub record OneSymbolHeads (words args counts cs : List ℕ) (a b : ℕ) : Type 0
   pub not-both : Marked words counts (classOf cs a) → Marked words counts (classOf cs b) → ⊥
 
 -- the two nodes are of one class
-pub join-already : {words args counts cs next : List ℕ} (a b : ℕ) → Joinable words args counts cs next → a < nodeCount words → b < nodeCount words → classOf cs a ≡ classOf cs b → Joins words args counts cs a b true cs next
+pub join-already : {words args counts cs next : List ℕ} (a b : ℕ) → Joinable words args counts cs next → a < nodeCount words → b < nodeCount words → classOf cs a ≡ classOf cs b → Joins words args counts cs next a b true cs next
 join-already {words} {args} {counts} {cs} {next} a b w ha hb e =
     record {
       partition = w .partition;
-      circles = w .circles;
+      merges = none;
       fewer = omega arith;
       heads = w .partition .own;
       kept = λ i m. refl;
@@ -256,13 +257,17 @@ module _ {words args counts cs next : List ℕ} {a b : ℕ} (m : Meeting words a
   meeting-heads =
       rw (partition .size) (record {
         partition = partition;
-        circles = m .joinable .circles;
+        circles = m .joinable .trailed .circles;
         first = meeting-inside .0;
         second = meeting-inside .1;
         first-own = partition .own a (m .first);
         second-own = partition .own b (m .second);
         apart = m .apart;
       })
+
+  -- and can be undone from
+  pub meeting-trailed : Trailed (length cs) cs next
+  meeting-trailed = rw (partition .size) (m .joinable .trailed)
 
   -- there are as many nodes as heads of them
   same-long : length cs ≡ length nodes
@@ -278,11 +283,11 @@ module _ {words args counts cs next : List ℕ} {a b : ℕ} (m : Meeting words a
     heads-joined = on (on (back (c .joined a (is-node words args a (m .first)))) pair-joined) (c .joined b (is-node words args b (m .second)))
 
   -- no classes are changed where the heads clash
-  refused : ((ps todo : List (ℕ × ℕ)) → Closing nodes ps cs ((a, b) ∷ todo) → Clash nodes ps) → Joins words args counts cs a b false cs next
+  refused : ((ps todo : List (ℕ × ℕ)) → Closing nodes ps cs ((a, b) ∷ todo) → Clash nodes ps) → Joins words args counts cs next a b false cs next
   refused f =
       record {
         partition = partition;
-        circles = m .joinable .circles;
+        merges = none;
         fewer = omega arith;
         heads = partition .own;
         kept = λ i m. refl;
@@ -291,7 +296,7 @@ module _ {words args counts cs next : List ℕ} {a b : ℕ} (m : Meeting words a
       }
 
   -- heads of different symbols
-  join-differ : (kindOf words (classOf cs a) ≡ 0 → ⊥) → (kindOf words (classOf cs b) ≡ 0 → ⊥) → symbolTest words (classOf cs a) (classOf cs b) ≡ false → Joins words args counts cs a b false cs next
+  join-differ : (kindOf words (classOf cs a) ≡ 0 → ⊥) → (kindOf words (classOf cs b) ≡ 0 → ⊥) → symbolTest words (classOf cs a) (classOf cs b) ≡ false → Joins words args counts cs next a b false cs next
   join-differ ka kb e =
       refused (λ ps todo c.
       heads-clash nodes ps cs a b todo (is-node words args a (m .first)) (is-node words args b (m .second)) _ _ _ _
@@ -301,7 +306,7 @@ module _ {words args counts cs next : List ℕ} {a b : ℕ} (m : Meeting words a
       c)
 
   -- heads that are closed applications: of one term they would be of one class
-  join-closed : Marked words counts (classOf cs a) → Marked words counts (classOf cs b) → Joins words args counts cs a b false cs next
+  join-closed : Marked words counts (classOf cs a) → Marked words counts (classOf cs b) → Joins words args counts cs next a b false cs next
   join-closed p q =
       refused (λ ps todo c. go (closed-joined words args counts (m .joinable .sections) (m .joinable .counts-right) ps (classOf cs a) (classOf cs b) p q (heads-joined ps todo c)))
     where
@@ -311,12 +316,12 @@ module _ {words args counts cs next : List ℕ} {a b : ℕ} (m : Meeting words a
           absurd (m .apart (sym (partition .own a (m .first)) ∙ m .joinable .closed .shared (classOf cs a) (classOf cs b) p q e ∙ partition .own b (m .second)))
 
   -- heads that clash
-  pub join-clash : (kindOf words (classOf cs a) ≡ 0 → ⊥) × (kindOf words (classOf cs b) ≡ 0 → ⊥) → (symbolTest words (classOf cs a) (classOf cs b) ≡ false) ⊎ (Marked words counts (classOf cs a) × Marked words counts (classOf cs b)) → Joins words args counts cs a b false cs next
+  pub join-clash : (kindOf words (classOf cs a) ≡ 0 → ⊥) × (kindOf words (classOf cs b) ≡ 0 → ⊥) → (symbolTest words (classOf cs a) (classOf cs b) ≡ false) ⊎ (Marked words counts (classOf cs a) × Marked words counts (classOf cs b)) → Joins words args counts cs next a b false cs next
   join-clash k (inl e) = join-differ (k .0) (k .1) e
   join-clash k (inr r) = join-closed (r .0) (r .1)
 
   -- Node y's head goes and node x's stays.
-  module _ (x y : ℕ) (o : Either a b x y) (ds next′ : List ℕ) (z : Goes words counts cs (classOf cs y) (classOf cs x) ds next′) where
+  module _ (x y : ℕ) (o : Either a b x y) (ds next′ : List ℕ) (z : Goes words counts cs next (classOf cs y) (classOf cs x) ds next′) where
     -- the two are nodes
     hx : x < nodeCount words
     hx = either-both (λ i. i < nodeCount words) o (m .first) (m .second) .0
@@ -332,7 +337,7 @@ module _ {words args counts cs next : List ℕ} {a b : ℕ} (m : Meeting words a
     -- their classes are joined
     joined-so : ds ≡ join cs (x, y)
     unfolding join
-    joined-so = z .renames
+    joined-so = z .merged .renames
 
     -- closed applications keep their heads, where the two heads are not both closed
     keeps : (Marked words counts (classOf cs y) → Marked words counts (classOf cs x) → ⊥) → KeepsClosed words counts cs ds
@@ -370,11 +375,11 @@ module _ {words args counts cs next : List ℕ} {a b : ℕ} (m : Meeting words a
           c
 
       -- the classes are made one
-      made-one : (Marked words counts (classOf cs y) → Marked words counts (classOf cs x) → ⊥) → Trades words args counts cs a b new ds next′
+      made-one : (Marked words counts (classOf cs y) → Marked words counts (classOf cs x) → ⊥) → Trades words args counts cs next a b new ds next′
       made-one f =
           record {
             partition = rw joined-so (join-keeps (nodeCount words) cs x y hx hy partition);
-            circles = rw (partition .size) at (z .circles);
+            merges = rw (partition .size) at (one-merged (z .merged));
             fewer = rw joined-so (join-lowers (nodeCount words) cs x y hx hy partition two);
             heads = rw joined-so (join-heads partition x y hx);
             kept = keeps f;
@@ -382,32 +387,32 @@ module _ {words args counts cs next : List ℕ} {a b : ℕ} (m : Meeting words a
           }
 
     -- one of the heads is a variable
-    variable-goes : (kindOf words (classOf cs a) ≡ 0) ⊎ (kindOf words (classOf cs b) ≡ 0) → Trades words args counts cs a b [] ds next′
+    variable-goes : (kindOf words (classOf cs a) ≡ 0) ⊎ (kindOf words (classOf cs b) ≡ 0) → Trades words args counts cs next a b [] ds next′
     variable-goes r = go (either-one (λ i. kindOf words (classOf cs i) ≡ 0) o r)
       where
-        goes : kindOf words (classOf cs y) ≡ 0 → Trades words args counts cs a b [] ds next′
+        goes : kindOf words (classOf cs y) ≡ 0 → Trades words args counts cs next a b [] ds next′
         goes k =
             made-one [] (λ todo. variable-meets nodes cs x y (nameOf words (classOf cs y)) todo (variable-from words args (classOf cs y) (partition .below y hy) k)) (λ ps q i j n. absurd (List·Memᴰ·not-nil n)) (λ p q. p .applied k)
 
-        go : (kindOf words (classOf cs x) ≡ 0) ⊎ (kindOf words (classOf cs y) ≡ 0) → Trades words args counts cs a b [] ds next′
+        go : (kindOf words (classOf cs x) ≡ 0) ⊎ (kindOf words (classOf cs y) ≡ 0) → Trades words args counts cs next a b [] ds next′
         go (inl k) = goes (weaker-variable words counts (classOf cs y) (classOf cs x) (z .weaker) k)
         go (inr k) = goes k
 
-  module _ (ds next′ : List ℕ) (u : Goes words counts cs (classOf cs a) (classOf cs b) ds next′ ⊎ Goes words counts cs (classOf cs b) (classOf cs a) ds next′) where
+  module _ (ds next′ : List ℕ) (u : Goes words counts cs next (classOf cs a) (classOf cs b) ds next′ ⊎ Goes words counts cs next (classOf cs b) (classOf cs a) ds next′) where
     -- one of the heads is a variable
-    pub join-variable : (kindOf words (classOf cs a) ≡ 0) ⊎ (kindOf words (classOf cs b) ≡ 0) → Joins words args counts cs a b true ds next′
+    pub join-variable : (kindOf words (classOf cs a) ≡ 0) ⊎ (kindOf words (classOf cs b) ≡ 0) → Joins words args counts cs next a b true ds next′
     join-variable k = done (go u)
       where
-        go : Goes words counts cs (classOf cs a) (classOf cs b) ds next′ ⊎ Goes words counts cs (classOf cs b) (classOf cs a) ds next′ → Trades words args counts cs a b [] ds next′
+        go : Goes words counts cs next (classOf cs a) (classOf cs b) ds next′ ⊎ Goes words counts cs next (classOf cs b) (classOf cs a) ds next′ → Trades words args counts cs next a b [] ds next′
         go (inl z) = variable-goes b a swapped ds next′ z k
         go (inr z) = variable-goes a b straight ds next′ z k
 
-        done : Trades words args counts cs a b [] ds next′ → Joins words args counts cs a b true ds next′
+        done : Trades words args counts cs next a b [] ds next′ → Joins words args counts cs next a b true ds next′
         done t =
             let f = t .fewer in
             record {
               partition = t .partition;
-              circles = t .circles;
+              merges = t .merges;
               fewer = omega (arith, f);
               heads = t .heads;
               kept = t .kept;
@@ -458,7 +463,7 @@ module _ {words args counts cs next : List ℕ} {a b : ℕ} (m : Meeting words a
     argument-link swapped es u i j k =
         u i j (zip-pairs words args (m .joinable .sections) g h (meeting-inside .0) (meeting-inside .1) one-count i j k)
 
-    module _ (x y : ℕ) (o : Either a b x y) (ds next′ : List ℕ) (z : Goes words counts cs (classOf cs y) (classOf cs x) ds next′) where
+    module _ (x y : ℕ) (o : Either a b x y) (ds next′ : List ℕ) (z : Goes words counts cs next (classOf cs y) (classOf cs x) ds next′) where
       -- the head that goes meets the one that stays
       heads-meet : (todo : List (ℕ × ℕ)) → HeadsMeet nodes cs x y (argumentPairs words args g h ++ todo)
       heads-meet todo f us e =
@@ -474,17 +479,17 @@ module _ {words args counts cs next : List ℕ} {a b : ℕ} (m : Meeting words a
           )
 
       -- the classes are made one
-      applications-made-one : Trades words args counts cs a b (argumentPairs words args g h) ds next′
+      applications-made-one : Trades words args counts cs next a b (argumentPairs words args g h) ds next′
       applications-made-one =
           made-one x y o ds next′ z (argumentPairs words args g h) heads-meet arguments-wanted
           (λ p q. either-between (λ i j. Marked words counts (classOf cs i) → Marked words counts (classOf cs j) → ⊥) (λ i j f k l. f l k) o (s .not-both) q p)
 
     -- their classes are made one
-    pub applications-united : (ds next′ : List ℕ) → Goes words counts cs g h ds next′ ⊎ Goes words counts cs h g ds next′ → Trades words args counts cs a b (argumentPairs words args g h) ds next′
+    pub applications-united : (ds next′ : List ℕ) → Goes words counts cs next g h ds next′ ⊎ Goes words counts cs next h g ds next′ → Trades words args counts cs next a b (argumentPairs words args g h) ds next′
     applications-united ds next′ (inl z) = applications-made-one b a swapped ds next′ z
     applications-united ds next′ (inr z) = applications-made-one a b straight ds next′ z
 
-    module _ (ds next₁ : List ℕ) (t : Trades words args counts cs a b (argumentPairs words args g h) ds next₁) (j : ℕ) (cs′ next′ : List ℕ) (v : Advances words args counts ds (firstPairs words args g h j) cs′ next′) where
+    module _ (ds next₁ : List ℕ) (t : Trades words args counts cs next a b (argumentPairs words args g h) ds next₁) (j : ℕ) (cs′ next′ : List ℕ) (v : Advances words args counts ds next₁ (firstPairs words args g h j) cs′ next′) where
       -- what joining the next pair of arguments needs
       pub joinable-on : Joinable words args counts cs′ next′
       joinable-on =
@@ -493,18 +498,18 @@ module _ {words args counts cs next : List ℕ} {a b : ℕ} (m : Meeting words a
             counts-right = m .joinable .counts-right;
             partition = v .partition;
             closed = closed-kept words args counts cs cs′ (m .joinable .closed) (λ i k. v .kept i k ∙ t .kept i k);
-            circles = v .circles;
+            trailed = merges-trailed (m .joinable .trailed) (merges-on (t .merges) (v .merges));
           }
 
       -- all pairs of arguments are joined
-      pub join-applications : j ≡ countOf words g → Joins words args counts cs a b true cs′ next′
+      pub join-applications : j ≡ countOf words g → Joins words args counts cs next a b true cs′ next′
       unfolding argumentPairs
       join-applications q =
           let e = t .fewer in
           let f = v .fewer in
           record {
             partition = v .partition;
-            circles = v .circles;
+            merges = merges-on (t .merges) (v .merges);
             fewer = omega (arith, e, f);
             heads = heads-on (nodeCount words) cs ds cs′ (v .partition) (t .heads) (v .heads);
             kept = λ i k. v .kept i k ∙ t .kept i k;
@@ -513,17 +518,17 @@ module _ {words args counts cs next : List ℕ} {a b : ℕ} (m : Meeting words a
           }
 
       -- a pair of arguments clashes
-      pub join-stopped : j < countOf words g → (x y : ℕ) (fine : Bool) (cs″ next″ : List ℕ) → x ≡ argumentOf words args g j → y ≡ argumentOf words args h j → fine ≡ false → Joins words args counts cs′ x y fine cs″ next″ → Joins words args counts cs a b false cs″ next″
+      pub join-stopped : j < countOf words g → (x y : ℕ) (fine : Bool) (cs″ next″ : List ℕ) → x ≡ argumentOf words args g j → y ≡ argumentOf words args h j → fine ≡ false → Joins words args counts cs′ next′ x y fine cs″ next″ → Joins words args counts cs next a b false cs″ next″
       join-stopped l x y fine cs″ next″ dx dy r w =
           let e = t .fewer in
           let f = v .fewer in
           let k = w .fewer in
           record {
             partition = w .partition;
-            circles = w .circles;
+            merges = merges-on (t .merges) (merges-on (v .merges) (w .merges));
             fewer = omega (arith, e, f, k);
             heads = heads-on (nodeCount words) cs ds cs″ (w .partition) (t .heads) (heads-on (nodeCount words) ds cs′ cs″ (w .partition) (v .heads) (w .heads));
             kept = λ i k. w .kept i k ∙ v .kept i k ∙ t .kept i k;
             closes = λ q. absurd (false≢true q);
-            clashes = λ q ps todo c. arguments-clash words args counts g h ds j cs′ next′ v x y fine cs″ next″ dx dy w r ps todo l (t .trades ps todo c);
+            clashes = λ q ps todo c. arguments-clash words args counts g h ds next₁ j cs′ next′ v x y fine cs″ next″ dx dy w r ps todo l (t .trades ps todo c);
           }

@@ -19,6 +19,7 @@ use Rattle.unification.proofs.SectionLaws.{nodes-long, is-node, sections-well-f
 use Rattle.unify.specs.declared.Extended.{Extended}
 use Rattle.unify.specs.declared.Extended.the-variants.{Unified, Clash, Occurs}
 use Rattle.unify.specs.Code.Open.{Counts, ClosedHeads, KeepsClosed}
+use Rattle.unify.specs.Code.Trail.{Merges}
 use Rattle.unify.specs.Code.Closing.{Closing, Joins}
 use Rattle.unify.specs.Code.Order.{Ordered, Searched}
 use Rattle.unify.specs.Code.Stands.{Formed, Stands, Extends, extended}
@@ -36,13 +37,13 @@ inside-more ns ps a b p q h c d m = go (List·Memᴰ·cases-cons m)
     go (inr k) = h c d k
 
 -- a failure: whatever classes are given back
-extends-failed : (words args counts cs : List ℕ) (a b : ℕ) (cs′ next′ : List ℕ) (x : Extended) → (x ≡ Unified → ⊥) → ((ps : List (ℕ × ℕ)) → Stands words args cs ps → outcome (nodesFrom words args) ((a, b) ∷ ps) ≡ extended x) → Extends words args counts cs a b x cs′ next′
-extends-failed words args counts cs a b cs′ next′ x n o =
+extends-failed : (words args counts cs next : List ℕ) (a b : ℕ) (cs′ next′ : List ℕ) (x : Extended) → Merges (nodeCount words) cs next cs′ next′ → (x ≡ Unified → ⊥) → ((ps : List (ℕ × ℕ)) → Stands words args cs ps → outcome (nodesFrom words args) ((a, b) ∷ ps) ≡ extended x) → Extends words args counts cs next a b x cs′ next′
+extends-failed words args counts cs next a b cs′ next′ x y n o =
     record {
       answers = λ ps d. sym (o ps d);
       formed = λ z. absurd (n z);
       stands = λ z. absurd (n z);
-      circles = λ z. absurd (n z);
+      merges = y;
       kept = λ z. absurd (n z);
     }
 
@@ -57,11 +58,11 @@ module _ (words args counts : List ℕ) (s : Sections words args) (cs : List ℕ
     waiting =
         opened (nodesFrom words args) (sections-well-formed words args s) ps (d .inside) cs (rw (nodes-long words args) (f .partition)) a b (d .closed)
 
-  module _ (fine : Bool) (cs′ next′ : List ℕ) (j : Joins words args counts cs a b fine cs′ next′) where
+  module _ (next : List ℕ) (fine : Bool) (cs′ next′ : List ℕ) (j : Joins words args counts cs next a b fine cs′ next′) where
     -- a clash
-    pub extends-clash : fine ≡ false → Extends words args counts cs a b Clash cs′ next′
+    pub extends-clash : fine ≡ false → Extends words args counts cs next a b Clash cs′ next′
     extends-clash t =
-        extends-failed words args counts cs a b cs′ next′ Clash (λ z. let y : _≡_ {A = ℕ} 0 1 = cc in omega arith)
+        extends-failed words args counts cs next a b cs′ next′ Clash (j .merges) (λ z. let y : _≡_ {A = ℕ} 0 1 = cc in omega arith)
         (λ ps d. outcome-clash (nodesFrom words args) (sections-well-formed words args s) ((a, b) ∷ ps) (longer ps d) .1 (j .clashes t ((a, b) ∷ ps) [] (waiting ps d)))
 
     module _ (t : fine ≡ true) (k : Counts words args counts (nodeCount words)) where
@@ -71,9 +72,9 @@ module _ (words args counts : List ℕ) (s : Sections words args) (cs : List ℕ
 
       module _ (r : Bool) (x : Searched words args (word counts) cs′ a r) where
         -- a cycle
-        pub extends-occurs : r ≡ true → Extends words args counts cs a b Occurs cs′ next′
+        pub extends-occurs : r ≡ true → Extends words args counts cs next a b Occurs cs′ next′
         extends-occurs y =
-            extends-failed words args counts cs a b cs′ next′ Occurs (λ z. let w : _≡_ {A = ℕ} 0 1 = cc in omega arith)
+            extends-failed words args counts cs next a b cs′ next′ Occurs (j .merges) (λ z. let w : _≡_ {A = ℕ} 0 1 = cc in omega arith)
             (λ ps d.
             let l = x .cycle y in
             cycle-decides (nodesFrom words args) (sections-well-formed words args s) ((a, b) ∷ ps) (longer ps d) (classOf cs′) (closed-after ps d) (l .0) (leads-reaches words args s cs′ ((a, b) ∷ ps) (longer ps d) (closed-after ps d) counts k (l .2)))
@@ -103,12 +104,12 @@ module _ (words args counts : List ℕ) (s : Sections words args) (cs : List ℕ
               ordered-unified words args s counts k cs′ (j .partition) heads-after ((a, b) ∷ ps) (longer ps d) (closed-after ps d) (order-after .0) (order-after .1)
 
         -- classes of the longer list, in order
-        pub extends-unified : r ≡ false → Extends words args counts cs a b Unified cs′ next′
+        pub extends-unified : r ≡ false → Extends words args counts cs next a b Unified cs′ next′
         extends-unified y =
             record {
               answers = λ ps d. sym (unified-after y ps d);
               formed = λ z ps d. formed-after y ps d;
               stands = λ z ps d. record { inside = longer ps d; closed = closed-after ps d };
-              circles = λ z. j .circles;
+              merges = j .merges;
               kept = λ z. j .kept;
             }

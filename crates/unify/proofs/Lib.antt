@@ -8,6 +8,7 @@ pub mod ClosedLaws
 pub mod CopyLaws
 pub mod RelabelLaws
 pub mod CircleLaws
+pub mod TrailLaws
 pub mod CirclesBeginLaws
 pub mod ClosedClashLaws
 pub mod ClosingLaws

@@ -4,6 +4,7 @@ pub mod Present
 pub mod Open
 pub mod Circle
 pub mod Uniting
+pub mod Trail
 pub mod Start
 pub mod Order
 pub mod Ordering

@@ -5,30 +5,32 @@ ghost use mathlib.Core.Bool.{false};
 ghost use Rattle.table.specs.Layout.{nodeCount};
 ghost use Rattle.unification.specs.Code.Sections.{Sections, nodesFrom};
 ghost use Rattle.unify.specs.Code.Open.{Counts};
-ghost use Rattle.unify.specs.Code.Circle.{Circles};
+ghost use Rattle.unify.specs.Code.Trail.{Trailed};
 ghost use Rattle.unify.specs.Code.Stands.{Formed, StandsAlways, Never};
 use crate::Extended;
 use crate::nodes;
-use crate::settle::extend_copy;
+use crate::settle::extend;
+use crate::trail::GONE;
+use crate::trail::undo;
 use table::Node;
-use table::limits::MAX_NODES;
 
 // Whether two nodes, given classes in which nodes of one term are together, may have a common value: if not, no list of pairs with theirs
-// has a unifier.
+// has a unifier. The classes are as before.
 pub fn may_unify(
     nodes: &[u32],
     arguments: &[u32],
     counts: &[u8],
-    of: &[u8],
-    next: &[u8],
+    of: &mut [u8],
+    next: &mut [u8],
     a: Node,
     b: Node,
 ) -> bool
     requires { ⌜ Sections (now nodes) (now arguments) × Counts (now nodes) (now arguments) (now counts) (nodeCount (now nodes)) ⌝ }
-    requires { ⌜ Formed (now nodes) (now arguments) (now counts) (now of) × Circles (nodeCount (now nodes)) (now of) (now next) ⌝ }
+    requires { ⌜ Formed (now nodes) (now arguments) (now counts) (now of) × Trailed (nodeCount (now nodes)) (now of) (now next) ⌝ }
     requires { ⌜ StandsAlways (now nodes) (now arguments) (now of) ⌝ }
     requires { ⌜ (a .0 < nodeCount (now nodes)) × (b .0 < nodeCount (now nodes)) ⌝ }
     ensures { λ r. ⌜ (r ≡ false → Never (nodesFrom (now (nodes .entry)) (now (arguments .entry))) (a .0) (b .0)) ⌝ }
+    ensures { λ r. ⌜ (now (of .exit) ≡ now (of .entry)) × (now (next .exit) ≡ now (next .entry)) ⌝ }
 {
     let g = nodes::node_in(of, a.0 as usize);
     let h = nodes::node_in(of, b.0 as usize);
@@ -41,22 +43,12 @@ pub fn may_unify(
     if nodes::both_closed(nodes, counts, g, h) {
         return false;
     }
-    let n = nodes::node_count(nodes, arguments);
-    let mut heads = [0u8; MAX_NODES];
-    let mut after = [0u8; MAX_NODES];
-    match extend_copy(
-        nodes,
-        arguments,
-        counts,
-        of,
-        next,
-        &mut heads[0..n],
-        &mut after[0..n],
-        a,
-        b,
-    ) {
+    let mark = next[GONE];
+    let may = match extend(nodes, arguments, counts, of, next, a, b) {
         Extended::Unified => true,
         Extended::Clash => false,
         Extended::Occurs => false,
-    }
+    };
+    undo(of, next, mark);
+    may
 }

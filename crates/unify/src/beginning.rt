@@ -2,13 +2,14 @@
 ghost use mathlib.Core.Path.{_≡_};
 ghost use mathlib.Core.List.{map};
 ghost use Prim.Native.Nat.{_+_, _≤_, _<_};
-ghost use lib.ListN.{length};
+ghost use lib.ListN.{length, replicate};
 ghost use Rattle.table.specs.Limits.{maxNodes};
 ghost use Rattle.table.specs.Layout.{word, nodeCount};
 ghost use Rattle.unification.specs.Code.Sections.{Sections};
 ghost use Rattle.unify.specs.Code.Present.{LeastByName};
 ghost use Rattle.unify.specs.Code.Start.{startHead, Started, HeadsNamed, Together};
-ghost use Rattle.unify.specs.Code.Circle.{Circles, HeadsFirst, CirclesBefore};
+ghost use Rattle.unify.specs.Code.Circle.{HeadsFirst, CirclesBefore};
+ghost use Rattle.unify.specs.Code.Trail.{links, Trailed};
 ghost use Rattle.unify.specs.Code.Stands.{Lists, BeginsShared};
 use crate::Variables;
 use crate::names;
@@ -126,7 +127,7 @@ pub fn begin_shared(nodes: &[u32], arguments: &[u32], of: &mut [u8]) -> Variable
 
 // Puts node i into the circle of its head, which is not after it; the nodes before it are in circles.
 fn put_in_circle(of: &[u8], next: &mut [u8], i: usize)
-    requires { ⌜ (i < length (now of)) × (length (now next) ≡ length (now of)) × HeadsFirst (length (now of)) (now of) × (length (now of) ≤ maxNodes) ⌝ }
+    requires { ⌜ (i < length (now of)) × HeadsFirst (length (now of)) (now of) × (length (now of) ≤ maxNodes) ⌝ }
     requires { ⌜ CirclesBefore (now of) (now next) i ⌝ }
     ensures { λ r. ⌜ CirclesBefore (now (of .entry)) (now (next .exit)) (i + 1) ⌝ }
 {
@@ -139,10 +140,10 @@ fn put_in_circle(of: &[u8], next: &mut [u8], i: usize)
     next[h] = i as u8;
 }
 
-// Puts the members of each class into a circle, where the heads come first.
+// Puts the members of each class into a circle, where the heads come first. No head has gone.
 pub fn make_circles(of: &[u8], next: &mut [u8])
-    requires { ⌜ (length (now next) ≡ length (now of)) × HeadsFirst (length (now of)) (now of) × (length (now of) ≤ maxNodes) ⌝ }
-    ensures { λ r. ⌜ Circles (length (now (of .entry))) (now (of .entry)) (now (next .exit)) ⌝ }
+    requires { ⌜ (now next ≡ replicate links 0) × HeadsFirst (length (now of)) (now of) × (length (now of) ≤ maxNodes) ⌝ }
+    ensures { λ r. ⌜ Trailed (length (now (of .entry))) (now (of .entry)) (now (next .exit)) ⌝ }
 {
     let mut i: usize = 0;
     while i < of.len() {

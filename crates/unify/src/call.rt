@@ -6,6 +6,7 @@ ghost use Rattle.table.specs.Layout.{nodeCount};
 ghost use Rattle.table.specs.Code.Accepted.{Accepted};
 ghost use Rattle.unification.specs.Node.{nodesIn};
 ghost use Rattle.unification.specs.Code.Sections.{Sections, nodesFrom};
+ghost use Rattle.unify.specs.Code.Trail.{links};
 ghost use Rattle.unify.specs.Code.Prepared.{preparedWords};
 ghost use Rattle.unify.specs.Code.Calling.{Answers};
 use crate::Extended;
@@ -15,6 +16,7 @@ use crate::prepared::PREPARED;
 use crate::prepared::count_open;
 use crate::prepared::prepare;
 use crate::settle::extend;
+use crate::trail::LINKS;
 use crate::words::bind;
 use table::Node;
 use table::Refusal;
@@ -36,7 +38,7 @@ fn unify_with_room(
 ) -> Unification
     requires { ⌜ Sections (now nodes) (now arguments) ⌝ }
     requires { ⌜ (a .0 < nodeCount (now nodes)) × (b .0 < nodeCount (now nodes)) ⌝ }
-    requires { ⌜ (length (now of) ≡ nodeCount (now nodes)) × (length (now next) ≡ nodeCount (now nodes)) × (length (now counts) ≡ nodeCount (now nodes)) ⌝ }
+    requires { ⌜ (length (now of) ≡ nodeCount (now nodes)) × (now next ≡ replicate links 0) × (length (now counts) ≡ nodeCount (now nodes)) ⌝ }
     requires { ⌜ now prepared ≡ replicate preparedWords 0 ⌝ }
     ensures { λ r. ⌜ Answers (nodesFrom (now (nodes .entry)) (now (arguments .entry))) (a .0) (b .0) (now (out .entry)) r (now (out .exit)) ⌝ }
 {
@@ -70,7 +72,7 @@ fn unify_nodes(nodes: &[u32], arguments: &[u32], a: Node, b: Node, out: &mut [u3
     }
     let count = layout::index(n);
     let mut of = [0u8; MAX_NODES];
-    let mut next = [0u8; MAX_NODES];
+    let mut next = [0u8; LINKS];
     let mut counts = [0u8; MAX_NODES];
     let mut prepared = [0u16; PREPARED];
     unify_with_room(
@@ -79,7 +81,7 @@ fn unify_nodes(nodes: &[u32], arguments: &[u32], a: Node, b: Node, out: &mut [u3
         a,
         b,
         &mut of[0..count],
-        &mut next[0..count],
+        &mut next,
         &mut counts[0..count],
         &mut prepared,
         out,

@@ -1,21 +1,20 @@
-// Classes of nodes, closed under one pair of nodes more. The members of a class stand in a circle: each node has the next one.
+// Classes of nodes, closed under one pair of nodes more.
 ghost use mathlib.Core.Path.{_≡_};
-ghost use mathlib.Core.List.{map};
 ghost use mathlib.Core.Bool.{true, false};
 ghost use mathlib.Core.Logic.{_⊎_};
-ghost use Prim.Native.Nat.{_<_, _≤_};
+ghost use Prim.Native.Nat.{ℕ, _<_, _≤_};
 ghost use lib.ListN.{length};
 ghost use Rattle.table.specs.Layout.{nodeCount};
-ghost use Rattle.unification.specs.Computed.Classes.{renamed as renamedTo};
-ghost use Rattle.unify.specs.Code.Circle.{Circles};
 ghost use Rattle.unify.specs.Code.Closing.{Joinable, Joins};
-ghost use Rattle.unify.specs.Code.Uniting.{strengthOf, Circling, TwoHeads, exchanged, Goes};
+ghost use Rattle.unify.specs.Code.Uniting.{strengthOf, Circling, TwoHeads};
+ghost use Rattle.unify.specs.Code.Trail.{Trailed, Goes};
 use crate::nodes;
+use crate::trail::merge;
 use table::Node;
 
 // Whether the circle of node g is no longer than that of node h. Either answer would do: it is a matter of speed.
 fn is_shorter(next: &[u8], g: u8, h: u8) -> bool
-    requires { ⌜ Circling (now next) g × (h < length (now next)) ⌝ }
+    requires { ⌜ ((n : ℕ) × Circling n (now next) g × (h < n)) ⌝ }
 {
     let mut i = next[g as usize];
     let mut j = next[h as usize];
@@ -24,39 +23,6 @@ fn is_shorter(next: &[u8], g: u8, h: u8) -> bool
         j = next[j as usize];
     }
     i == g
-}
-
-// The nodes of one head get another: its circle is gone around.
-fn relabel(of: &mut [u8], next: &[u8], from: u8, to: u8)
-    requires { ⌜ TwoHeads (length (now of)) (now of) (now next) from to ⌝ }
-    ensures { λ r. ⌜ now (of .exit) ≡ map (renamedTo from to) (now (of .entry)) ⌝ }
-{
-    let mut i = from as usize;
-    while of[i] == from {
-        of[i] = to;
-        i = next[i] as usize;
-    }
-}
-
-// Makes one circle of two.
-fn link(next: &mut [u8], g: u8, h: u8)
-    requires { ⌜ (g < length (now next)) × (h < length (now next)) ⌝ }
-    ensures { λ r. ⌜ now (next .exit) ≡ exchanged (now (next .entry)) g h ⌝ }
-{
-    let i = g as usize;
-    let j = h as usize;
-    let after = next[i];
-    next[i] = next[j];
-    next[j] = after;
-}
-
-// Makes one class of two, whose heads are given: the first head goes.
-fn merge(of: &mut [u8], next: &mut [u8], from: u8, to: u8)
-    requires { ⌜ TwoHeads (length (now of)) (now of) (now next) from to ⌝ }
-    ensures { λ r. ⌜ (now (of .exit) ≡ map (renamedTo from to) (now (of .entry))) × Circles (length (now (of .entry))) (now (of .exit)) (now (next .exit)) ⌝ }
-{
-    relabel(of, next, from, to);
-    link(next, from, to);
 }
 
 // How strong a head is: an application stays before a variable, a closed one before an open one.
@@ -77,7 +43,7 @@ fn strength(nodes: &[u32], counts: &[u8], h: Node) -> u8
 // Whether head g goes before head h: the weaker does, and of two that are as strong that of the smaller class.
 fn goes_first(nodes: &[u32], counts: &[u8], next: &[u8], g: u8, h: u8) -> bool
     requires { ⌜ (g < nodeCount (now nodes)) × (h < nodeCount (now nodes)) × (nodeCount (now nodes) ≤ length (now counts)) ⌝ }
-    requires { ⌜ Circling (now next) g × (h < length (now next)) ⌝ }
+    requires { ⌜ Circling (nodeCount (now nodes)) (now next) g ⌝ }
     ensures { λ r. ⌜ (r ≡ true → strengthOf (now (nodes .entry)) (now (counts .entry)) g ≤ strengthOf (now (nodes .entry)) (now (counts .entry)) h) × (r ≡ false → strengthOf (now (nodes .entry)) (now (counts .entry)) h ≤ strengthOf (now (nodes .entry)) (now (counts .entry)) g) ⌝ }
 {
     let x = strength(nodes, counts, nodes::node(g));
@@ -91,8 +57,8 @@ fn goes_first(nodes: &[u32], counts: &[u8], next: &[u8], g: u8, h: u8) -> bool
 // Makes one class of two, whose heads are given.
 fn unite(nodes: &[u32], counts: &[u8], of: &mut [u8], next: &mut [u8], g: u8, h: u8)
     requires { ⌜ (length (now of) ≡ nodeCount (now nodes)) × (nodeCount (now nodes) ≤ length (now counts)) ⌝ }
-    requires { ⌜ TwoHeads (length (now of)) (now of) (now next) g h ⌝ }
-    ensures { λ r. ⌜ Goes (now (nodes .entry)) (now (counts .entry)) (now (of .entry)) g h (now (of .exit)) (now (next .exit)) ⊎ Goes (now (nodes .entry)) (now (counts .entry)) (now (of .entry)) h g (now (of .exit)) (now (next .exit)) ⌝ }
+    requires { ⌜ TwoHeads (length (now of)) (now of) (now next) g h × Trailed (length (now of)) (now of) (now next) ⌝ }
+    ensures { λ r. ⌜ Goes (now (nodes .entry)) (now (counts .entry)) (now (of .entry)) (now (next .entry)) g h (now (of .exit)) (now (next .exit)) ⊎ Goes (now (nodes .entry)) (now (counts .entry)) (now (of .entry)) (now (next .entry)) h g (now (of .exit)) (now (next .exit)) ⌝ }
 {
     if goes_first(nodes, counts, next, g, h) {
         merge(of, next, g, h);
@@ -113,7 +79,7 @@ pub fn join(
 ) -> bool
     requires { ⌜ Joinable (now nodes) (now arguments) (now counts) (now of) (now next) ⌝ }
     requires { ⌜ (a .0 < nodeCount (now nodes)) × (b .0 < nodeCount (now nodes)) ⌝ }
-    ensures { λ r. ⌜ Joins (now (nodes .entry)) (now (arguments .entry)) (now (counts .entry)) (now (of .entry)) (a .0) (b .0) r (now (of .exit)) (now (next .exit)) ⌝ }
+    ensures { λ r. ⌜ Joins (now (nodes .entry)) (now (arguments .entry)) (now (counts .entry)) (now (of .entry)) (now (next .entry)) (a .0) (b .0) r (now (of .exit)) (now (next .exit)) ⌝ }
 {
     let i = a.0 as usize;
     let j = b.0 as usize;

@@ -28,6 +28,9 @@ pub mod beginning;
 // What no pair changes: open and closed applications.
 pub mod prepared;
 
+// Joins that can be undone: `undo`.
+pub mod trail;
+
 // The classes, closed under one pair more.
 mod closure;
 

@@ -1,19 +1,16 @@
 // The classes of a list of pairs, extended by one pair more: two nodes are joined, and a cycle is looked for.
 ghost use Prim.Native.Nat.{_<_};
-ghost use mathlib.Core.Path.{_≡_};
-ghost use lib.ListN.{length};
 ghost use Rattle.table.specs.Layout.{nodeCount};
 ghost use Rattle.unification.specs.Code.Sections.{Sections};
 ghost use Rattle.unify.specs.Code.Open.{Counts};
-ghost use Rattle.unify.specs.Code.Circle.{Circles};
+ghost use Rattle.unify.specs.Code.Trail.{Trailed};
 ghost use Rattle.unify.specs.Code.Stands.{Formed, Extends};
 use crate::Extended;
-use crate::bytes::copy_bytes;
 use crate::closure;
 use crate::order;
 use table::Node;
 
-// Extends the classes of a list of pairs by the pair of a and b. They are of account only where the answer is unified.
+// Extends the classes of a list of pairs by the pair of a and b. This can be undone; what stands before that is of account only where the answer is unified.
 pub fn extend(
     nodes: &[u32],
     arguments: &[u32],
@@ -24,9 +21,9 @@ pub fn extend(
     b: Node,
 ) -> Extended
     requires { ⌜ Sections (now nodes) (now arguments) × Counts (now nodes) (now arguments) (now counts) (nodeCount (now nodes)) ⌝ }
-    requires { ⌜ Formed (now nodes) (now arguments) (now counts) (now of) × Circles (nodeCount (now nodes)) (now of) (now next) ⌝ }
+    requires { ⌜ Formed (now nodes) (now arguments) (now counts) (now of) × Trailed (nodeCount (now nodes)) (now of) (now next) ⌝ }
     requires { ⌜ (a .0 < nodeCount (now nodes)) × (b .0 < nodeCount (now nodes)) ⌝ }
-    ensures { λ r. ⌜ Extends (now (nodes .entry)) (now (arguments .entry)) (now (counts .entry)) (now (of .entry)) (a .0) (b .0) r (now (of .exit)) (now (next .exit)) ⌝ }
+    ensures { λ r. ⌜ Extends (now (nodes .entry)) (now (arguments .entry)) (now (counts .entry)) (now (of .entry)) (now (next .entry)) (a .0) (b .0) r (now (of .exit)) (now (next .exit)) ⌝ }
 {
     if !closure::join(nodes, arguments, counts, of, next, a, b) {
         return Extended::Clash;
@@ -35,27 +32,4 @@ pub fn extend(
         return Extended::Occurs;
     }
     Extended::Unified
-}
-
-// Extends a copy of the classes by the pair of a and b.
-pub fn extend_copy(
-    nodes: &[u32],
-    arguments: &[u32],
-    counts: &[u8],
-    of: &[u8],
-    next: &[u8],
-    heads: &mut [u8],
-    after: &mut [u8],
-    a: Node,
-    b: Node,
-) -> Extended
-    requires { ⌜ Sections (now nodes) (now arguments) × Counts (now nodes) (now arguments) (now counts) (nodeCount (now nodes)) ⌝ }
-    requires { ⌜ Formed (now nodes) (now arguments) (now counts) (now of) × Circles (nodeCount (now nodes)) (now of) (now next) ⌝ }
-    requires { ⌜ (length (now of) ≡ length (now heads)) × (length (now next) ≡ length (now after)) ⌝ }
-    requires { ⌜ (a .0 < nodeCount (now nodes)) × (b .0 < nodeCount (now nodes)) ⌝ }
-    ensures { λ r. ⌜ Extends (now (nodes .entry)) (now (arguments .entry)) (now (counts .entry)) (now (of .entry)) (a .0) (b .0) r (now (heads .exit)) (now (after .exit)) ⌝ }
-{
-    copy_bytes(of, heads);
-    copy_bytes(next, after);
-    extend(nodes, arguments, counts, heads, after, a, b)
 }

@@ -6,8 +6,9 @@ use mathlib.Core.Path.{_≡_}
 use lib.Dec.{leb}
 use lib.ListN.{length, take, drop, set}
 use Rattle.table.specs.Layout.{word, nodeCount}
+use Rattle.unification.specs.Outcome.{unified}
 use Rattle.unification.specs.Computed.Variables.{variablesOf}
-use Rattle.unification.specs.Computed.Unifying.{wordsOf}
+use Rattle.unification.specs.Computed.Unifying.{outcome, wordsOf}
 use Rattle.unification.specs.Code.Sections.{nodesFrom}
 use Rattle.listing.specs.Code.Branch.{pairedBy, pairsIn, widthOf}
 
@@ -35,13 +36,14 @@ pub record Pairable (words left right entry : List ℕ) (i : ℕ) : Type 0 where
   pub left-nodes : (j : ℕ) → j < length left → word left j < nodeCount words
   pub right-nodes : (j : ℕ) → j < length right → word right j < nodeCount words
 
--- In the lent words before `at`, an entry lies at a place that has the binding words of pairs with this key.
+-- In the lent words before `at`, an entry lies at a place that has the binding words of pairs with this key, which have a unifier.
 pub record Lies (words args left right : List ℕ) (key place : ℕ) (lent : List ℕ) (at : ℕ) : Type 0 where
   pub digits : List ℕ
   pub long : length digits ≡ length left
   pub positive : (j : ℕ) → j < length digits → 0 < word digits j
   pub keyed : key ≡ suc (keyOf (length right) digits)
   pub room : place + widthOf words args left right ≤ at
+  pub unifiable : outcome (nodesFrom words args) (pairedBy left right digits []) ≡ unified
   pub bound : take (length (variablesOf (nodesFrom words args))) (drop (place + (length left + length right)) lent) ≡ wordsOf (nodesFrom words args) (pairedBy left right digits [])
 
 -- What is remembered: in each slot nothing, or one more than a key, and a place.

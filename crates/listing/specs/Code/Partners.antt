@@ -10,7 +10,7 @@ use Rattle.table.specs.Some.{someBelow}
 use Rattle.table.specs.Layout.{word, nodeCount}
 use Rattle.unification.specs.Code.Sections.{Sections, nodesFrom}
 use Rattle.unify.specs.Code.Open.{Counts}
-use Rattle.unify.specs.Code.Circle.{Circles}
+use Rattle.unify.specs.Code.Trail.{Trailed}
 use Rattle.unify.specs.Code.Stands.{Formed, StandsAlways, Never}
 
 -- What trying a pair by itself needs to know: of the sections, of open and closed applications, and of the classes.
@@ -18,14 +18,14 @@ pub record Triable (words args counts cs next : List ℕ) : Type 0 where
   pub sections : Sections words args
   pub counts-right : Counts words args counts (nodeCount words)
   pub formed : Formed words args counts cs
-  pub circles : Circles (nodeCount words) cs next
+  pub trailed : Trailed (nodeCount words) cs next
   pub stands : StandsAlways words args cs
 
 -- The same of the classes, whatever the counts are, as long as these are right.
 pub record Trying (words args cs next : List ℕ) : Type 0 where
   pub sections : Sections words args
   pub formed : (counts : List ℕ) → Counts words args counts (nodeCount words) → Formed words args counts cs
-  pub circles : Circles (nodeCount words) cs next
+  pub trailed : Trailed (nodeCount words) cs next
   pub stands : StandsAlways words args cs
 
 -- A pair of terms with mark 0 has no common value.

@@ -10,7 +10,7 @@ use Rattle.unification.specs.Node.{Node}
 use Rattle.unification.specs.Outcome.{Outcome, unified, clash, occurs}
 use Rattle.unification.specs.Computed.Unifying.{outcome, wordsOf}
 use Rattle.unification.specs.Code.Sections.{nodesFrom}
-use Rattle.unify.specs.Code.Circle.{Circles}
+use Rattle.unify.specs.Code.Trail.{Trailed}
 use Rattle.unify.specs.Code.Prepared.{Prepared}
 use Rattle.unify.specs.Code.Stands.{Formed}
 use Rattle.listing.specs.declared.Labels.{Labels}
@@ -73,10 +73,19 @@ pub record Walking (words args left right : List ℕ) (labels : Labels) (known p
   pub known-right : KnownOf words args known
   pub partners : MayPair words args left right (mayIn known)
   pub formed : Formed words args known cs
-  pub circles : Circles (nodeCount words) cs next
+  pub trailed : Trailed (nodeCount words) cs next
   pub ready : Prepared words args known cs prepared
   pub standing : Standing words args left right cs entry i
   pub branching : Branching words args left right entry key weight unpaired i
+  pub remembers : Remembers words args left right memory lent at
+  pub room : at ≤ length lent
+
+-- What writing the entries of a branch needs to know: its pairs have a unifier, and their binding words stand behind the digits.
+pub record Ending (words args left right : List ℕ) (labels : Labels) (key weight unpaired i : ℕ) (entry memory lent : List ℕ) (at : ℕ) : Type 0 where
+  pub listable : Listable words args left right labels
+  pub branching : Branching words args left right entry key weight unpaired i
+  pub unifiable : outcome (nodesFrom words args) (pairsIn left right entry i) ≡ unified
+  pub bound : drop (length left + length right) entry ≡ wordsOf (nodesFrom words args) (pairsIn left right entry i)
   pub remembers : Remembers words args left right memory lent at
   pub room : at ≤ length lent
 
@@ -118,7 +127,7 @@ pub record Joining (words args left right : List ℕ) (labels : Labels) (known p
   pub known-right : KnownOf words args known
   pub partners : MayPair words args left right (mayIn known)
   pub formed : Formed words args known cs
-  pub circles : Circles (nodeCount words) cs next
+  pub trailed : Trailed (nodeCount words) cs next
   pub ready : Prepared words args known cs prepared
   pub standing : Standing words args left right cs entry i
   pub branching : Branching words args left right entry key weight unpaired (i + 1)

@@ -11,7 +11,7 @@ use Rattle.unification.specs.Computed.Classes.{classOf}
 use Rattle.unification.specs.Code.Heads.{Partition, roots, Unites}
 use Rattle.unification.specs.Code.Sections.{Sections, nodesFrom}
 use Rattle.unify.specs.Code.Open.{Counts, ClosedHeads, KeepsClosed}
-use Rattle.unify.specs.Code.Circle.{Circles}
+use Rattle.unify.specs.Code.Trail.{Trailed, Merges}
 
 -- Nodes of one class of cs are of one class of ds.
 abbrev pub Coarser : List ℕ → List ℕ → Type 0
@@ -50,13 +50,13 @@ pub record Joinable (words args counts cs next : List ℕ) : Type 0 where
   pub counts-right : Counts words args counts (nodeCount words)
   pub partition : Partition (nodeCount words) cs
   pub closed : ClosedHeads words args counts cs
-  pub circles : Circles (nodeCount words) cs next
+  pub trailed : Trailed (nodeCount words) cs next
 
 -- What joining nodes a and b comes to: the pair is done, and whatever the closure then joins, or there is a clash. Heads that are left were
 -- heads before, and closed applications keep theirs.
-pub record Joins (words args counts cs : List ℕ) (a b : ℕ) (fine : Bool) (cs′ next′ : List ℕ) : Type 0 where
+pub record Joins (words args counts cs next : List ℕ) (a b : ℕ) (fine : Bool) (cs′ next′ : List ℕ) : Type 0 where
   pub partition : Partition (nodeCount words) cs′
-  pub circles : Circles (nodeCount words) cs′ next′
+  pub merges : Merges (nodeCount words) cs next cs′ next′
   pub fewer : roots (nodeCount words) cs′ ≤ roots (nodeCount words) cs
   pub heads : (i : ℕ) → i < nodeCount words → classOf cs (classOf cs′ i) ≡ classOf cs′ i
   pub kept : KeepsClosed words counts cs cs′

@@ -19,7 +19,8 @@ use Rattle.unify.specs.declared.Variables.{Variables}
 use Rattle.unify.specs.declared.Extended.{Extended}
 use Rattle.unify.specs.declared.Extended.the-variants.{Unified, Clash, Occurs}
 use Rattle.unify.specs.Code.Open.{Counts, ClosedHeads, KeepsClosed}
-use Rattle.unify.specs.Code.Circle.{Circles, HeadsFirst}
+use Rattle.unify.specs.Code.Circle.{HeadsFirst}
+use Rattle.unify.specs.Code.Trail.{Merges}
 use Rattle.unify.specs.Code.Order.{Ordered}
 use Rattle.unify.specs.Code.Present.{variableNames, leastNodes}
 
@@ -53,13 +54,13 @@ extended Unified = unified
 extended Clash = clash
 extended Occurs = occurs
 
--- Classes cs are extended by the pair of a and b: the answer is what unifying the longer list comes to, and where that is unified,
--- classes cs′ stand for it, with their members in circles, and closed applications keep their heads.
-pub record Extends (words args counts cs : List ℕ) (a b : ℕ) (r : Extended) (cs′ next′ : List ℕ) : Type 0 where
+-- Classes cs are extended by the pair of a and b, which can be undone: the answer is what unifying the longer list comes to, and where
+-- that is unified, classes cs′ stand for it, and closed applications keep their heads.
+pub record Extends (words args counts cs next : List ℕ) (a b : ℕ) (r : Extended) (cs′ next′ : List ℕ) : Type 0 where
   pub answers : (ps : List (ℕ × ℕ)) → Stands words args cs ps → extended r ≡ outcome (nodesFrom words args) ((a, b) ∷ ps)
   pub formed : r ≡ Unified → (ps : List (ℕ × ℕ)) → Stands words args cs ps → Formed words args counts cs′
   pub stands : r ≡ Unified → (ps : List (ℕ × ℕ)) → Stands words args cs ps → Stands words args cs′ ((a, b) ∷ ps)
-  pub circles : r ≡ Unified → Circles (nodeCount words) cs′ next′
+  pub merges : Merges (nodeCount words) cs next cs′ next′
   pub kept : r ≡ Unified → KeepsClosed words counts cs cs′
 
 -- The variables present, by their least nodes.

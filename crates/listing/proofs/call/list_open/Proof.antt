@@ -15,11 +15,17 @@ slice-aggregate-list-known c = search needs
 
 list-known-requires : tie.Need-list-known-requires
 list-known-requires c κs =
-    let p = c .before .before .before .before .before .before .before .before .before .before .before .before .before .pre in
-    (p .0, (p .1 .0, (p .1 .1 .0, (filled (c .before .before .before .prepare .ensures), p .1 .1 .1))))
+    let p = c .before .before .before .before .before .before .before .before .before .before .before .before .before .before .before .before .pre in
+    (p .0, (p .1 .0, (p .1 .1 .0, (filled (c .before .before .before .before .before .prepare .ensures), p .1 .1 .1))))
 
 same-length : tie.Need-same-length
 same-length c = search needs
+
+same-length-2 : tie.Need-same-length-2
+same-length-2 c = search needs
+
+same-length-3 : tie.Need-same-length-3
+same-length-3 c = search needs
 
 returns : tie.Need-returns
 returns c = search needs
@@ -33,4 +39,6 @@ list-open-spec =
     slice-aggregate-list-known
     list-known-requires
     same-length
+    same-length-2
+    same-length-3
     returns)

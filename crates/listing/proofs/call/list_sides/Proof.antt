@@ -1,4 +1,4 @@
--- `listing::call::list_sides` meets its contract: the first parts of the arrays have a byte for each node. Assumes nothing.
+-- `listing::call::list_sides` meets its contract: the first part of the array of heads has a byte for each node. Assumes nothing.
 use mathlib.Core.Path.{refl, _∙_}
 use native.Mathlib.Omega.{arith}
 use borrow.Author.Needs.{needs}
@@ -21,25 +21,18 @@ part-of-start c = search needs
 part-of-end : tie.Need-part-of-end
 part-of-end c = search needs
 
-sub-list-with-room-2 : tie.Need-sub-list-with-room-2
-sub-list-with-room-2 c = search needs
-
-part-next-start : tie.Need-part-next-start
-part-next-start c = search needs
-
-part-next-end : tie.Need-part-next-end
-part-next-end c = search needs
-
 slice-aggregate-list-with-room : tie.Need-slice-aggregate-list-with-room
 slice-aggregate-list-with-room c = search needs
+
+slice-aggregate-list-with-room-2 : tie.Need-slice-aggregate-list-with-room-2
+slice-aggregate-list-with-room-2 c = search needs
 
 list-with-room-requires : tie.Need-list-with-room-requires
 list-with-room-requires c κs =
     let g = c .before .before .before .before .before .before .before .before .before .before .before .pre in
     let x = c .before .before .before .before .index in
     let e = x .ensures .0 ∙ c .before .before .before .before .before .node-count .ensures in
-    let l = first-long (x .result) (omega (arith, e, g .sections .limit)) ∙ e in
-    (g, (l, l, refl))
+    (g, (first-long (x .result) (omega (arith, e, g .sections .limit)) ∙ e, refl, refl))
 
 same-length : tie.Need-same-length
 same-length c = search needs
@@ -56,10 +49,8 @@ list-sides-spec =
     sub-list-with-room
     part-of-start
     part-of-end
-    sub-list-with-room-2
-    part-next-start
-    part-next-end
     slice-aggregate-list-with-room
+    slice-aggregate-list-with-room-2
     list-with-room-requires
     same-length
     returns)

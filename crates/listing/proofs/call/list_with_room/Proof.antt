@@ -1,6 +1,6 @@
--- `listing::call::list_with_room` meets its contract: the counts stay where what is known is completed, so that the classes begun with serve for it
--- too, and where no argument is looked at, nothing has to be prepared. Assumes nothing.
-use mathlib.Core.Path.{refl, sym, ap, _∙_}
+-- `listing::call::list_with_room` meets its contract: the counts and the classes stay where what is known is completed, so that the classes begun with
+-- serve for it too, and where no argument is looked at, nothing has to be prepared. Assumes nothing.
+use mathlib.Core.Path.{refl, ap, _∙_}
 use native.Mathlib.Omega.{arith}
 use borrow.Author.Needs.{needs}
 use lib.ListN.{length}
@@ -22,15 +22,14 @@ same-length : tie.Need-same-length
 same-length c = search needs
 
 returns : tie.Need-returns
-returns c =
-    written-empty _ _ (all-empty _ _ _ (c .before .before .before .before .begin-shared .ensures .lists) (c .if1 .taken))
+returns c = written-empty _ _ (all-empty _ _ _ (c .before .before .before .before .begin-shared .ensures .lists) (c .if1 .taken))
 
 make-circles-requires : tie.Need-make-circles-requires
 make-circles-requires c κs =
     let p = c .before .before .before .before .before .before .before .before .before .before .before .before .before .before .before .before .pre in
-    let b = c .before .before .before .before .before .before .begin-shared .ensures in
-    let e = c .before .before .before .before .before .before .begin-shared .kept .1 .1 .0 ∙ p .1 .0 in
-    (p .1 .1 ∙ sym e, rw e (b .first), begun-few (p .0) b e)
+    let b = c .before .before .before .before .before .before .begin-shared in
+    let e = b .kept .1 .1 .0 ∙ p .1 .0 in
+    (p .1 .1, rw e (b .ensures .first), begun-few (p .0) (b .ensures) e)
 
 begin-known-requires : tie.Need-begin-known-requires
 begin-known-requires c κs =
@@ -56,17 +55,17 @@ complete-known-requires c κs =
 
 list-open-requires : tie.Need-list-open-requires
 list-open-requires c κs =
-    let p = c .before .before .before .before .before .before .before .before .before .before .before .before .before .before .before .before .before .before .before .before .before .before .before .before .before .before .before .before .before .before .before .before .before .before .before .before .pre in
-    let b = c .before .before .before .before .before .before .before .before .before .before .before .before .before .before .before .before .before .before .before .before .before .before .before .before .before .before .begin-shared in
+    let p = c .before .before .before .before .before .before .before .before .before .before .before .before .before .before .before .before .before .before .before .before .before .before .before .before .before .before .before .before .before .before .before .before .before .before .before .before .before .before .before .before .pre in
+    let b = c .before .before .before .before .before .before .before .before .before .before .before .before .before .before .before .before .before .before .before .before .before .before .before .before .before .before .before .before .before .before .begin-shared in
     let e = b .kept .1 .1 .0 ∙ p .1 .0 in
-    let k = c .before .before .before .before .before .before .before .complete-known .ensures in
-    (p .0, (k .0, (begun-classes (p .0) (b .ensures) e (k .0 .0) (c .before .before .before .before .before .before .before .before .before .before .before .before .before .before .before .before .before .before .before .make-circles .ensures), (begun-width (p .0) (b .ensures), omega (arith, c .before .before .before .before .before .before .before .before .before .before .before .before .before .before .before .before .before .before .before .before .before .before .if1 .left)))))
+    let k = c .before .before .before .before .before .before .before .before .before .before .before .complete-known .ensures in
+    (p .0, (k .0, (rw (k .1 .1 .0, k .1 .1 .1) (begun-classes (p .0) (b .ensures) e (k .0 .0) (c .before .before .before .before .before .before .before .before .before .before .before .before .before .before .before .before .before .before .before .before .before .before .before .make-circles .ensures)), (begun-width (p .0) (b .ensures), omega (arith, c .before .before .before .before .before .before .before .before .before .before .before .before .before .before .before .before .before .before .before .before .before .before .before .before .before .before .if1 .left)))))
 
 same-length-2 : tie.Need-same-length-2
-same-length-2 c = c .before .before .before .before .before .before .before .before .before .before .before .before .before .before .before .before .before .before .before .before .before .before .before .before .before .before .before .before .before .begin-shared .kept .1 .1 .0
+same-length-2 c = c .before .before .before .before .before .before .list-open .kept .1 .1 .1 .1 .1 .1 .0 ∙ c .before .before .before .before .before .before .before .before .before .before .before .before .before .before .before .before .before .before .complete-known .kept .1 .1 .1 .1 .1 .1 .0 ∙ c .before .before .before .before .before .before .before .before .before .before .before .before .before .before .before .before .before .before .before .before .before .before .before .before .before .before .before .before .before .before .before .before .before .before .before .before .before .begin-shared .kept .1 .1 .0
 
 same-length-3 : tie.Need-same-length-3
-same-length-3 c = search needs
+same-length-3 c = c .before .before .before .before .before .before .list-open .kept .1 .1 .1 .1 .1 .1 .1 .0 ∙ c .before .before .before .before .before .before .before .before .before .before .before .before .before .before .before .before .before .before .complete-known .kept .1 .1 .1 .1 .1 .1 .1 .0 ∙ c .before .before .before .before .before .before .before .before .before .before .before .before .before .before .before .before .before .before .before .before .before .before .before .before .before .before .before .before .before .before .make-circles .kept .1 .0
 
 same-length-4 : tie.Need-same-length-4
 same-length-4 c = search needs
@@ -88,18 +87,18 @@ part-list-known-end c = search needs
 
 list-known-requires : tie.Need-list-known-requires
 list-known-requires c κs =
-    let p = c .before .before .before .before .before .before .before .before .before .before .before .before .before .before .before .before .before .before .before .before .before .before .before .before .before .before .before .before .before .before .before .before .before .before .before .before .before .before .pre in
-    let b = c .before .before .before .before .before .before .before .before .before .before .before .before .before .before .before .before .before .before .before .before .before .before .before .before .before .before .before .before .begin-shared in
+    let p = c .before .before .before .before .before .before .before .before .before .before .before .before .before .before .before .before .before .before .before .before .before .before .before .before .before .before .before .before .before .before .before .before .before .before .before .before .before .before .before .before .before .before .pre in
+    let b = c .before .before .before .before .before .before .before .before .before .before .before .before .before .before .before .before .before .before .before .before .before .before .before .before .before .before .before .before .before .before .before .before .begin-shared in
     let e = b .kept .1 .1 .0 ∙ p .1 .0 in
-    let n = c .before .before .before .before .before .before .before .before .before .before .before .before .before .before .before .before .before .begin-known .ensures in
-    let k = c .before .before .before .before .before .before .before .before .before .complete-known .ensures in
-    (p .0, (k .0, (begun-classes (p .0) (b .ensures) e (k .0 .0) (c .before .before .before .before .before .before .before .before .before .before .before .before .before .before .before .before .before .before .before .before .before .make-circles .ensures), (nothing refl (λ i h. k .1 i h ∙ n .1 .0 (c .before .before .before .before .before .before .if2 .left) i h), (begun-width (p .0) (b .ensures), omega (arith, c .before .before .before .before .before .before .before .before .before .before .before .before .before .before .before .before .before .before .before .before .before .before .before .before .if1 .left))))))
+    let n = c .before .before .before .before .before .before .before .before .before .before .before .before .before .before .before .before .before .before .before .before .before .begin-known .ensures in
+    let k = c .before .before .before .before .before .before .before .before .before .before .before .before .before .complete-known .ensures in
+    (p .0, (k .0, (rw (k .1 .1 .0, k .1 .1 .1) (begun-classes (p .0) (b .ensures) e (k .0 .0) (c .before .before .before .before .before .before .before .before .before .before .before .before .before .before .before .before .before .before .before .before .before .before .before .before .before .make-circles .ensures)), (nothing refl (λ i h. k .1 .0 i h ∙ n .1 .0 (c .before .before .before .before .before .before .if2 .left) i h), (begun-width (p .0) (b .ensures), omega (arith, c .before .before .before .before .before .before .before .before .before .before .before .before .before .before .before .before .before .before .before .before .before .before .before .before .before .before .before .before .if1 .left))))))
 
 same-length-6 : tie.Need-same-length-6
-same-length-6 c = c .before .before .before .before .before .before .before .before .before .before .before .before .before .before .before .before .before .before .before .before .before .before .before .before .before .before .before .before .before .before .before .begin-shared .kept .1 .1 .0
+same-length-6 c = c .before .before .before .before .before .before .list-known .kept .1 .1 .1 .1 .1 .1 .1 .0 ∙ c .before .before .before .before .before .before .before .before .before .before .before .before .before .before .before .before .before .before .before .before .complete-known .kept .1 .1 .1 .1 .1 .1 .0 ∙ c .before .before .before .before .before .before .before .before .before .before .before .before .before .before .before .before .before .before .before .before .before .before .before .before .before .before .before .before .before .before .before .before .before .before .before .before .before .before .before .begin-shared .kept .1 .1 .0
 
 same-length-7 : tie.Need-same-length-7
-same-length-7 c = search needs
+same-length-7 c = c .before .before .before .before .before .before .list-known .kept .1 .1 .1 .1 .1 .1 .1 .1 .0 ∙ c .before .before .before .before .before .before .before .before .before .before .before .before .before .before .before .before .before .before .before .before .complete-known .kept .1 .1 .1 .1 .1 .1 .1 .0 ∙ c .before .before .before .before .before .before .before .before .before .before .before .before .before .before .before .before .before .before .before .before .before .before .before .before .before .before .before .before .before .before .before .before .make-circles .kept .1 .0
 
 same-length-8 : tie.Need-same-length-8
 same-length-8 c = search needs

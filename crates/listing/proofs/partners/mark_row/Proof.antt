@@ -11,11 +11,11 @@ use Rattle.listing.proofs.partners.mark_row.Statement.{statement}
 use Rattle.listing.proofs.partners.mark_row.Tie as tie
 
 abbrev Inv-loop : tie.InvT-loop
-Inv-loop nodes arguments left right of next known₀ i a j₀ known j =
-    (j ≤ length right) × PairsKnown nodes arguments left right known × KeepsCounts nodes known₀ known × (length known ≡ length known₀)
+Inv-loop nodes arguments left right of₀ next₀ known₀ i a j₀ of next known j =
+    (j ≤ length right) × PairsKnown nodes arguments left right known × KeepsCounts nodes known₀ known × (length known ≡ length known₀) × (of ≡ of₀) × (next ≡ next₀)
 
 abbrev μ-loop : tie.MeasureT-loop
-μ-loop nodes arguments left right of next known₀ i a j₀ known j = length right - j
+μ-loop nodes arguments left right of₀ next₀ known₀ i a j₀ of next known j = length right - j
 
 node-at-requires : tie.Need-node-at-requires Inv-loop μ-loop
 node-at-requires c κs = search needs
@@ -28,9 +28,10 @@ node-at-requires-2 c κs = search needs
 
 pair-mark-requires : tie.Need-pair-mark-requires Inv-loop μ-loop
 pair-mark-requires c κs =
-    let p = c .before .before .before .before .before .before .before .before .before .before .before .before .pre in
+    let p = c .before .before .before .before .before .before .before .before .before .before .before .before .before .before .pre in
     let l = p .0 in
-    (triable (p .1 .0) (c .before .before .before .loop .inv .1 .counts), (rw (c .before .before .before .before .node-at .ensures) (l .left-nodes _ (p .1 .1 .1)), rw (c .before .node-at2 .ensures) (l .right-nodes _ (c .before .before .loop-test .taken))))
+    let i = c .before .before .before .before .before .loop .inv in
+    (rw (i .4, i .5) (triable (p .1 .0) (i .1 .counts)), (rw (c .before .before .before .before .before .before .node-at .ensures) (l .left-nodes _ (p .1 .1 .1)), rw (c .before .before .before .node-at2 .ensures) (l .right-nodes _ (c .before .before .before .before .loop-test .taken))))
 
 mul-known : tie.Need-mul-known Inv-loop μ-loop
 mul-known c = search needs
@@ -52,17 +53,25 @@ loop-less c = search needs
 
 loop-again : tie.Need-loop-again Inv-loop μ-loop
 loop-again c =
-    let p = c .before .before .before .before .before .before .before .before .before .before .before .before .before .pre in
-    let l = c .before .before .before .before .loop in
-    let r = c .pair-mark in
-    let t = c .before .before .before .loop-test .taken in
-    (search needs, mark-known (p .0) (l .inv .1) _ (l .j) (r .result) (p .1 .1 .1) t (c .before .before .before .before .before .node-at .ensures) (c .before .before .node-at2 .ensures) (r .ensures), (λ q h. mark-keeps (p .0) (l .inv .1) _ (l .j) (r .result) (p .1 .1 .1) t q h ∙ l .inv .2 q h), length-set (l .known) _ (r .result) ∙ l .inv .3)
+    let p = c .before .before .before .before .before .before .before .before .before .before .before .before .before .before .before .before .before .before .before .pre in
+    let l = c .before .before .before .before .before .before .before .before .before .before .loop in
+    let r = c .before .before .before .before .pair-mark in
+    let t = c .before .before .before .before .before .before .before .before .before .loop-test .taken in
+    (search needs, mark-known (p .0) (l .inv .1) _ (l .j) (r .result) (p .1 .1 .1) t (c .before .before .before .before .before .before .before .before .before .before .before .node-at .ensures) (c .before .before .before .before .before .before .before .before .node-at2 .ensures) (r .ensures .0), (λ q h. mark-keeps (p .0) (l .inv .1) _ (l .j) (r .result) (p .1 .1 .1) t q h ∙ l .inv .2 q h), length-set (l .known) _ (r .result) ∙ l .inv .3, r .ensures .1 .0 ∙ l .inv .4, r .ensures .1 .1 ∙ l .inv .5)
 
 same-length : tie.Need-same-length Inv-loop μ-loop
 same-length c = search needs
 
+same-length-2 : tie.Need-same-length-2 Inv-loop μ-loop
+same-length-2 c = search needs
+
+same-length-3 : tie.Need-same-length-3 Inv-loop μ-loop
+same-length-3 c = search needs
+
 returns : tie.Need-returns Inv-loop μ-loop
-returns c = search needs
+returns c =
+    let i = c .before .loop .inv in
+    (i .1, (i .2, (i .4, i .5)))
 
 pub mark-row-spec : {M : Type 1} → statement M
 mark-row-spec =
@@ -82,4 +91,6 @@ mark-row-spec =
     loop-less
     loop-again
     same-length
+    same-length-2
+    same-length-3
     returns)

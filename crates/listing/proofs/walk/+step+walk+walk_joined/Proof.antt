@@ -1,15 +1,14 @@
 -- The proof of the cycle of calls {step, walk, walk_joined}. Each way round hands the branch on with one left term less to go, so the measure falls.
 -- Each way through the code is a law of the definition that mirrors it. Assumes nothing.
 use Prim.Native.Nat.{ℕ, suc, _<_, _+_, _*_, _-_}
-use mathlib.Core.Path.{_≡_, refl, sym, _∙_}
+use mathlib.Core.Logic.{⊎-elim}
+use mathlib.Core.Path.{_≡_, refl, sym, ap, _∙_}
 use native.Mathlib.Omega.{arith}
 use borrow.Author.Needs.{needs}
-use borrow.Rule.Slice.PartMut.{postOf}
-use lib.ListN.{length, replicate, length-set}
-use lib.Seq.{take-at}
-use Rattle.table.specs.Limits.{maxTerms, maxNodes}
+use lib.ListN.{length, length-set}
+use Rattle.table.specs.Limits.{maxTerms}
 use Rattle.listing.specs.Code.Walk.{Turning}
-use Rattle.listing.proofs.WalkLaws.{part-reach, ending, going-on, hopeless-walked, stuck-room, stuck-walked, weight-room, pair-room, key-room, placed-next, placed-stepped, refused-stepped, unpaired-some, mark-inside, joining, joined-stepped, turning-first, turning-walking, turning-next, turning-full, turning-done, same-next, same-joined, heads-few, heads-room, circles-room, heads-long, clash-joined, occurs-joined, joined-next, unified-joined}
+use Rattle.listing.proofs.WalkLaws.{written-as, ending, going-on, hopeless-walked, stuck-room, stuck-walked, weight-room, pair-room, key-room, placed-next, placed-stepped, refused-stepped, unpaired-some, mark-inside, joining, joined-stepped, turning-first, turning-walking, turning-next, turning-full, turning-done, joined-key-room, kept-ending, kept-key, kept-joined, mark-room, same-next, same-joined, clash-joined, occurs-joined, joined-next, unified-joined, joins-since, joins-undone}
 use borrow.Fn.Kinds.{In}
 use borrow.Fn.PlainCycle.{Measures, is, falls, and}
 use Rattle.listing.proofs.walk.step.Reads as step
@@ -22,7 +21,10 @@ use Rattle.listing.proofs.walk.walk_joined.Reads as walk-joined
 use Rattle.listing.proofs.walk.walk_joined.Kinds as walk-joined-kinds
 use Rattle.listing.proofs.walk.+step+walk+walk_joined.Lts-walk_joined as walk-joined-lts
 use Rattle.listing.proofs.partners.stuck.Reads as stuck-reads
-use Rattle.unify.proofs.settle.extend_copy.Reads as extend-copy-reads
+use Rattle.listing.proofs.memory.is_kept.Reads as is-kept-reads
+use Rattle.listing.proofs.walk.write_kept.Reads as write-kept-reads
+use Rattle.unify.proofs.settle.extend.Reads as extend-reads
+use Rattle.unify.proofs.trail.undo.Reads as undo-reads
 use Rattle.listing.proofs.walk.hopeless.Reads as hopeless-reads
 use Rattle.listing.proofs.walk.write_branch.Reads as write-branch-reads
 use Rattle.table.proofs.layout.node_at.Reads as node-at-reads
@@ -66,7 +68,7 @@ abbrev walk-claims : ℕ → walk-lts.Claims
 walk-claims t = (hopeless-reads.Asked, hopeless-reads.Learnt, write-branch-reads.Asked, write-branch-reads.Learnt, stuck-reads.Asked, stuck-reads.Learnt, step-below t, step.Post)
 
 abbrev walk-joined-claims : ℕ → walk-joined-lts.Claims
-walk-joined-claims t = (extend-copy-reads.Asked, extend-copy-reads.Learnt, walk-below t, walk.Post)
+walk-joined-claims t = (is-kept-reads.Asked, is-kept-reads.Learnt, write-kept-reads.Asked, write-kept-reads.Learnt, extend-reads.Asked, extend-reads.Learnt, walk-below t, walk.Post, undo-reads.Asked, undo-reads.Learnt)
 
 step-cast-entry : (t : ℕ) → step-lts.Need-cast-entry (step-claims t) (step-at t) step.Post
 step-cast-entry t c =
@@ -87,40 +89,46 @@ step-slice-write-entry t c =
 
 step-mul-walk : (t : ℕ) → step-lts.Need-mul-walk (step-claims t) (step-at t) step.Post
 step-mul-walk t c =
-    let s = c .before .before .before .before .before .before .before .before .before .before .before .before in
+    let s = c .before .before .before .before .before .before .before .before .before .before .before .before .before .before in
     let g = s .pre .1 .0 in
     let r = s .pre .1 .1 in
     omega (arith, weight-room g (r .0))
 
 step-add-walk : (t : ℕ) → step-lts.Need-add-walk (step-claims t) (step-at t) step.Post
 step-add-walk t c =
-    let s = c .before .before .before .before .before .before .before .before .before .before .before .before in
+    let s = c .before .before .before .before .before .before .before .before .before .before .before .before .before .before in
     let g = s .pre .1 .0 in
     let r = s .pre .1 .1 in
     omega (arith, r .0, g .listable .left-few)
 
 step-walk-requires : (t : ℕ) → step-lts.Need-walk-requires (step-claims t) (step-at t) step.Post
 step-walk-requires t c κs =
-    let s = c .before .before .before .before .before .before .before .before .before .before .before .before .before .before .before in
+    let s = c .before .before .before .before .before .before .before .before .before .before .before .before .before .before .before .before .before in
     let g = s .pre .1 .0 in
     let r = s .pre .1 .1 in
-    (omega (arith, s .pre .0, r .0), placed-next g (r .0) (r .1) (c .before .before .before .if1 .taken))
+    (omega (arith, s .pre .0, r .0), placed-next g (r .0) (r .1) (c .before .before .before .before .before .if1 .taken))
 
 step-same-length : (t : ℕ) → step-lts.Need-same-length (step-claims t) (step-at t) step.Post
-step-same-length t c = c .before .before .before .before .before .before .walk .ensures .size ∙ simp length-set
+step-same-length t c = search needs
 
 step-same-length-2 : (t : ℕ) → step-lts.Need-same-length-2 (step-claims t) (step-at t) step.Post
 step-same-length-2 t c = search needs
 
 step-same-length-3 : (t : ℕ) → step-lts.Need-same-length-3 (step-claims t) (step-at t) step.Post
-step-same-length-3 t c = search needs
+step-same-length-3 t c = c .before .before .before .before .before .before .before .before .before .before .walk .ensures .0 .size ∙ simp length-set
+
+step-same-length-4 : (t : ℕ) → step-lts.Need-same-length-4 (step-claims t) (step-at t) step.Post
+step-same-length-4 t c = search needs
+
+step-same-length-5 : (t : ℕ) → step-lts.Need-same-length-5 (step-claims t) (step-at t) step.Post
+step-same-length-5 t c = search needs
 
 step-returns : (t : ℕ) → step-lts.Need-returns (step-claims t) (step-at t) step.Post
 step-returns t c =
-    let s = c .before .before .before .before .before .before .before .before .before .before .before .before .before .before .before .before .before .before .before .before .before .before in
+    let s = c .before .before .before .before .before .before .before .before .before .before .before .before .before .before .before .before .before .before .before .before .before .before .before .before .before .before .before .before in
     let g = s .pre .1 .0 in
     let r = s .pre .1 .1 in
-    placed-stepped g (r .0) (r .1) (c .before .before .before .before .before .before .before .before .before .before .if1 .taken) (c .before .before .before .before .before .before .walk .ensures)
+    (placed-stepped g (r .0) (r .1) (c .before .before .before .before .before .before .before .before .before .before .before .before .before .before .before .before .if1 .taken) (c .before .before .before .before .before .before .before .before .before .before .walk .ensures .0), c .before .before .before .before .before .before .before .before .before .before .walk .ensures .1)
 
 step-add-p : (t : ℕ) → step-lts.Need-add-p (step-claims t) (step-at t) step.Post
 step-add-p t c =
@@ -187,7 +195,7 @@ step-returns-2 t c =
     let g = s .pre .1 .0 in
     let r = s .pre .1 .1 in
     let l = c .before .before .before .if1 .left in
-    refused-stepped g (r .0) (r .1) (omega (arith, l)) _ refl (256 + maxTerms * s .args .i + s .args .d - 1) (omega (arith, r .1)) (c .if2 .taken)
+    (refused-stepped g (r .0) (r .1) (omega (arith, l)) _ refl (256 + maxTerms * s .args .i + s .args .d - 1) (omega (arith, r .1)) (c .if2 .taken), (refl, refl))
 
 step-node-at-requires : (t : ℕ) → step-lts.Need-node-at-requires (step-claims t) (step-at t) step.Post
 step-node-at-requires t c κs =
@@ -240,8 +248,8 @@ step-slice-write-entry-3 t c =
 step-cast-if3 : (t : ℕ) → step-lts.Need-cast-if3 (step-claims t) (step-at t) step.Post
 step-cast-if3 t c = search needs
 
-step-shared-slice-read-if3 : (t : ℕ) → step-lts.Need-shared-slice-read-if3 (step-claims t) (step-at t) step.Post
-step-shared-slice-read-if3 t c =
+step-slice-read-if3 : (t : ℕ) → step-lts.Need-slice-read-if3 (step-claims t) (step-at t) step.Post
+step-slice-read-if3 t c =
     let s = c .before .before .before .before .before .before .before .before .before .before .before .before .before .before .before .before .before .before .before in
     let g = s .pre .1 .0 in
     let r = s .pre .1 .1 in
@@ -250,8 +258,8 @@ step-shared-slice-read-if3 t c =
 step-cast-if3-2 : (t : ℕ) → step-lts.Need-cast-if3-2 (step-claims t) (step-at t) step.Post
 step-cast-if3-2 t c = search needs
 
-step-shared-slice-read-if3-2 : (t : ℕ) → step-lts.Need-shared-slice-read-if3-2 (step-claims t) (step-at t) step.Post
-step-shared-slice-read-if3-2 t c =
+step-slice-read-if3-2 : (t : ℕ) → step-lts.Need-slice-read-if3-2 (step-claims t) (step-at t) step.Post
+step-slice-read-if3-2 t c =
     let s = c .before .before .before .before .before .before .before .before .before .before .before .before .before .before .before .before .before .before .before .before .before in
     let g = s .pre .1 .0 in
     let r = s .pre .1 .1 in
@@ -260,160 +268,172 @@ step-shared-slice-read-if3-2 t c =
 
 step-mul-walk-2 : (t : ℕ) → step-lts.Need-mul-walk-2 (step-claims t) (step-at t) step.Post
 step-mul-walk-2 t c =
-    let s = c .before .before .before .before .before .before .before .before .before .before .before .before .before .before .before .before .before .before .before .before .before .before in
+    let s = c .before .before .before .before .before .before .before .before .before .before .before .before .before .before .before .before .before .before .before .before .before .before .before .before in
     let g = s .pre .1 .0 in
     let r = s .pre .1 .1 in
-    let l = c .before .before .before .before .before .before .before .before .before .before .if1 .left in
+    let l = c .before .before .before .before .before .before .before .before .before .before .before .before .if1 .left in
     omega (arith, pair-room g (r .0) (s .args .d) (omega (arith, l)))
 
 step-add-walk-2 : (t : ℕ) → step-lts.Need-add-walk-2 (step-claims t) (step-at t) step.Post
 step-add-walk-2 t c =
-    let s = c .before .before .before .before .before .before .before .before .before .before .before .before .before .before .before .before .before .before .before .before .before .before in
+    let s = c .before .before .before .before .before .before .before .before .before .before .before .before .before .before .before .before .before .before .before .before .before .before .before .before in
     let g = s .pre .1 .0 in
     let r = s .pre .1 .1 in
-    let l = c .before .before .before .before .before .before .before .before .before .before .if1 .left in
+    let l = c .before .before .before .before .before .before .before .before .before .before .before .before .if1 .left in
     omega (arith, key-room g (r .0), pair-room g (r .0) (s .args .d) (omega (arith, l)))
 
 step-mul-walk-3 : (t : ℕ) → step-lts.Need-mul-walk-3 (step-claims t) (step-at t) step.Post
 step-mul-walk-3 t c =
-    let s = c .before .before .before .before .before .before .before .before .before .before .before .before .before .before .before .before .before .before .before .before .before .before in
+    let s = c .before .before .before .before .before .before .before .before .before .before .before .before .before .before .before .before .before .before .before .before .before .before .before .before in
     let g = s .pre .1 .0 in
     let r = s .pre .1 .1 in
     omega (arith, weight-room g (r .0))
 
 step-sub-walk : (t : ℕ) → step-lts.Need-sub-walk (step-claims t) (step-at t) step.Post
 step-sub-walk t c =
-    let s = c .before .before .before .before .before .before .before .before .before .before .before .before .before .before .before .before .before .before .before .before .before .before in
+    let s = c .before .before .before .before .before .before .before .before .before .before .before .before .before .before .before .before .before .before .before .before .before .before .before .before in
     let g = s .pre .1 .0 in
     let r = s .pre .1 .1 in
-    let l = c .before .before .before .before .before .before .before .before .before .before .if1 .left in
-    unpaired-some g (r .0) (r .1) (omega (arith, l)) _ refl (256 + maxTerms * s .args .i + s .args .d - 1) (c .before .before .before .before .before .before .before .if2 .left)
+    let l = c .before .before .before .before .before .before .before .before .before .before .before .before .if1 .left in
+    unpaired-some g (r .0) (r .1) (omega (arith, l)) _ refl (256 + maxTerms * s .args .i + s .args .d - 1) (c .before .before .before .before .before .before .before .before .before .if2 .left)
 
 step-add-walk-3 : (t : ℕ) → step-lts.Need-add-walk-3 (step-claims t) (step-at t) step.Post
 step-add-walk-3 t c =
-    let s = c .before .before .before .before .before .before .before .before .before .before .before .before .before .before .before .before .before .before .before .before .before .before in
+    let s = c .before .before .before .before .before .before .before .before .before .before .before .before .before .before .before .before .before .before .before .before .before .before .before .before in
     let g = s .pre .1 .0 in
     let r = s .pre .1 .1 in
     omega (arith, r .0, g .listable .left-few)
 
 step-walk-requires-2 : (t : ℕ) → step-lts.Need-walk-requires-2 (step-claims t) (step-at t) step.Post
 step-walk-requires-2 t c κs =
-    let s = c .before .before .before .before .before .before .before .before .before .before .before .before .before .before .before .before .before .before .before .before .before .before .before .before .before in
+    let s = c .before .before .before .before .before .before .before .before .before .before .before .before .before .before .before .before .before .before .before .before .before .before .before .before .before .before .before in
     let g = s .pre .1 .0 in
     let r = s .pre .1 .1 in
-    let l = c .before .before .before .before .before .before .before .before .before .before .before .before .before .if1 .left in
-    (omega (arith, s .pre .0, r .0), same-next (joining g (r .0) (r .1) (omega (arith, l)) _ refl (256 + maxTerms * s .args .i + s .args .d - 1) (c .before .before .before .before .before .before .before .before .before .before .if2 .left) (c .before .before .before .before .before .before .before .before .before .node-at .ensures) (c .before .before .before .before .before .before .before .before .node-at2 .ensures)) (c .before .before .before .if3 .taken))
+    let l = c .before .before .before .before .before .before .before .before .before .before .before .before .before .before .before .if1 .left in
+    (omega (arith, s .pre .0, r .0), same-next (joining g (r .0) (r .1) (omega (arith, l)) _ refl (256 + maxTerms * s .args .i + s .args .d - 1) (c .before .before .before .before .before .before .before .before .before .before .before .before .if2 .left) (c .before .before .before .before .before .before .before .before .before .before .before .node-at .ensures) (c .before .before .before .before .before .before .before .before .before .before .node-at2 .ensures)) (c .before .before .before .before .before .if3 .taken))
 
 step-mul-entry-4 : (t : ℕ) → step-lts.Need-mul-entry-4 (step-claims t) (step-at t) step.Post
 step-mul-entry-4 t c =
-    let s = c .before .before .before .before .before .before .before .before .before .before .before .before .before .before .before .before .before .before .before .before .before .before .before .before .before .before .before .before .before .before .before .before in
+    let s = c .before .before .before .before .before .before .before .before .before .before .before .before .before .before .before .before .before .before .before .before .before .before .before .before .before .before .before .before .before .before .before .before .before .before .before .before .before .before in
     let g = s .pre .1 .0 in
     let r = s .pre .1 .1 in
-    omega (arith, c .before .before .before .before .before .before .before .before .before .before .before .before .before .before .before .before .before .before .before .before .if1 .left, g .listable .left-few, g .listable .right-few)
+    omega (arith, c .before .before .before .before .before .before .before .before .before .before .before .before .before .before .before .before .before .before .before .before .before .before .before .before .before .before .if1 .left, g .listable .left-few, g .listable .right-few)
 
 step-slice-write-entry-4 : (t : ℕ) → step-lts.Need-slice-write-entry-4 (step-claims t) (step-at t) step.Post
 step-slice-write-entry-4 t c =
-    let s = c .before .before .before .before .before .before .before .before .before .before .before .before .before .before .before .before .before .before .before .before .before .before .before .before .before .before .before .before .before .before .before .before in
+    let s = c .before .before .before .before .before .before .before .before .before .before .before .before .before .before .before .before .before .before .before .before .before .before .before .before .before .before .before .before .before .before .before .before .before .before .before .before .before .before in
     let g = s .pre .1 .0 in
     let r = s .pre .1 .1 in
-    let l = c .before .before .before .before .before .before .before .before .before .before .before .before .before .before .before .before .before .before .before .before .if1 .left in
-    mark-inside g (r .0) (r .1) (omega (arith, l)) _ refl (256 + maxTerms * s .args .i + s .args .d - 1) (c .before .before .before .before .before .before .before .before .before .before .before .before .before .before .before .before .before .if2 .left) (c .before .before .before .before .before .before .walk2 .ensures)
-
-step-same-length-4 : (t : ℕ) → step-lts.Need-same-length-4 (step-claims t) (step-at t) step.Post
-step-same-length-4 t c = simp length-set (c .before .before .before .before .before .before .walk2 .ensures .size ∙ simp length-set)
-
-step-same-length-5 : (t : ℕ) → step-lts.Need-same-length-5 (step-claims t) (step-at t) step.Post
-step-same-length-5 t c = search needs
+    let l = c .before .before .before .before .before .before .before .before .before .before .before .before .before .before .before .before .before .before .before .before .before .before .before .before .before .before .if1 .left in
+    mark-inside g (r .0) (r .1) (omega (arith, l)) _ refl (256 + maxTerms * s .args .i + s .args .d - 1) (c .before .before .before .before .before .before .before .before .before .before .before .before .before .before .before .before .before .before .before .before .before .before .before .if2 .left) (c .before .before .before .before .before .before .before .before .before .before .walk2 .ensures .0)
 
 step-same-length-6 : (t : ℕ) → step-lts.Need-same-length-6 (step-claims t) (step-at t) step.Post
 step-same-length-6 t c = search needs
 
+step-same-length-7 : (t : ℕ) → step-lts.Need-same-length-7 (step-claims t) (step-at t) step.Post
+step-same-length-7 t c = search needs
+
+step-same-length-8 : (t : ℕ) → step-lts.Need-same-length-8 (step-claims t) (step-at t) step.Post
+step-same-length-8 t c = simp length-set (c .before .before .before .before .before .before .before .before .before .before .walk2 .ensures .0 .size ∙ simp length-set)
+
+step-same-length-9 : (t : ℕ) → step-lts.Need-same-length-9 (step-claims t) (step-at t) step.Post
+step-same-length-9 t c = search needs
+
+step-same-length-10 : (t : ℕ) → step-lts.Need-same-length-10 (step-claims t) (step-at t) step.Post
+step-same-length-10 t c = search needs
+
 step-returns-3 : (t : ℕ) → step-lts.Need-returns-3 (step-claims t) (step-at t) step.Post
 step-returns-3 t c =
-    let s = c .before .before .before .before .before .before .before .before .before .before .before .before .before .before .before .before .before .before .before .before .before .before .before .before .before .before .before .before .before .before .before .before in
+    let s = c .before .before .before .before .before .before .before .before .before .before .before .before .before .before .before .before .before .before .before .before .before .before .before .before .before .before .before .before .before .before .before .before .before .before .before .before .before .before in
     let g = s .pre .1 .0 in
     let r = s .pre .1 .1 in
-    let l = c .before .before .before .before .before .before .before .before .before .before .before .before .before .before .before .before .before .before .before .before .if1 .left in
-    let j = (joining g (r .0) (r .1) (omega (arith, l)) _ refl (256 + maxTerms * s .args .i + s .args .d - 1) (c .before .before .before .before .before .before .before .before .before .before .before .before .before .before .before .before .before .if2 .left) (c .before .before .before .before .before .before .before .before .before .before .before .before .before .before .before .before .node-at .ensures) (c .before .before .before .before .before .before .before .before .before .before .before .before .before .before .before .node-at2 .ensures)) in
-    joined-stepped g (r .0) (r .1) (omega (arith, l)) _ refl (256 + maxTerms * s .args .i + s .args .d - 1) (c .before .before .before .before .before .before .before .before .before .before .before .before .before .before .before .before .before .if2 .left) (c .before .before .before .before .before .before .before .before .before .before .before .before .before .before .before .before .node-at .ensures) (c .before .before .before .before .before .before .before .before .before .before .before .before .before .before .before .node-at2 .ensures) refl (same-joined j (c .before .before .before .before .before .before .before .before .before .before .if3 .taken) (c .before .before .before .before .before .before .walk2 .ensures))
+    let l = c .before .before .before .before .before .before .before .before .before .before .before .before .before .before .before .before .before .before .before .before .before .before .before .before .before .before .if1 .left in
+    let j = (joining g (r .0) (r .1) (omega (arith, l)) _ refl (256 + maxTerms * s .args .i + s .args .d - 1) (c .before .before .before .before .before .before .before .before .before .before .before .before .before .before .before .before .before .before .before .before .before .before .before .if2 .left) (c .before .before .before .before .before .before .before .before .before .before .before .before .before .before .before .before .before .before .before .before .before .before .node-at .ensures) (c .before .before .before .before .before .before .before .before .before .before .before .before .before .before .before .before .before .before .before .before .before .node-at2 .ensures)) in
+    (joined-stepped g (r .0) (r .1) (omega (arith, l)) _ refl (256 + maxTerms * s .args .i + s .args .d - 1) (c .before .before .before .before .before .before .before .before .before .before .before .before .before .before .before .before .before .before .before .before .before .before .before .if2 .left) (c .before .before .before .before .before .before .before .before .before .before .before .before .before .before .before .before .before .before .before .before .before .before .node-at .ensures) (c .before .before .before .before .before .before .before .before .before .before .before .before .before .before .before .before .before .before .before .before .before .node-at2 .ensures) refl (same-joined j (c .before .before .before .before .before .before .before .before .before .before .before .before .before .before .before .before .if3 .taken) (c .before .before .before .before .before .before .before .before .before .before .walk2 .ensures .0)), c .before .before .before .before .before .before .before .before .before .before .walk2 .ensures .1)
 
 step-mul-walk-joined : (t : ℕ) → step-lts.Need-mul-walk-joined (step-claims t) (step-at t) step.Post
 step-mul-walk-joined t c =
-    let s = c .before .before .before .before .before .before .before .before .before .before .before .before .before .before .before .before .before .before .before .before .before .before in
+    let s = c .before .before .before .before .before .before .before .before .before .before .before .before .before .before .before .before .before .before .before .before .before .before .before .before in
     let g = s .pre .1 .0 in
     let r = s .pre .1 .1 in
-    let l = c .before .before .before .before .before .before .before .before .before .before .if1 .left in
+    let l = c .before .before .before .before .before .before .before .before .before .before .before .before .if1 .left in
     omega (arith, pair-room g (r .0) (s .args .d) (omega (arith, l)))
 
 step-add-walk-joined : (t : ℕ) → step-lts.Need-add-walk-joined (step-claims t) (step-at t) step.Post
 step-add-walk-joined t c =
-    let s = c .before .before .before .before .before .before .before .before .before .before .before .before .before .before .before .before .before .before .before .before .before .before in
+    let s = c .before .before .before .before .before .before .before .before .before .before .before .before .before .before .before .before .before .before .before .before .before .before .before .before in
     let g = s .pre .1 .0 in
     let r = s .pre .1 .1 in
-    let l = c .before .before .before .before .before .before .before .before .before .before .if1 .left in
+    let l = c .before .before .before .before .before .before .before .before .before .before .before .before .if1 .left in
     omega (arith, key-room g (r .0), pair-room g (r .0) (s .args .d) (omega (arith, l)))
 
 step-mul-walk-joined-2 : (t : ℕ) → step-lts.Need-mul-walk-joined-2 (step-claims t) (step-at t) step.Post
 step-mul-walk-joined-2 t c =
-    let s = c .before .before .before .before .before .before .before .before .before .before .before .before .before .before .before .before .before .before .before .before .before .before in
+    let s = c .before .before .before .before .before .before .before .before .before .before .before .before .before .before .before .before .before .before .before .before .before .before .before .before in
     let g = s .pre .1 .0 in
     let r = s .pre .1 .1 in
     omega (arith, weight-room g (r .0))
 
 step-sub-walk-joined : (t : ℕ) → step-lts.Need-sub-walk-joined (step-claims t) (step-at t) step.Post
 step-sub-walk-joined t c =
-    let s = c .before .before .before .before .before .before .before .before .before .before .before .before .before .before .before .before .before .before .before .before .before .before in
+    let s = c .before .before .before .before .before .before .before .before .before .before .before .before .before .before .before .before .before .before .before .before .before .before .before .before in
     let g = s .pre .1 .0 in
     let r = s .pre .1 .1 in
-    let l = c .before .before .before .before .before .before .before .before .before .before .if1 .left in
-    unpaired-some g (r .0) (r .1) (omega (arith, l)) _ refl (256 + maxTerms * s .args .i + s .args .d - 1) (c .before .before .before .before .before .before .before .if2 .left)
+    let l = c .before .before .before .before .before .before .before .before .before .before .before .before .if1 .left in
+    unpaired-some g (r .0) (r .1) (omega (arith, l)) _ refl (256 + maxTerms * s .args .i + s .args .d - 1) (c .before .before .before .before .before .before .before .before .before .if2 .left)
 
 step-walk-joined-requires : (t : ℕ) → step-lts.Need-walk-joined-requires (step-claims t) (step-at t) step.Post
 step-walk-joined-requires t c κs =
-    let s = c .before .before .before .before .before .before .before .before .before .before .before .before .before .before .before .before .before .before .before .before .before .before .before .before .before in
+    let s = c .before .before .before .before .before .before .before .before .before .before .before .before .before .before .before .before .before .before .before .before .before .before .before .before .before .before .before in
     let g = s .pre .1 .0 in
     let r = s .pre .1 .1 in
-    let l = c .before .before .before .before .before .before .before .before .before .before .before .before .before .if1 .left in
-    (omega (arith, s .pre .0, r .0), joining g (r .0) (r .1) (omega (arith, l)) _ refl (256 + maxTerms * s .args .i + s .args .d - 1) (c .before .before .before .before .before .before .before .before .before .before .if2 .left) (c .before .before .before .before .before .before .before .before .before .node-at .ensures) (c .before .before .before .before .before .before .before .before .node-at2 .ensures))
+    let l = c .before .before .before .before .before .before .before .before .before .before .before .before .before .before .before .if1 .left in
+    (omega (arith, s .pre .0, r .0), joining g (r .0) (r .1) (omega (arith, l)) _ refl (256 + maxTerms * s .args .i + s .args .d - 1) (c .before .before .before .before .before .before .before .before .before .before .before .before .if2 .left) (c .before .before .before .before .before .before .before .before .before .before .before .node-at .ensures) (c .before .before .before .before .before .before .before .before .before .before .node-at2 .ensures))
 
 step-mul-entry-5 : (t : ℕ) → step-lts.Need-mul-entry-5 (step-claims t) (step-at t) step.Post
 step-mul-entry-5 t c =
-    let s = c .before .before .before .before .before .before .before .before .before .before .before .before .before .before .before .before .before .before .before .before .before .before .before .before .before .before .before .before .before .before .before .before in
+    let s = c .before .before .before .before .before .before .before .before .before .before .before .before .before .before .before .before .before .before .before .before .before .before .before .before .before .before .before .before .before .before .before .before .before .before .before .before .before .before in
     let g = s .pre .1 .0 in
     let r = s .pre .1 .1 in
-    omega (arith, c .before .before .before .before .before .before .before .before .before .before .before .before .before .before .before .before .before .before .before .before .if1 .left, g .listable .left-few, g .listable .right-few)
+    omega (arith, c .before .before .before .before .before .before .before .before .before .before .before .before .before .before .before .before .before .before .before .before .before .before .before .before .before .before .if1 .left, g .listable .left-few, g .listable .right-few)
 
 step-slice-write-entry-5 : (t : ℕ) → step-lts.Need-slice-write-entry-5 (step-claims t) (step-at t) step.Post
 step-slice-write-entry-5 t c =
-    let s = c .before .before .before .before .before .before .before .before .before .before .before .before .before .before .before .before .before .before .before .before .before .before .before .before .before .before .before .before .before .before .before .before in
+    let s = c .before .before .before .before .before .before .before .before .before .before .before .before .before .before .before .before .before .before .before .before .before .before .before .before .before .before .before .before .before .before .before .before .before .before .before .before .before .before in
     let g = s .pre .1 .0 in
     let r = s .pre .1 .1 in
-    let l = c .before .before .before .before .before .before .before .before .before .before .before .before .before .before .before .before .before .before .before .before .if1 .left in
-    mark-inside g (r .0) (r .1) (omega (arith, l)) _ refl (256 + maxTerms * s .args .i + s .args .d - 1) (c .before .before .before .before .before .before .before .before .before .before .before .before .before .before .before .before .before .if2 .left) (c .before .before .before .before .before .before .walk-joined .ensures)
+    let l = c .before .before .before .before .before .before .before .before .before .before .before .before .before .before .before .before .before .before .before .before .before .before .before .before .before .before .if1 .left in
+    mark-inside g (r .0) (r .1) (omega (arith, l)) _ refl (256 + maxTerms * s .args .i + s .args .d - 1) (c .before .before .before .before .before .before .before .before .before .before .before .before .before .before .before .before .before .before .before .before .before .before .before .if2 .left) (c .before .before .before .before .before .before .before .before .before .before .walk-joined .ensures .0)
 
-step-same-length-7 : (t : ℕ) → step-lts.Need-same-length-7 (step-claims t) (step-at t) step.Post
-step-same-length-7 t c = simp length-set (c .before .before .before .before .before .before .walk-joined .ensures .size ∙ simp length-set)
+step-same-length-11 : (t : ℕ) → step-lts.Need-same-length-11 (step-claims t) (step-at t) step.Post
+step-same-length-11 t c = search needs
 
-step-same-length-8 : (t : ℕ) → step-lts.Need-same-length-8 (step-claims t) (step-at t) step.Post
-step-same-length-8 t c = search needs
+step-same-length-12 : (t : ℕ) → step-lts.Need-same-length-12 (step-claims t) (step-at t) step.Post
+step-same-length-12 t c = search needs
 
-step-same-length-9 : (t : ℕ) → step-lts.Need-same-length-9 (step-claims t) (step-at t) step.Post
-step-same-length-9 t c = search needs
+step-same-length-13 : (t : ℕ) → step-lts.Need-same-length-13 (step-claims t) (step-at t) step.Post
+step-same-length-13 t c = simp length-set (c .before .before .before .before .before .before .before .before .before .before .walk-joined .ensures .0 .size ∙ simp length-set)
+
+step-same-length-14 : (t : ℕ) → step-lts.Need-same-length-14 (step-claims t) (step-at t) step.Post
+step-same-length-14 t c = search needs
+
+step-same-length-15 : (t : ℕ) → step-lts.Need-same-length-15 (step-claims t) (step-at t) step.Post
+step-same-length-15 t c = search needs
 
 step-returns-4 : (t : ℕ) → step-lts.Need-returns-4 (step-claims t) (step-at t) step.Post
 step-returns-4 t c =
-    let s = c .before .before .before .before .before .before .before .before .before .before .before .before .before .before .before .before .before .before .before .before .before .before .before .before .before .before .before .before .before .before .before .before in
+    let s = c .before .before .before .before .before .before .before .before .before .before .before .before .before .before .before .before .before .before .before .before .before .before .before .before .before .before .before .before .before .before .before .before .before .before .before .before .before .before in
     let g = s .pre .1 .0 in
     let r = s .pre .1 .1 in
-    let l = c .before .before .before .before .before .before .before .before .before .before .before .before .before .before .before .before .before .before .before .before .if1 .left in
-    joined-stepped g (r .0) (r .1) (omega (arith, l)) _ refl (256 + maxTerms * s .args .i + s .args .d - 1) (c .before .before .before .before .before .before .before .before .before .before .before .before .before .before .before .before .before .if2 .left) (c .before .before .before .before .before .before .before .before .before .before .before .before .before .before .before .before .node-at .ensures) (c .before .before .before .before .before .before .before .before .before .before .before .before .before .before .before .node-at2 .ensures) refl (c .before .before .before .before .before .before .walk-joined .ensures)
+    let l = c .before .before .before .before .before .before .before .before .before .before .before .before .before .before .before .before .before .before .before .before .before .before .before .before .before .before .if1 .left in
+    (joined-stepped g (r .0) (r .1) (omega (arith, l)) _ refl (256 + maxTerms * s .args .i + s .args .d - 1) (c .before .before .before .before .before .before .before .before .before .before .before .before .before .before .before .before .before .before .before .before .before .before .before .if2 .left) (c .before .before .before .before .before .before .before .before .before .before .before .before .before .before .before .before .before .before .before .before .before .before .node-at .ensures) (c .before .before .before .before .before .before .before .before .before .before .before .before .before .before .before .before .before .before .before .before .before .node-at2 .ensures) refl (c .before .before .before .before .before .before .before .before .before .before .walk-joined .ensures .0), c .before .before .before .before .before .before .before .before .before .before .walk-joined .ensures .1)
 
 abbrev walk-Inv-loop : walk-lts.InvT-loop
-walk-Inv-loop nodes arguments left right labels known prepared of next key weight unpaired i entry₀ memory₀ out₀ at n m end last used₀ d₀ entry memory out used d =
-    (last ≡ length right + labels .right) × Turning nodes arguments left right labels i entry₀ out₀ at d entry memory out used
+walk-Inv-loop nodes arguments left right labels known prepared of₀ next₀ key weight unpaired i entry₀ memory₀ out₀ at n m end last used₀ d₀ of next entry memory out used d =
+    (last ≡ length right + labels .right) × (of ≡ of₀) × (next ≡ next₀) × Turning nodes arguments left right labels i entry₀ out₀ at d entry memory out used
 
 abbrev walk-μ-loop : walk-lts.MeasureT-loop
-walk-μ-loop nodes arguments left right labels known prepared of next key weight unpaired i entry₀ memory₀ out₀ at n m end last used₀ d₀ entry memory out used d =
+walk-μ-loop nodes arguments left right labels known prepared of₀ next₀ key weight unpaired i entry₀ memory₀ out₀ at n m end last used₀ d₀ of next entry memory out used d =
     suc last - d
 
 walk-sub-hopeless : (t : ℕ) → walk-lts.Need-sub-hopeless (walk-claims t) (walk-at t) walk.Post walk-Inv-loop walk-μ-loop
@@ -425,12 +445,12 @@ walk-hopeless-requires t c κs = search needs
 walk-returns : (t : ℕ) → walk-lts.Need-returns (walk-claims t) (walk-at t) walk.Post walk-Inv-loop walk-μ-loop
 walk-returns t c =
     let g = c .before .before .before .before .before .before .before .before .before .before .before .before .before .pre .1 in
-    hopeless-walked g (sym (c .before .hopeless .ensures) ∙ c .if1 .taken)
+    (hopeless-walked g (sym (c .before .hopeless .ensures) ∙ c .if1 .taken), (refl, refl))
 
 walk-write-branch-requires : (t : ℕ) → walk-lts.Need-write-branch-requires (walk-claims t) (walk-at t) walk.Post walk-Inv-loop walk-μ-loop
 walk-write-branch-requires t c κs =
-    let g = c .before .before .before .before .before .before .before .before .before .before .before .before .before .before .before .before .before .pre .1 in
-    (g, ending g (c .before .before .before .if2 .taken))
+    let g = c .before .before .before .before .before .before .before .before .before .before .before .before .before .before .before .before .before .before .before .pre .1 in
+    (g, ending g (c .before .before .before .before .before .if2 .taken))
 
 walk-same-length : (t : ℕ) → walk-lts.Need-same-length (walk-claims t) (walk-at t) walk.Post walk-Inv-loop walk-μ-loop
 walk-same-length t c = search needs
@@ -441,8 +461,14 @@ walk-same-length-2 t c = search needs
 walk-same-length-3 : (t : ℕ) → walk-lts.Need-same-length-3 (walk-claims t) (walk-at t) walk.Post walk-Inv-loop walk-μ-loop
 walk-same-length-3 t c = search needs
 
+walk-same-length-4 : (t : ℕ) → walk-lts.Need-same-length-4 (walk-claims t) (walk-at t) walk.Post walk-Inv-loop walk-μ-loop
+walk-same-length-4 t c = search needs
+
+walk-same-length-5 : (t : ℕ) → walk-lts.Need-same-length-5 (walk-claims t) (walk-at t) walk.Post walk-Inv-loop walk-μ-loop
+walk-same-length-5 t c = search needs
+
 walk-returns-2 : (t : ℕ) → walk-lts.Need-returns-2 (walk-claims t) (walk-at t) walk.Post walk-Inv-loop walk-μ-loop
-walk-returns-2 t c = c .before .before .before .before .before .before .write-branch .ensures
+walk-returns-2 t c = (c .before .before .before .before .before .before .write-branch .ensures, (refl, refl))
 
 walk-add-end : (t : ℕ) → walk-lts.Need-add-end (walk-claims t) (walk-at t) walk.Post walk-Inv-loop walk-μ-loop
 walk-add-end t c =
@@ -479,13 +505,13 @@ walk-stuck-requires t c κs =
     let g = c .before .before .before .before .before .before .before .before .before .before .before .before .before .before .before .before .before .pre .1 in
     (g .partners .size, g .branching .depth, g .listable .left-few, stuck-room g)
 
-walk-same-length-4 : (t : ℕ) → walk-lts.Need-same-length-4 (walk-claims t) (walk-at t) walk.Post walk-Inv-loop walk-μ-loop
-walk-same-length-4 t c = search needs
+walk-same-length-6 : (t : ℕ) → walk-lts.Need-same-length-6 (walk-claims t) (walk-at t) walk.Post walk-Inv-loop walk-μ-loop
+walk-same-length-6 t c = search needs
 
 walk-returns-3 : (t : ℕ) → walk-lts.Need-returns-3 (walk-claims t) (walk-at t) walk.Post walk-Inv-loop walk-μ-loop
 walk-returns-3 t c =
     let g = c .before .before .before .before .before .before .before .before .before .before .before .before .before .before .before .before .before .before .before .pre .1 in
-    stuck-walked g (sym (c .before .stuck .ensures) ∙ c .if3 .taken)
+    (stuck-walked g (sym (c .before .stuck .ensures) ∙ c .if3 .taken), (refl, refl))
 
 walk-add-last : (t : ℕ) → walk-lts.Need-add-last (walk-claims t) (walk-at t) walk.Post walk-Inv-loop walk-μ-loop
 walk-add-last t c =
@@ -495,144 +521,97 @@ walk-add-last t c =
 walk-loop-holds : (t : ℕ) → walk-lts.Need-loop-holds (walk-claims t) (walk-at t) walk.Post walk-Inv-loop walk-μ-loop
 walk-loop-holds t c =
     let g = c .before .before .before .before .before .before .before .before .before .before .before .before .before .before .before .before .before .before .before .before .pre .1 in
-    (refl, turning-first g (going-on g (c .before .before .before .before .before .before .if2 .left)))
+    (refl, refl, refl, turning-first g (going-on g (c .before .before .before .before .before .before .if2 .left)))
 
 walk-step-requires : (t : ℕ) → walk-lts.Need-step-requires (walk-claims t) (walk-at t) walk.Post walk-Inv-loop walk-μ-loop
 walk-step-requires t c κs =
-    let s = c .before .before .before .before .before .before .before .before .before .before .before .before .before .before .before .before .before .before .before .before .before .before .before .before .before in
+    let s = c .before .before .before .before .before .before .before .before .before .before .before .before .before .before .before .before .before .before .before .before .before .before .before .before .before .before .before in
     let g = s .pre .1 in
-    let l = c .before .before .before .before .loop .inv in
-    (omega (arith, s .pre .0), (turning-walking (l .1) g, (going-on g (c .before .before .before .before .before .before .before .before .before .before .before .if2 .left), l .1 .first, omega (arith, l .0, c .before .before .before .loop-test .taken))))
-
-walk-same-length-5 : (t : ℕ) → walk-lts.Need-same-length-5 (walk-claims t) (walk-at t) walk.Post walk-Inv-loop walk-μ-loop
-walk-same-length-5 t c =
-    let l = c .before .before .before .before .before .before .before .before .before .before .before .before .before .loop .inv in
-    c .before .before .before .before .before .before .before .before .step .ensures .size ∙ l .1 .size
-
-walk-same-length-6 : (t : ℕ) → walk-lts.Need-same-length-6 (walk-claims t) (walk-at t) walk.Post walk-Inv-loop walk-μ-loop
-walk-same-length-6 t c =
-    let g = c .before .before .before .before .before .before .before .before .before .before .before .before .before .before .before .before .before .before .before .before .before .before .before .before .before .before .before .before .before .before .before .before .before .before .pre .1 in
-    let l = c .before .before .before .before .before .before .before .before .before .before .before .before .before .loop .inv in
-    c .before .before .before .before .before .before .before .before .step .kept .1 .1 .1 .1 .1 .1 .1 .1 .1 .1 .1 .1 .1 .1 .1 .0 ∙ l .1 .remembers .size ∙ sym (g .remembers .size)
+    let l = c .before .before .before .before .before .before .loop .inv in
+    (omega (arith, s .pre .0), (turning-walking (l .3) (l .1) (l .2) g, (going-on g (c .before .before .before .before .before .before .before .before .before .before .before .before .before .if2 .left), l .3 .first, omega (arith, l .0, c .before .before .before .before .before .loop-test .taken))))
 
 walk-same-length-7 : (t : ℕ) → walk-lts.Need-same-length-7 (walk-claims t) (walk-at t) walk.Post walk-Inv-loop walk-μ-loop
-walk-same-length-7 t c = search needs
+walk-same-length-7 t c =
+    let l = c .before .before .before .before .before .before .before .before .before .before .before .before .before .before .before .before .before .before .before .loop .inv in
+    ap length (c .before .before .before .before .before .before .before .before .before .before .before .before .step .ensures .1 .0 ∙ l .1)
+
+walk-same-length-8 : (t : ℕ) → walk-lts.Need-same-length-8 (walk-claims t) (walk-at t) walk.Post walk-Inv-loop walk-μ-loop
+walk-same-length-8 t c =
+    let l = c .before .before .before .before .before .before .before .before .before .before .before .before .before .before .before .before .before .before .before .loop .inv in
+    ap length (c .before .before .before .before .before .before .before .before .before .before .before .before .step .ensures .1 .1 ∙ l .2)
+
+walk-same-length-9 : (t : ℕ) → walk-lts.Need-same-length-9 (walk-claims t) (walk-at t) walk.Post walk-Inv-loop walk-μ-loop
+walk-same-length-9 t c =
+    let l = c .before .before .before .before .before .before .before .before .before .before .before .before .before .before .before .before .before .before .before .loop .inv in
+    c .before .before .before .before .before .before .before .before .before .before .before .before .step .ensures .0 .size ∙ l .3 .size
+
+walk-same-length-10 : (t : ℕ) → walk-lts.Need-same-length-10 (walk-claims t) (walk-at t) walk.Post walk-Inv-loop walk-μ-loop
+walk-same-length-10 t c =
+    let g = c .before .before .before .before .before .before .before .before .before .before .before .before .before .before .before .before .before .before .before .before .before .before .before .before .before .before .before .before .before .before .before .before .before .before .before .before .before .before .before .before .pre .1 in
+    let l = c .before .before .before .before .before .before .before .before .before .before .before .before .before .before .before .before .before .before .before .loop .inv in
+    c .before .before .before .before .before .before .before .before .before .before .before .before .step .kept .1 .1 .1 .1 .1 .1 .1 .1 .1 .1 .1 .1 .1 .1 .1 .0 ∙ l .3 .remembers .size ∙ sym (g .remembers .size)
+
+walk-same-length-11 : (t : ℕ) → walk-lts.Need-same-length-11 (walk-claims t) (walk-at t) walk.Post walk-Inv-loop walk-μ-loop
+walk-same-length-11 t c = search needs
 
 walk-returns-4 : (t : ℕ) → walk-lts.Need-returns-4 (walk-claims t) (walk-at t) walk.Post walk-Inv-loop walk-μ-loop
 walk-returns-4 t c =
-    let l = c .before .before .before .before .before .before .before .before .before .before .before .before .before .loop .inv in
-    turning-full (l .1) (omega (arith, l .0, c .before .before .before .before .before .before .before .before .before .before .before .before .loop-test .taken)) (c .before .before .before .before .before .before .before .before .step .ensures) _ (c .if4 .taken)
+    let l = c .before .before .before .before .before .before .before .before .before .before .before .before .before .before .before .before .before .before .before .loop .inv in
+    (turning-full (l .3) (omega (arith, l .0, c .before .before .before .before .before .before .before .before .before .before .before .before .before .before .before .before .before .before .loop-test .taken)) (c .before .before .before .before .before .before .before .before .before .before .before .before .step .ensures .0) _ (c .if4 .taken), (c .before .before .before .before .before .before .before .before .before .before .before .before .step .ensures .1 .0 ∙ l .1, c .before .before .before .before .before .before .before .before .before .before .before .before .step .ensures .1 .1 ∙ l .2))
 
 walk-add-d : (t : ℕ) → walk-lts.Need-add-d (walk-claims t) (walk-at t) walk.Post walk-Inv-loop walk-μ-loop
 walk-add-d t c =
-    let g = c .before .before .before .before .before .before .before .before .before .before .before .before .before .before .before .before .before .before .before .before .before .before .before .before .before .before .before .before .before .before .before .before .before .before .pre .1 in
-    let l = c .before .before .before .before .before .before .before .before .before .before .before .before .before .loop .inv in
-    omega (arith, l .0, c .before .before .before .before .before .before .before .before .before .before .before .before .loop-test .taken, g .listable .right-few, g .listable .right-labels)
+    let g = c .before .before .before .before .before .before .before .before .before .before .before .before .before .before .before .before .before .before .before .before .before .before .before .before .before .before .before .before .before .before .before .before .before .before .before .before .before .before .before .before .pre .1 in
+    let l = c .before .before .before .before .before .before .before .before .before .before .before .before .before .before .before .before .before .before .before .loop .inv in
+    omega (arith, l .0, c .before .before .before .before .before .before .before .before .before .before .before .before .before .before .before .before .before .before .loop-test .taken, g .listable .right-few, g .listable .right-labels)
 
 walk-loop-less : (t : ℕ) → walk-lts.Need-loop-less (walk-claims t) (walk-at t) walk.Post walk-Inv-loop walk-μ-loop
 walk-loop-less t c = search needs
 
 walk-loop-again : (t : ℕ) → walk-lts.Need-loop-again (walk-claims t) (walk-at t) walk.Post walk-Inv-loop walk-μ-loop
 walk-loop-again t c =
-    let l = c .before .before .before .before .before .before .before .before .before .before .before .before .before .loop .inv in
-    (l .0, turning-next (l .1) (omega (arith, l .0, c .before .before .before .before .before .before .before .before .before .before .before .before .loop-test .taken)) (c .before .before .before .before .before .before .before .before .step .ensures) (c .if4 .left))
+    let l = c .before .before .before .before .before .before .before .before .before .before .before .before .before .before .before .before .before .before .before .loop .inv in
+    (l .0, c .before .before .before .before .before .before .before .before .before .before .before .before .step .ensures .1 .0 ∙ l .1, c .before .before .before .before .before .before .before .before .before .before .before .before .step .ensures .1 .1 ∙ l .2, turning-next (l .3) (omega (arith, l .0, c .before .before .before .before .before .before .before .before .before .before .before .before .before .before .before .before .before .before .loop-test .taken)) (c .before .before .before .before .before .before .before .before .before .before .before .before .step .ensures .0) (c .if4 .left))
 
-walk-same-length-8 : (t : ℕ) → walk-lts.Need-same-length-8 (walk-claims t) (walk-at t) walk.Post walk-Inv-loop walk-μ-loop
-walk-same-length-8 t c = search needs
+walk-same-length-12 : (t : ℕ) → walk-lts.Need-same-length-12 (walk-claims t) (walk-at t) walk.Post walk-Inv-loop walk-μ-loop
+walk-same-length-12 t c = ap length (c .before .loop .inv .1)
 
-walk-same-length-9 : (t : ℕ) → walk-lts.Need-same-length-9 (walk-claims t) (walk-at t) walk.Post walk-Inv-loop walk-μ-loop
-walk-same-length-9 t c = search needs
+walk-same-length-13 : (t : ℕ) → walk-lts.Need-same-length-13 (walk-claims t) (walk-at t) walk.Post walk-Inv-loop walk-μ-loop
+walk-same-length-13 t c = ap length (c .before .loop .inv .2)
 
-walk-same-length-10 : (t : ℕ) → walk-lts.Need-same-length-10 (walk-claims t) (walk-at t) walk.Post walk-Inv-loop walk-μ-loop
-walk-same-length-10 t c = search needs
+walk-same-length-14 : (t : ℕ) → walk-lts.Need-same-length-14 (walk-claims t) (walk-at t) walk.Post walk-Inv-loop walk-μ-loop
+walk-same-length-14 t c = search needs
+
+walk-same-length-15 : (t : ℕ) → walk-lts.Need-same-length-15 (walk-claims t) (walk-at t) walk.Post walk-Inv-loop walk-μ-loop
+walk-same-length-15 t c = search needs
+
+walk-same-length-16 : (t : ℕ) → walk-lts.Need-same-length-16 (walk-claims t) (walk-at t) walk.Post walk-Inv-loop walk-μ-loop
+walk-same-length-16 t c = search needs
 
 walk-returns-5 : (t : ℕ) → walk-lts.Need-returns-5 (walk-claims t) (walk-at t) walk.Post walk-Inv-loop walk-μ-loop
 walk-returns-5 t c =
     let l = c .before .loop .inv in
-    turning-done (l .1) _ (omega (arith, l .0, c .loop-test .left))
+    (turning-done (l .3) _ (omega (arith, l .0, c .loop-test .left)), (l .1, l .2))
 
-walk-joined-sub-extend-copy : (t : ℕ) → walk-joined-lts.Need-sub-extend-copy (walk-joined-claims t) (walk-joined-at t) walk-joined.Post
-walk-joined-sub-extend-copy t c = search needs
-
-walk-joined-part-heads-start : (t : ℕ) → walk-joined-lts.Need-part-heads-start (walk-joined-claims t) (walk-joined-at t) walk-joined.Post
-walk-joined-part-heads-start t c = search needs
-
-walk-joined-part-heads-end : (t : ℕ) → walk-joined-lts.Need-part-heads-end (walk-joined-claims t) (walk-joined-at t) walk-joined.Post
-walk-joined-part-heads-end t c =
+walk-joined-add-if1 : (t : ℕ) → walk-joined-lts.Need-add-if1 (walk-joined-claims t) (walk-joined-at t) walk-joined.Post
+walk-joined-add-if1 t c =
     let g = c .before .before .before .before .before .before .before .before .before .before .before .pre .1 in
-    omega (arith, heads-few g)
-
-walk-joined-sub-extend-copy-2 : (t : ℕ) → walk-joined-lts.Need-sub-extend-copy-2 (walk-joined-claims t) (walk-joined-at t) walk-joined.Post
-walk-joined-sub-extend-copy-2 t c = search needs
-
-walk-joined-part-after-start : (t : ℕ) → walk-joined-lts.Need-part-after-start (walk-joined-claims t) (walk-joined-at t) walk-joined.Post
-walk-joined-part-after-start t c = search needs
-
-walk-joined-part-after-end : (t : ℕ) → walk-joined-lts.Need-part-after-end (walk-joined-claims t) (walk-joined-at t) walk-joined.Post
-walk-joined-part-after-end t c =
-    let g = c .before .before .before .before .before .before .before .before .before .before .before .before .pre .1 in
-    omega (arith, heads-few g)
-
-walk-joined-extend-copy-requires : (t : ℕ) → walk-joined-lts.Need-extend-copy-requires (walk-joined-claims t) (walk-joined-at t) walk-joined.Post
-walk-joined-extend-copy-requires t c κs =
-    let g = c .before .before .before .before .before .before .before .before .before .before .before .before .before .pre .1 in
-    ((g .listable .sections, g .known-right .counts), ((g .formed, g .circles), ((heads-room g, circles-room g), (g .first, g .second))))
-
-walk-joined-enum-told : (t : ℕ) → walk-joined-lts.Need-enum-told (walk-joined-claims t) (walk-joined-at t) walk-joined.Post
-walk-joined-enum-told t c = search needs
-
-walk-joined-enum-told-2 : (t : ℕ) → walk-joined-lts.Need-enum-told-2 (walk-joined-claims t) (walk-joined-at t) walk-joined.Post
-walk-joined-enum-told-2 t c = search needs
-
-walk-joined-enum-told-3 : (t : ℕ) → walk-joined-lts.Need-enum-told-3 (walk-joined-claims t) (walk-joined-at t) walk-joined.Post
-walk-joined-enum-told-3 t c = search needs
-
-walk-joined-sub-walk : (t : ℕ) → walk-joined-lts.Need-sub-walk (walk-joined-claims t) (walk-joined-at t) walk-joined.Post
-walk-joined-sub-walk t c = search needs
-
-walk-joined-part-walk-start : (t : ℕ) → walk-joined-lts.Need-part-walk-start (walk-joined-claims t) (walk-joined-at t) walk-joined.Post
-walk-joined-part-walk-start t c = search needs
-
-walk-joined-part-walk-end : (t : ℕ) → walk-joined-lts.Need-part-walk-end (walk-joined-claims t) (walk-joined-at t) walk-joined.Post
-walk-joined-part-walk-end t c =
-    let g = c .before .before .before .before .before .before .before .before .before .before .before .before .before .before .before .before .before .before .before .pre .1 in
-    let h = heads-long g (c .before .before .before .before .before .extend-copy .kept .1 .1 .1 .1 .1 .0) in
-    part-reach _ (c .before .before .before .before .before .extend-copy .last .1 .1 .1 .1 .1 .0) (postOf 0 (length (c .before .before .before .before .before .before .before .before .before .before .before .before .before .before .before .before .before .before .before .args .of .now) - 0) (replicate maxNodes 0)) h
-
-walk-joined-sub-walk-2 : (t : ℕ) → walk-joined-lts.Need-sub-walk-2 (walk-joined-claims t) (walk-joined-at t) walk-joined.Post
-walk-joined-sub-walk-2 t c = search needs
-
-walk-joined-part-walk-start-2 : (t : ℕ) → walk-joined-lts.Need-part-walk-start-2 (walk-joined-claims t) (walk-joined-at t) walk-joined.Post
-walk-joined-part-walk-start-2 t c = search needs
-
-walk-joined-part-walk-end-2 : (t : ℕ) → walk-joined-lts.Need-part-walk-end-2 (walk-joined-claims t) (walk-joined-at t) walk-joined.Post
-walk-joined-part-walk-end-2 t c =
-    let g = c .before .before .before .before .before .before .before .before .before .before .before .before .before .before .before .before .before .before .before .before .before .pre .1 in
-    let h = heads-long g (c .before .before .before .before .before .before .before .extend-copy .kept .1 .1 .1 .1 .1 .1 .0) in
-    part-reach _ (c .before .before .before .before .before .before .before .extend-copy .last .1 .1 .1 .1 .1 .1 .0) (postOf 0 (length (c .before .before .before .before .before .before .before .before .before .before .before .before .before .before .before .before .before .before .before .before .before .args .of .now) - 0) (replicate maxNodes 0)) h
-
-walk-joined-add-walk : (t : ℕ) → walk-joined-lts.Need-add-walk (walk-joined-claims t) (walk-joined-at t) walk-joined.Post
-walk-joined-add-walk t c =
-    let g = c .before .before .before .before .before .before .before .before .before .before .before .before .before .before .before .before .before .before .before .before .before .before .pre .1 in
     omega (arith, g .branching .depth, g .listable .left-few)
 
-walk-joined-walk-requires : (t : ℕ) → walk-joined-lts.Need-walk-requires (walk-joined-claims t) (walk-joined-at t) walk-joined.Post
-walk-joined-walk-requires t c κs =
-    let s = c .before .before .before .before .before .before .before .before .before .before .before .before .before .before .before .before .before .before .before .before .before .before .before .before .before in
-    let g = s .pre .1 in
-    let h = heads-long g (c .before .before .before .before .before .before .before .before .before .before .before .extend-copy .kept .1 .1 .1 .1 .1 .0) in
-    let k = heads-long g (c .before .before .before .before .before .before .before .before .before .before .before .extend-copy .kept .1 .1 .1 .1 .1 .1 .0) in
-    (omega (arith, s .pre .0, g .branching .depth), joined-next g (c .before .before .before .before .before .before .before .before .before .before .before .extend-copy .ensures) (c .before .before .before .before .before .before .before .enum-told3 .given .1) (take-at _ _ _ h) (take-at _ _ _ k))
+walk-joined-is-kept-requires : (t : ℕ) → walk-joined-lts.Need-is-kept-requires (walk-joined-claims t) (walk-joined-at t) walk-joined.Post
+walk-joined-is-kept-requires t c κs =
+    let g = c .before .before .before .before .before .before .before .before .before .before .before .before .pre .1 in
+    (g .remembers .size, joined-key-room g)
 
-walk-joined-returns : (t : ℕ) → walk-joined-lts.Need-returns (walk-joined-claims t) (walk-joined-at t) walk-joined.Post
-walk-joined-returns t c =
-    let g = c .before .before .before .before .before .before .before .before .before .before .before .before .before .before .before .before .before .before .pre .1 in
-    clash-joined g (c .before .before .before .before .extend-copy .ensures) (c .enum-told .given .1)
+walk-joined-add-write-kept : (t : ℕ) → walk-joined-lts.Need-add-write-kept (walk-joined-claims t) (walk-joined-at t) walk-joined.Post
+walk-joined-add-write-kept t c =
+    let g = c .before .before .before .before .before .before .before .before .before .before .before .before .before .before .pre .1 in
+    omega (arith, g .branching .depth, g .listable .left-few)
 
-walk-joined-returns-2 : (t : ℕ) → walk-joined-lts.Need-returns-2 (walk-joined-claims t) (walk-joined-at t) walk-joined.Post
-walk-joined-returns-2 t c =
-    let g = c .before .before .before .before .before .before .before .before .before .before .before .before .before .before .before .before .before .before .pre .1 in
-    occurs-joined g (c .before .before .before .before .extend-copy .ensures) (c .enum-told2 .given .1)
+walk-joined-write-kept-requires : (t : ℕ) → walk-joined-lts.Need-write-kept-requires (walk-joined-claims t) (walk-joined-at t) walk-joined.Post
+walk-joined-write-kept-requires t c κs =
+    let g = c .before .before .before .before .before .before .before .before .before .before .before .before .before .before .before .before .before .pre .1 in
+    (g .listable, (g .branching, (g .remembers, (kept-key g (c .before .before .before .before .is-kept .ensures) (c .before .before .before .if1 .taken), kept-ending g (c .before .before .before .before .is-kept .ensures) (c .before .before .before .if1 .taken)))))
 
 walk-joined-same-length : (t : ℕ) → walk-joined-lts.Need-same-length (walk-joined-claims t) (walk-joined-at t) walk-joined.Post
 walk-joined-same-length t c = search needs
@@ -643,10 +622,84 @@ walk-joined-same-length-2 t c = search needs
 walk-joined-same-length-3 : (t : ℕ) → walk-joined-lts.Need-same-length-3 (walk-joined-claims t) (walk-joined-at t) walk-joined.Post
 walk-joined-same-length-3 t c = search needs
 
-walk-joined-returns-3 : (t : ℕ) → walk-joined-lts.Need-returns-3 (walk-joined-claims t) (walk-joined-at t) walk-joined.Post
-walk-joined-returns-3 t c =
-    let g = c .before .before .before .before .before .before .before .before .before .before .before .before .before .before .before .before .before .before .before .before .before .before .before .before .before .before .before .before .before .before .before .before .pre .1 in
-    unified-joined g (c .before .before .before .before .before .before .before .before .before .before .before .before .before .before .before .before .before .before .extend-copy .ensures) (c .before .before .before .before .before .before .before .before .before .before .before .before .before .before .enum-told3 .given .1) (c .before .before .before .before .before .before .walk .ensures)
+walk-joined-returns : (t : ℕ) → walk-joined-lts.Need-returns (walk-joined-claims t) (walk-joined-at t) walk-joined.Post
+walk-joined-returns t c =
+    let g = c .before .before .before .before .before .before .before .before .before .before .before .before .before .before .before .before .before .before .before .before .before .before .before .before .pre .1 in
+    (kept-joined g (c .before .before .before .before .before .before .write-kept .ensures .0) (c .before .before .before .before .before .before .write-kept .ensures .1), (refl, refl))
+
+walk-joined-slice-read-mark : (t : ℕ) → walk-joined-lts.Need-slice-read-mark (walk-joined-claims t) (walk-joined-at t) walk-joined.Post
+walk-joined-slice-read-mark t c =
+    let g = c .before .before .before .before .before .before .before .before .before .before .before .before .before .before .before .pre .1 in
+    mark-room g
+
+walk-joined-extend-requires : (t : ℕ) → walk-joined-lts.Need-extend-requires (walk-joined-claims t) (walk-joined-at t) walk-joined.Post
+walk-joined-extend-requires t c κs =
+    let g = c .before .before .before .before .before .before .before .before .before .before .before .before .before .before .before .before .before .pre .1 in
+    ((g .listable .sections, g .known-right .counts), ((g .formed, g .trailed), (g .first, g .second)))
+
+walk-joined-enum-told : (t : ℕ) → walk-joined-lts.Need-enum-told (walk-joined-claims t) (walk-joined-at t) walk-joined.Post
+walk-joined-enum-told t c = search needs
+
+walk-joined-enum-told-2 : (t : ℕ) → walk-joined-lts.Need-enum-told-2 (walk-joined-claims t) (walk-joined-at t) walk-joined.Post
+walk-joined-enum-told-2 t c = search needs
+
+walk-joined-enum-told-3 : (t : ℕ) → walk-joined-lts.Need-enum-told-3 (walk-joined-claims t) (walk-joined-at t) walk-joined.Post
+walk-joined-enum-told-3 t c = search needs
+
+walk-joined-add-walk : (t : ℕ) → walk-joined-lts.Need-add-walk (walk-joined-claims t) (walk-joined-at t) walk-joined.Post
+walk-joined-add-walk t c =
+    let g = c .before .before .before .before .before .before .before .before .before .before .before .before .before .before .before .before .before .before .before .before .before .before .before .before .before .before .pre .1 in
+    omega (arith, g .branching .depth, g .listable .left-few)
+
+walk-joined-walk-requires : (t : ℕ) → walk-joined-lts.Need-walk-requires (walk-joined-claims t) (walk-joined-at t) walk-joined.Post
+walk-joined-walk-requires t c κs =
+    let s = c .before .before .before .before .before .before .before .before .before .before .before .before .before .before .before .before .before .before .before .before .before .before .before .before .before .before .before .before .before in
+    let g = s .pre .1 in
+    (omega (arith, s .pre .0, g .branching .depth), joined-next g (c .before .before .before .before .before .before .before .before .before .before .before .extend .ensures) (c .before .before .before .before .before .enum-told3 .given .1))
+
+walk-joined-undo-requires : (t : ℕ) → walk-joined-lts.Need-undo-requires (walk-joined-claims t) (walk-joined-at t) walk-joined.Post
+walk-joined-undo-requires t c κs =
+    let g = c .before .before .before .before .before .before .before .before .before .before .before .before .before .before .before .before .before .before .before .before .before .before .before .before .before .pre .1 in
+    let x = c .before .before .before .before .before .before .before .extend .ensures in
+    let k = c .before .before .before .before .before .before .before .extend .kept .1 .1 .1 .0 in
+    ⊎-elim (λ w. joins-since g x refl k (w .2) (w .3)) (⊎-elim (λ w. joins-since g x refl k (w .2) (w .3)) (λ w. joins-since g x refl k (w .18 ∙ w .7 .ensures .1 .0) (w .19 ∙ w .7 .ensures .1 .1))) (c .before .before .match .came)
+
+walk-joined-same-length-4 : (t : ℕ) → walk-joined-lts.Need-same-length-4 (walk-joined-claims t) (walk-joined-at t) walk-joined.Post
+walk-joined-same-length-4 t c =
+    let u = c .before .before .before .before .undo .kept .0 in
+    let k = c .before .before .before .before .before .before .before .before .before .before .before .before .extend .kept .1 .1 .1 .0 in
+    ⊎-elim (λ w. u ∙ ap length (w .2) ∙ k) (⊎-elim (λ w. u ∙ ap length (w .2) ∙ k) (λ w. u ∙ ap length (w .18 ∙ w .7 .ensures .1 .0) ∙ k)) (c .before .before .before .before .before .before .before .match .came)
+
+walk-joined-same-length-5 : (t : ℕ) → walk-joined-lts.Need-same-length-5 (walk-joined-claims t) (walk-joined-at t) walk-joined.Post
+walk-joined-same-length-5 t c =
+    let u = c .before .before .before .before .undo .kept .1 .0 in
+    let k = c .before .before .before .before .before .before .before .before .before .before .before .before .extend .kept .1 .1 .1 .1 .0 in
+    ⊎-elim (λ w. u ∙ ap length (w .3) ∙ k) (⊎-elim (λ w. u ∙ ap length (w .3) ∙ k) (λ w. u ∙ ap length (w .19 ∙ w .7 .ensures .1 .1) ∙ k)) (c .before .before .before .before .before .before .before .match .came)
+
+walk-joined-same-length-6 : (t : ℕ) → walk-joined-lts.Need-same-length-6 (walk-joined-claims t) (walk-joined-at t) walk-joined.Post
+walk-joined-same-length-6 t c =
+    ⊎-elim (λ w. ap length (w .4)) (⊎-elim (λ w. ap length (w .4)) (λ w. ap length (w .20) ∙ w .7 .kept .1 .1 .1 .1 .1 .1 .1 .1 .1 .1 .1 .1 .1 .0)) (c .before .before .before .before .before .before .before .match .came)
+
+walk-joined-same-length-7 : (t : ℕ) → walk-joined-lts.Need-same-length-7 (walk-joined-claims t) (walk-joined-at t) walk-joined.Post
+walk-joined-same-length-7 t c =
+    ⊎-elim (λ w. ap length (w .5)) (⊎-elim (λ w. ap length (w .5)) (λ w. ap length (w .21) ∙ w .7 .kept .1 .1 .1 .1 .1 .1 .1 .1 .1 .1 .1 .1 .1 .1 .0)) (c .before .before .before .before .before .before .before .match .came)
+
+walk-joined-same-length-8 : (t : ℕ) → walk-joined-lts.Need-same-length-8 (walk-joined-claims t) (walk-joined-at t) walk-joined.Post
+walk-joined-same-length-8 t c =
+    ⊎-elim (λ w. ap length (w .6)) (⊎-elim (λ w. ap length (w .6)) (λ w. ap length (w .22) ∙ w .7 .kept .1 .1 .1 .1 .1 .1 .1 .1 .1 .1 .1 .1 .1 .1 .1 .0)) (c .before .before .before .before .before .before .before .match .came)
+
+walk-joined-returns-2 : (t : ℕ) → walk-joined-lts.Need-returns-2 (walk-joined-claims t) (walk-joined-at t) walk-joined.Post
+walk-joined-returns-2 t c =
+    let g = c .before .before .before .before .before .before .before .before .before .before .before .before .before .before .before .before .before .before .before .before .before .before .before .before .before .before .before .before .before .before .pre .1 in
+    let x = c .before .before .before .before .before .before .before .before .before .before .before .before .extend .ensures in
+    let k = c .before .before .before .before .before .before .before .before .before .before .before .before .extend .kept .1 .1 .1 .0 in
+    let u = c .before .before .before .before .undo .ensures in
+    ⊎-elim
+    (λ w. (written-as (clash-joined g x (w .1 .given .1)) (w .4) (w .5) (w .6) (w .7), joins-undone g x refl k (w .2) (w .3) u))
+    (⊎-elim
+    (λ w. (written-as (occurs-joined g x (w .1 .given .1)) (w .4) (w .5) (w .6) (w .7), joins-undone g x refl k (w .2) (w .3) u))
+    (λ w. (written-as (unified-joined g x (w .1 .given .1) (w .7 .ensures .0)) (w .20) (w .21) (w .22) (w .23), joins-undone g x refl k (w .18 ∙ w .7 .ensures .1 .0) (w .19 ∙ w .7 .ensures .1 .1) u)))
+    (c .before .before .before .before .before .before .before .match .came)
 
 pub +step+walk+walk-joined-spec : {M : Type 1} → statement M
 +step+walk+walk-joined-spec = close μ-step μ-walk μ-walk-joined (λ t. step-lts.spec (step-claims t)
@@ -661,6 +714,8 @@ pub +step+walk+walk-joined-spec : {M : Type 1} → statement M
     (step-same-length t)
     (step-same-length-2 t)
     (step-same-length-3 t)
+    (step-same-length-4 t)
+    (step-same-length-5 t)
     (step-returns t)
     (step-add-p t)
     (step-sub-p t)
@@ -681,9 +736,9 @@ pub +step+walk+walk-joined-spec : {M : Type 1} → statement M
     (step-mul-entry-3 t)
     (step-slice-write-entry-3 t)
     (step-cast-if3 t)
-    (step-shared-slice-read-if3 t)
+    (step-slice-read-if3 t)
     (step-cast-if3-2 t)
-    (step-shared-slice-read-if3-2 t)
+    (step-slice-read-if3-2 t)
     (step-mul-walk-2 t)
     (step-add-walk-2 t)
     (step-mul-walk-3 t)
@@ -692,9 +747,11 @@ pub +step+walk+walk-joined-spec : {M : Type 1} → statement M
     (step-walk-requires-2 t)
     (step-mul-entry-4 t)
     (step-slice-write-entry-4 t)
-    (step-same-length-4 t)
-    (step-same-length-5 t)
     (step-same-length-6 t)
+    (step-same-length-7 t)
+    (step-same-length-8 t)
+    (step-same-length-9 t)
+    (step-same-length-10 t)
     (step-returns-3 t)
     (step-mul-walk-joined t)
     (step-add-walk-joined t)
@@ -703,9 +760,11 @@ pub +step+walk+walk-joined-spec : {M : Type 1} → statement M
     (step-walk-joined-requires t)
     (step-mul-entry-5 t)
     (step-slice-write-entry-5 t)
-    (step-same-length-7 t)
-    (step-same-length-8 t)
-    (step-same-length-9 t)
+    (step-same-length-11 t)
+    (step-same-length-12 t)
+    (step-same-length-13 t)
+    (step-same-length-14 t)
+    (step-same-length-15 t)
     (step-returns-4 t))
     (λ t. walk-lts.spec (walk-claims t)
     (walk-at t)
@@ -719,6 +778,8 @@ pub +step+walk+walk-joined-spec : {M : Type 1} → statement M
     (walk-same-length t)
     (walk-same-length-2 t)
     (walk-same-length-3 t)
+    (walk-same-length-4 t)
+    (walk-same-length-5 t)
     (walk-returns-2 t)
     (walk-add-end t)
     (walk-sub-stuck t)
@@ -729,47 +790,48 @@ pub +step+walk+walk-joined-spec : {M : Type 1} → statement M
     (walk-part-stuck-start-2 t)
     (walk-part-stuck-end-2 t)
     (walk-stuck-requires t)
-    (walk-same-length-4 t)
+    (walk-same-length-6 t)
     (walk-returns-3 t)
     (walk-add-last t)
     (walk-loop-holds t)
     (walk-step-requires t)
-    (walk-same-length-5 t)
-    (walk-same-length-6 t)
     (walk-same-length-7 t)
+    (walk-same-length-8 t)
+    (walk-same-length-9 t)
+    (walk-same-length-10 t)
+    (walk-same-length-11 t)
     (walk-returns-4 t)
     (walk-add-d t)
     (walk-loop-less t)
     (walk-loop-again t)
-    (walk-same-length-8 t)
-    (walk-same-length-9 t)
-    (walk-same-length-10 t)
+    (walk-same-length-12 t)
+    (walk-same-length-13 t)
+    (walk-same-length-14 t)
+    (walk-same-length-15 t)
+    (walk-same-length-16 t)
     (walk-returns-5 t))
-    λ t. walk-joined-lts.spec
-    (extend-copy-reads.Asked, extend-copy-reads.Learnt, walk-below t, walk.Post)
+    λ t. walk-joined-lts.spec (walk-joined-claims t)
     (walk-joined-at t)
     walk-joined.Post
-    (walk-joined-sub-extend-copy t)
-    (walk-joined-part-heads-start t)
-    (walk-joined-part-heads-end t)
-    (walk-joined-sub-extend-copy-2 t)
-    (walk-joined-part-after-start t)
-    (walk-joined-part-after-end t)
-    (walk-joined-extend-copy-requires t)
-    (walk-joined-enum-told t)
-    (walk-joined-enum-told-2 t)
-    (walk-joined-enum-told-3 t)
-    (walk-joined-sub-walk t)
-    (walk-joined-part-walk-start t)
-    (walk-joined-part-walk-end t)
-    (walk-joined-sub-walk-2 t)
-    (walk-joined-part-walk-start-2 t)
-    (walk-joined-part-walk-end-2 t)
-    (walk-joined-add-walk t)
-    (walk-joined-walk-requires t)
-    (walk-joined-returns t)
-    (walk-joined-returns-2 t)
+    (walk-joined-add-if1 t)
+    (walk-joined-is-kept-requires t)
+    (walk-joined-add-write-kept t)
+    (walk-joined-write-kept-requires t)
     (walk-joined-same-length t)
     (walk-joined-same-length-2 t)
     (walk-joined-same-length-3 t)
-    (walk-joined-returns-3 t)
+    (walk-joined-returns t)
+    (walk-joined-slice-read-mark t)
+    (walk-joined-extend-requires t)
+    (walk-joined-enum-told t)
+    (walk-joined-enum-told-2 t)
+    (walk-joined-enum-told-3 t)
+    (walk-joined-add-walk t)
+    (walk-joined-walk-requires t)
+    (walk-joined-undo-requires t)
+    (walk-joined-same-length-4 t)
+    (walk-joined-same-length-5 t)
+    (walk-joined-same-length-6 t)
+    (walk-joined-same-length-7 t)
+    (walk-joined-same-length-8 t)
+    (walk-joined-returns-2 t)

@@ -22,7 +22,7 @@ loop-holds c = let s = c .before .before in (search needs, search needs, s .pre 
 put-in-circle-requires : tie.Need-put-in-circle-requires Inv-loop μ-loop
 put-in-circle-requires c κs =
     let l = c .before .before .loop in
-    ((search needs, l .inv .4 .size, l .inv .2, l .inv .3), l .inv .4)
+    ((search needs, l .inv .2, l .inv .3), l .inv .4)
 
 add-i : tie.Need-add-i Inv-loop μ-loop
 add-i c = search needs
@@ -41,7 +41,7 @@ same-length c = search needs
 returns : tie.Need-returns Inv-loop μ-loop
 returns c =
     let l = c .before .loop in
-    circles-all _ _ (l .i) (l .inv .1) (c .loop-test .left) (l .inv .4)
+    circles-all _ _ (l .i) (l .inv .3) (l .inv .1) (c .loop-test .left) (l .inv .4)
 
 pub make-circles-spec : {M : Type 1} → statement M
 make-circles-spec =

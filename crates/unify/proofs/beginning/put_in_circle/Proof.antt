@@ -26,13 +26,13 @@ same-length c = search needs
 returns : tie.Need-returns
 returns c =
     let s = c .before .before in
-    circle-begins _ _ _ (s .pre .0 .0) (s .pre .0 .2) (s .pre .1) (c .if1 .taken)
+    circle-begins _ _ _ (s .pre .0 .0) (s .pre .0 .2) (s .pre .0 .1) (s .pre .1) (c .if1 .taken)
 
 slice-read-next : tie.Need-slice-read-next
 slice-read-next c =
     let s = c .before .before .before in
-    let f = s .pre .0 .2 .first (s .args .i) (s .pre .0 .0) in
-    omega (arith, f, s .pre .0 .0, s .pre .0 .1)
+    let f = s .pre .0 .1 .first (s .args .i) (s .pre .0 .0) in
+    omega (arith, f, s .pre .0 .0, s .pre .0 .2, s .pre .1 .size)
 
 slice-write-next-2 : tie.Need-slice-write-next-2
 slice-write-next-2 c = search needs
@@ -43,8 +43,8 @@ cast-next-2 c = search needs
 slice-write-next-3 : tie.Need-slice-write-next-3
 slice-write-next-3 c =
     let s = c .before .before .before in
-    let f = s .pre .0 .2 .first (s .args .i) (s .pre .0 .0) in
-    simp length-set (let z : _ = f in omega (arith, z, s .pre .0 .0, s .pre .0 .1))
+    let f = s .pre .0 .1 .first (s .args .i) (s .pre .0 .0) in
+    simp length-set (let z : _ = f in omega (arith, z, s .pre .0 .0, s .pre .0 .2, s .pre .1 .size))
 
 same-length-2 : tie.Need-same-length-2
 same-length-2 c = search needs
@@ -52,7 +52,7 @@ same-length-2 c = search needs
 returns-2 : tie.Need-returns-2
 returns-2 c =
     let s = c .before .before .before in
-    circle-grows _ _ _ (s .pre .0 .0) (s .pre .0 .2) (s .pre .1) _ refl (c .before .if1 .left)
+    circle-grows _ _ _ (s .pre .0 .0) (s .pre .0 .2) (s .pre .0 .1) (s .pre .1) _ refl (c .before .if1 .left)
 
 pub put-in-circle-spec : {M : Type 1} → statement M
 put-in-circle-spec =

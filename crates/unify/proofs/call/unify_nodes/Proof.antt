@@ -28,15 +28,6 @@ part-of-end c = search needs
 sub-unify-with-room-2 : tie.Need-sub-unify-with-room-2
 sub-unify-with-room-2 c = search needs
 
-part-next-start : tie.Need-part-next-start
-part-next-start c = search needs
-
-part-next-end : tie.Need-part-next-end
-part-next-end c = search needs
-
-sub-unify-with-room-3 : tie.Need-sub-unify-with-room-3
-sub-unify-with-room-3 c = search needs
-
 part-counts-start : tie.Need-part-counts-start
 part-counts-start c = search needs
 
@@ -46,6 +37,9 @@ part-counts-end c = search needs
 slice-aggregate-unify-with-room : tie.Need-slice-aggregate-unify-with-room
 slice-aggregate-unify-with-room c = search needs
 
+slice-aggregate-unify-with-room-2 : tie.Need-slice-aggregate-unify-with-room-2
+slice-aggregate-unify-with-room-2 c = search needs
+
 unify-with-room-requires : tie.Need-unify-with-room-requires
 unify-with-room-requires c κs =
     let s = c .before .before .before .before .before .before .before .before .before .before .before .before .before in
@@ -53,7 +47,7 @@ unify-with-room-requires c κs =
     let i = c .before .before .before .before .before .index in
     let l = s .pre .limit in
     let long = first-long (i .result) (omega (arith, l, i .ensures .0, n .ensures)) ∙ i .ensures .0 ∙ n .ensures in
-    (s .pre, (nodes-given (s .args .nodes .now) (s .args .arguments .now) _ _ _ (n .ensures) (c .before .before .before .before .before .before .if1 .left), ((long, long, long), refl)))
+    (s .pre, (nodes-given (s .args .nodes .now) (s .args .arguments .now) _ _ _ (n .ensures) (c .before .before .before .before .before .before .if1 .left), ((long, refl, long), refl)))
 
 same-length : tie.Need-same-length
 same-length c = search needs
@@ -71,13 +65,11 @@ unify-nodes-spec =
     sub-unify-with-room
     part-of-start
     part-of-end
+    slice-aggregate-unify-with-room
     sub-unify-with-room-2
-    part-next-start
-    part-next-end
-    sub-unify-with-room-3
     part-counts-start
     part-counts-end
-    slice-aggregate-unify-with-room
+    slice-aggregate-unify-with-room-2
     unify-with-room-requires
     same-length
     returns-2)

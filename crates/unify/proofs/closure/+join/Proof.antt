@@ -15,7 +15,7 @@ use Rattle.unification.specs.Computed.Classes.{classOf}
 use Rattle.unification.specs.Code.Heads.{roots}
 use Rattle.unification.specs.Code.Sections.{symbolTest}
 use Rattle.unify.specs.Code.Open.{markedTest}
-use Rattle.unify.proofs.ClosingStepLaws.{variable-tested, applied-tested, clash-tested, alike-tested, tested-by, argument-of, Advances, firstPairs, arguments-none, arguments-next, Meeting, OneSymbolHeads, join-already, meeting-inside, meeting-heads, join-clash, join-variable, one-count, applications-united, joinable-on, join-applications, join-stopped}
+use Rattle.unify.proofs.ClosingStepLaws.{variable-tested, applied-tested, clash-tested, alike-tested, tested-by, argument-of, Advances, firstPairs, arguments-none, arguments-next, Meeting, OneSymbolHeads, join-already, meeting-inside, meeting-heads, meeting-trailed, join-clash, join-variable, one-count, applications-united, joinable-on, join-applications, join-stopped}
 use Rattle.unify.proofs.closure.join.Reads as join
 use Rattle.unify.proofs.closure.join.Kinds as join-kinds
 use Rattle.unify.proofs.closure.+join.Lts-join as join-lts
@@ -46,7 +46,7 @@ claims t =
 
 abbrev join-Inv-loop : join-lts.InvT-loop
 join-Inv-loop nodes arguments counts of₀ next₀ i j g h first second count k₀ of next k =
-    (count ≡ countOf nodes g) × (k ≤ count) × (length of ≡ length of₀) × (length next ≡ length next₀) × Advances nodes arguments counts of₀ (firstPairs nodes arguments g h k) of next
+    (count ≡ countOf nodes g) × (k ≤ count) × (length of ≡ length of₀) × (length next ≡ length next₀) × Advances nodes arguments counts of₀ next₀ (firstPairs nodes arguments g h k) of next
 
 abbrev join-μ-loop : join-lts.MeasureT-loop
 join-μ-loop nodes arguments counts of₀ next₀ i j g h first second count k₀ of next k = count - k
@@ -159,7 +159,7 @@ join-is-variable-requires-2 t c κs =
 join-unite-requires : (t : ℕ) → join-lts.Need-unite-requires (claims t) (join-at t) join.Post join-Inv-loop join-μ-loop
 join-unite-requires t c κs =
     let m = meets t (c .before .before .before .before .before .before .before) in
-    ((m .joinable .partition .size, m .joinable .counts-right .enough), meeting-heads m)
+    ((m .joinable .partition .size, m .joinable .counts-right .enough), (meeting-heads m, meeting-trailed m))
 
 join-same-length : (t : ℕ) → join-lts.Need-same-length (claims t) (join-at t) join.Post join-Inv-loop join-μ-loop
 join-same-length t c = search needs
@@ -202,7 +202,7 @@ join-returns-3 t c =
 join-unite-requires-2 : (t : ℕ) → join-lts.Need-unite-requires-2 (claims t) (join-at t) join.Post join-Inv-loop join-μ-loop
 join-unite-requires-2 t c κs =
     let m = meets t (c .before .before .before .before .before .before .before .before .before .before) in
-    ((m .joinable .partition .size, m .joinable .counts-right .enough), meeting-heads m)
+    ((m .joinable .partition .size, m .joinable .counts-right .enough), (meeting-heads m, meeting-trailed m))
 
 join-arity-requires : (t : ℕ) → join-lts.Need-arity-requires (claims t) (join-at t) join.Post join-Inv-loop join-μ-loop
 join-arity-requires t c κs =
@@ -215,7 +215,7 @@ join-loop-holds : (t : ℕ) → join-lts.Need-loop-holds (claims t) (join-at t) 
 join-loop-holds t c =
     let m = meets t (c .before .before .before .before .before .before .before .before .before .before .before .before .before .before .before .before) in
     let u = applications-united m (alike t (c .before .before .before .before .before .before .before .before)) _ _ (c .before .before .before .before .before .unite2 .ensures) in
-    (c .arity .ensures .0 ∙ ap (countOf (start t (c .before .before .before .before .before .before .before .before .before .before .before .before .before .before .before .before) .args .nodes .now)) (c .before .before .before .before .before .before .before .before .before .before .before .before .before .before .before .node .ensures .0), search needs, refl, refl, arguments-none _ _ _ _ _ _ _ _ _ _ _ u)
+    (c .arity .ensures .0 ∙ ap (countOf (start t (c .before .before .before .before .before .before .before .before .before .before .before .before .before .before .before .before) .args .nodes .now)) (c .before .before .before .before .before .before .before .before .before .before .before .before .before .before .before .node .ensures .0), search needs, refl, refl, arguments-none _ _ _ _ _ _ _ _ _ _ _ _ u)
 
 join-argument-requires : (t : ℕ) → join-lts.Need-argument-requires (claims t) (join-at t) join.Post join-Inv-loop join-μ-loop
 join-argument-requires t c κs =
@@ -284,7 +284,7 @@ join-loop-again t c =
     let l = c .before .before .before .before .before .before .before .before .before .before .before .loop in
     let x = argument-of (s .args .nodes .now) (s .args .arguments .now) (l .k) (c .before .before .before .before .before .before .before .before .before .argument .ensures .0) (c .before .before .before .before .before .before .before .before .before .before .before .before .before .before .before .before .before .before .before .before .before .before .before .before .before .before .before .node .ensures .0) in
     let y = argument-of (s .args .nodes .now) (s .args .arguments .now) (l .k) (c .before .before .before .before .before .before .before .before .argument2 .ensures .0) (c .before .before .before .before .before .before .before .before .before .before .before .before .before .before .before .before .before .before .before .before .before .before .before .before .before .before .node2 .ensures .0) in
-    (l .inv .0, search needs, search needs, search needs, arguments-next _ _ _ _ _ _ (l .k) _ _ (l .inv .4) _ _ _ _ _ x y (c .before .before .before .before .before .join .ensures) (not-false _ (c .if4 .left)))
+    (l .inv .0, search needs, search needs, search needs, arguments-next _ _ _ _ _ _ _ (l .k) _ _ (l .inv .4) _ _ _ _ _ x y (c .before .before .before .before .before .join .ensures) (not-false _ (c .if4 .left)))
 
 join-same-length-5 : (t : ℕ) → join-lts.Need-same-length-5 (claims t) (join-at t) join.Post join-Inv-loop join-μ-loop
 join-same-length-5 t c = search needs

@@ -37,7 +37,9 @@ strength-requires-2 c κs =
     (omega (arith, p .1, e), p .2)
 
 is-shorter-requires : tie.Need-is-shorter-requires
-is-shorter-requires c κs = c .before .before .before .before .before .before .before .before .pre .1
+is-shorter-requires c κs =
+    let s = c .before .before .before .before .before .before .before .before in
+    (_, s .pre .1, s .pre .0 .1)
 
 returns : tie.Need-returns
 returns c =

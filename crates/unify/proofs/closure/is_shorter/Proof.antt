@@ -1,54 +1,55 @@
 -- `unify::closure::is_shorter` meets its contract: it comes back to the first node. Assumes nothing.
-use Prim.Native.Nat.{_<_}
+use Prim.Native.Nat.{ℕ, _<_}
+use native.Mathlib.Omega.{arith}
 use borrow.Author.Needs.{needs}
 use lib.ListN.{length}
 use Rattle.unify.specs.Code.Circle.{Follows}
+use Rattle.unify.specs.Code.Uniting.{Circling}
 use Rattle.unify.proofs.CircleLaws.{distance, nearer, follows-still, not-there}
 use Rattle.unify.proofs.closure.is_shorter.Statement.{statement}
 use Rattle.unify.proofs.closure.is_shorter.Tie as tie
 
 abbrev Inv-loop : tie.InvT-loop
-Inv-loop next g h i₀ j₀ i j = (i < length next) × (j < length next) × Follows next i g
+Inv-loop next g h i₀ j₀ i j = (n : ℕ) × Circling n next g × (i < n) × (j < n) × Follows next i g
 
 abbrev μ-loop : tie.MeasureT-loop
 μ-loop next g h i₀ j₀ i j = distance next g (length next) i
 
 shared-slice-read-i : tie.Need-shared-slice-read-i Inv-loop μ-loop
-shared-slice-read-i c = c .before .pre .0 .inside
+shared-slice-read-i c = let p = c .before .pre .1 in omega (arith, p .inside, p .size)
 
 shared-slice-read-j : tie.Need-shared-slice-read-j Inv-loop μ-loop
-shared-slice-read-j c = c .before .before .pre .1
+shared-slice-read-j c = let p = c .before .before .pre in omega (arith, p .2, p .1 .size)
 
 loop-holds : tie.Need-loop-holds Inv-loop μ-loop
 loop-holds c =
     let s = c .before .before in
-    let p = s .pre .0 in
-    (p .below (s .args .g) (p .inside), p .below (s .args .h) (s .pre .1), p .back)
+    let p = s .pre .1 in
+    (s .pre .0, p, p .below (s .args .g) (p .inside), p .below (s .args .h) (s .pre .2), p .back)
 
 cast-i : tie.Need-cast-i Inv-loop μ-loop
 cast-i c = search needs
 
 shared-slice-read-i-2 : tie.Need-shared-slice-read-i-2 Inv-loop μ-loop
-shared-slice-read-i-2 c = c .before .before .loop .inv .0
+shared-slice-read-i-2 c = let v = c .before .before .loop .inv in omega (arith, v .1 .size, v .2)
 
 cast-j : tie.Need-cast-j Inv-loop μ-loop
 cast-j c = search needs
 
 shared-slice-read-j-2 : tie.Need-shared-slice-read-j-2 Inv-loop μ-loop
-shared-slice-read-j-2 c = c .before .before .before .loop .inv .1
+shared-slice-read-j-2 c = let v = c .before .before .before .loop .inv in omega (arith, v .1 .size, v .3)
 
 loop-less : tie.Need-loop-less Inv-loop μ-loop
 loop-less c =
     let s = c .before .before .before .before .before .before in
     let l = c .before .before .before .loop in
-    nearer _ (s .args .g) (l .i) (s .pre .0) (l .inv .0) (l .inv .2) (not-there _ _ _ (c .before .before .loop-test .taken))
+    nearer _ _ (s .args .g) (l .i) (l .inv .1) (l .inv .2) (l .inv .4) (not-there _ _ _ (c .before .before .loop-test .taken))
 
 loop-again : tie.Need-loop-again Inv-loop μ-loop
 loop-again c =
-    let s = c .before .before .before .before .before .before in
     let l = c .before .before .before .loop in
-    let p = s .pre .0 in
-    (p .below (l .i) (l .inv .0), p .below (l .j) (l .inv .1), follows-still (l .inv .2) (not-there _ _ _ (c .before .before .loop-test .taken)))
+    let p = l .inv .1 in
+    (l .inv .0, p, p .below (l .i) (l .inv .2), p .below (l .j) (l .inv .3), follows-still (l .inv .4) (not-there _ _ _ (c .before .before .loop-test .taken)))
 
 returns : tie.Need-returns Inv-loop μ-loop
 returns c = search needs

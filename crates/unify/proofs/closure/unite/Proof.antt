@@ -8,9 +8,9 @@ use Rattle.unify.proofs.closure.unite.Tie as tie
 goes-first-requires : tie.Need-goes-first-requires
 goes-first-requires c κs =
     let p = c .before .before .before .before .before .pre in
-    let t = p .1 in
+    let t = p .1 .0 in
     let e = p .0 .0 in
-    ((rw e at (t .first), rw e at (t .second), p .0 .1), (circling t, circling (turned t) .inside))
+    ((rw e at (t .first), rw e at (t .second), p .0 .1), rw e at (circling t))
 
 merge-requires : tie.Need-merge-requires
 merge-requires c κs = c .before .before .before .before .before .before .before .before .before .pre .1
@@ -25,13 +25,14 @@ returns : tie.Need-returns
 returns c =
     let e = c .before .before .before .before .merge .ensures in
     inl (record {
-      renames = e .0;
-      circles = e .1;
+      merged = e;
       weaker = c .before .before .before .before .before .before .before .before .goes-first .ensures .0 (c .before .before .before .before .before .before .before .if1 .taken);
     })
 
 merge-requires-2 : tie.Need-merge-requires-2
-merge-requires-2 c κs = turned (c .before .before .before .before .before .before .before .before .before .pre .1)
+merge-requires-2 c κs =
+    let p = c .before .before .before .before .before .before .before .before .before .pre .1 in
+    (turned (p .0), p .1)
 
 same-length-3 : tie.Need-same-length-3
 same-length-3 c = search needs
@@ -43,8 +44,7 @@ returns-2 : tie.Need-returns-2
 returns-2 c =
     let e = c .before .before .before .before .merge2 .ensures in
     inr (record {
-      renames = e .0;
-      circles = e .1;
+      merged = e;
       weaker = c .before .before .before .before .before .before .before .before .goes-first .ensures .1 (c .before .before .before .before .before .before .before .if1 .left);
     })
 

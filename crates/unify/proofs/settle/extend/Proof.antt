@@ -18,7 +18,7 @@ same-length-2 c = search needs
 returns : tie.Need-returns
 returns c =
     let s = c .before .before .before .before .before .before .before .before .before .before .before .before .before in
-    extends-clash _ _ _ (s .pre .0 .0) _ (s .pre .1 .0 .0) (s .args .a .0) (s .args .b .0) (s .pre .1 .1 .0) (s .pre .1 .1 .1) _ _ _ (c .before .before .before .before .before .join .ensures) (not-true _ (c .if1 .taken))
+    extends-clash _ _ _ (s .pre .0 .0) _ (s .pre .1 .0 .0) (s .args .a .0) (s .args .b .0) (s .pre .1 .1 .0) (s .pre .1 .1 .1) _ _ _ _ (c .before .before .before .before .before .join .ensures) (not-true _ (c .if1 .taken))
 
 leads-back-requires : tie.Need-leads-back-requires
 leads-back-requires c κs = search needs
@@ -32,7 +32,7 @@ same-length-4 c = search needs
 returns-2 : tie.Need-returns-2
 returns-2 c =
     let s = c .before .before .before .before .before .before .before .before .before .before .before .before .before .before .before .before in
-    extends-occurs _ _ _ (s .pre .0 .0) _ (s .pre .1 .0 .0) (s .args .a .0) (s .args .b .0) (s .pre .1 .1 .0) (s .pre .1 .1 .1) _ _ _ (c .before .before .before .before .before .before .before .before .join .ensures) (not-false _ (c .before .before .before .if1 .left)) (s .pre .0 .1) _ (c .before .leads-back .ensures) (c .if2 .taken)
+    extends-occurs _ _ _ (s .pre .0 .0) _ (s .pre .1 .0 .0) (s .args .a .0) (s .args .b .0) (s .pre .1 .1 .0) (s .pre .1 .1 .1) _ _ _ _ (c .before .before .before .before .before .before .before .before .join .ensures) (not-false _ (c .before .before .before .if1 .left)) (s .pre .0 .1) _ (c .before .leads-back .ensures) (c .if2 .taken)
 
 same-length-5 : tie.Need-same-length-5
 same-length-5 c = search needs
@@ -43,7 +43,7 @@ same-length-6 c = search needs
 returns-3 : tie.Need-returns-3
 returns-3 c =
     let s = c .before .before .before .before .before .before .before .before .before .before .before .before .before .before .before .before in
-    extends-unified _ _ _ (s .pre .0 .0) _ (s .pre .1 .0 .0) (s .args .a .0) (s .args .b .0) (s .pre .1 .1 .0) (s .pre .1 .1 .1) _ _ _ (c .before .before .before .before .before .before .before .before .join .ensures) (not-false _ (c .before .before .before .if1 .left)) (s .pre .0 .1) _ (c .before .leads-back .ensures) (c .if2 .left)
+    extends-unified _ _ _ (s .pre .0 .0) _ (s .pre .1 .0 .0) (s .args .a .0) (s .args .b .0) (s .pre .1 .1 .0) (s .pre .1 .1 .1) _ _ _ _ (c .before .before .before .before .before .before .before .before .join .ensures) (not-false _ (c .before .before .before .if1 .left)) (s .pre .0 .1) _ (c .before .leads-back .ensures) (c .if2 .left)
 
 pub extend-spec : {M : Type 1} → statement M
 extend-spec =

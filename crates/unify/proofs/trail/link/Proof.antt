@@ -1,8 +1,8 @@
--- `unify::closure::link` meets its contract. Assumes nothing.
+-- `unify::trail::link` meets its contract. Assumes nothing.
 use borrow.Author.Needs.{needs}
 use Rattle.unify.specs.Code.Uniting.{exchanged}
-use Rattle.unify.proofs.closure.link.Statement.{statement}
-use Rattle.unify.proofs.closure.link.Tie as tie
+use Rattle.unify.proofs.trail.link.Statement.{statement}
+use Rattle.unify.proofs.trail.link.Tie as tie
 
 slice-read-after : tie.Need-slice-read-after
 slice-read-after c = search needs
