@@ -225,7 +225,7 @@ lies-later {words} {args} {left} {right} {key} {place} {lent} {at} {es} {lent′
     }
 
 -- so all that is remembered stays right
-pub remembers-later : {words args left right memory lent : List ℕ} {at : ℕ} {es : List (List ℕ)} {lent′ : List ℕ} {w : Written} → Remembers words args left right memory lent at → Writes es lent at lent′ w → Remembers words args left right memory lent′ (w .used)
+remembers-later : {words args left right memory lent : List ℕ} {at : ℕ} {es : List (List ℕ)} {lent′ : List ℕ} {w : Written} → Remembers words args left right memory lent at → Writes es lent at lent′ w → Remembers words args left right memory lent′ (w .used)
 remembers-later g r =
     let m = writes-room (g .room) r in
     record {
@@ -309,7 +309,7 @@ module _ {words args left right memory lent : List ℕ} {at : ℕ} {es : List (L
       pick (no h) = rw (n .none (omega (arith, h))) (remembers-later g r)
 
 -- the pairs of an entry are pairs of nodes
-pairable-inside : {words left right entry : List ℕ} {i : ℕ} (args : List ℕ) → Pairable words left right entry i → Inside (nodesFrom words args) (pairsIn left right entry i)
+pub pairable-inside : {words left right entry : List ℕ} {i : ℕ} (args : List ℕ) → Pairable words left right entry i → Inside (nodesFrom words args) (pairsIn left right entry i)
 pairable-inside {words} {left} {right} {entry} {i} args p =
     paired-inside (nodesFrom words args) right (λ j h. is-node words args (word right j) (p .right-nodes j h)) left (λ j h. is-node words args (word left j) (p .left-nodes j h)) (take i entry) (first-positive entry i (p .positive)) [] (λ x y m. absurd (List·Memᴰ·not-nil m))
 

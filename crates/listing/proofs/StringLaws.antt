@@ -109,8 +109,8 @@ module _ {words args left right entry : List ℕ} {labels : Labels} {key weight 
       }
 
   -- its key is in range
-  pub key-room : key + 1 < 2 ^ 64
-  key-room = rw (g .keyed) (key-fits (length right) i entry (l .right-few) (omega (arith, g .depth, l .left-few)))
+  pub key-in-range : key + 1 < 2 ^ 64
+  key-in-range = rw (g .keyed) (key-fits (length right) i entry (l .right-few) (omega (arith, g .depth, l .left-few)))
 
   -- the binding words are put behind its digits
   module _ {entry₁ : List ℕ} (b : Bound words args left right entry i entry₁) where

@@ -39,12 +39,13 @@ use Rattle.unify.proofs.AtOnceLaws.{together, formed-unified}
 use Rattle.unify.proofs.PreparedLaws.{prepared-kept}
 use Rattle.unify.proofs.TrailLaws.{merges-trailed, undoable, undone-same}
 use Rattle.listing.proofs.KnownLaws.{may-word}
-use Rattle.listing.proofs.MemoryLaws.{key-placed, key-paired, key-bound, key-fits}
+use Rattle.listing.proofs.MemoryLaws.{key-placed, key-paired, key-bound, pairable-inside}
 use Rattle.listing.proofs.PartnerLaws.{below-stuck, may-none}
 use Rattle.listing.proofs.WritingLaws.{remains-whole, remains-next, remains-full, remains-done, writes-none}
 use Rattle.listing.proofs.HopelessLaws.{below-hopeless, unpaired-set}
 use Rattle.listing.proofs.BelowLaws.{inside-more, not-unified, same-more, same-unified}
 use Rattle.listing.proofs.BranchLaws.{digit-label, digit-taken, digit-pair, paired-placed, paired-more, paired-inside, set-digits, set-marks, mark-digits, mark-marks, mark-word, keeps-again, branch-room, marks-long, digits-positive, branching-kept, branching-next}
+use Rattle.listing.proofs.StringLaws.{branch-pairable}
 
 -- where left terms are still to go, the entries below a branch are those of each digit of the next one
 below-over : (ns : List Node) (left rs : List ℕ) (k l i : ℕ) (ds : List ℕ) (ps : List (ℕ × ℕ)) (marks : List ℕ) → i < length left → below ns rs k l (drop i left) ds ps marks ≡ over 1 (length rs + l) (λ d. onDigit ns rs (below ns rs k l (drop (i + 1) left)) ds ps marks (word left i) d)
@@ -96,8 +97,7 @@ either i n j m h = pick (eqb i n) refl (eqb j m) refl h
 
 -- the pairs of a branch are of nodes
 branch-inside : {words args left right : List ℕ} {labels : Labels} {entry : List ℕ} {key weight unpaired i : ℕ} → Listable words args left right labels → Branching words args left right entry key weight unpaired i → Inside (nodesFrom words args) (pairsIn left right entry i)
-branch-inside {words} {args} {left} {right} {labels} {entry} {i = i} l g =
-    paired-inside (nodesFrom words args) right (λ j h. is-node words args (word right j) (l .right-nodes j h)) left (λ j h. is-node words args (word left j) (l .left-nodes j h)) (take i entry) (digits-positive g) [] (λ a b m. absurd (List·Memᴰ·not-nil m))
+branch-inside {args = args} l g = pairable-inside args (branch-pairable l g)
 
 module _ {words args left right : List ℕ} {labels : Labels} {known prepared cs next : List ℕ} {key weight unpaired i : ℕ} {entry memory lent : List ℕ} {at : ℕ} (g : Walking words args left right labels known prepared cs next key weight unpaired i entry memory lent at) where
   -- a hopeless branch has no entries
@@ -439,10 +439,6 @@ module _ {words args left right : List ℕ} {labels : Labels} {known prepared cs
   walked-on : outcome (nodesFrom words args) ((a, b) ∷ g .standing .pairs) ≡ unified → {entry′ memory′ lent′ : List ℕ} {w : Written} → Walked words args left right labels (i + 1) entry memory lent at entry′ memory′ lent′ w → WalkedJoined words args left right labels i a b entry memory lent at entry′ memory′ lent′ w
   unfolding ifUnified
   walked-on u r = rw (joined-unified .0 u) r
-
-  -- the key with its pair is in range
-  pub joined-key-room : key + 1 < 2 ^ 64
-  joined-key-room = rw (g .branching .keyed) (key-fits (length right) (i + 1) entry (g .listable .right-few) (omega (arith, g .branching .depth, g .listable .left-few)))
 
   -- binding words are kept for the pairs, and nothing else is to be decided: x is whether they are kept
   module _ {x : Bool} (y : x ≡ eqb (word memory (slotOf key)) (key + 1)) (e : (eqb unpaired 0 || eqb (i + 1) (length left)) && x ≡ true) where

@@ -176,7 +176,7 @@ pub heads-named : (words args cs names : List ℕ) → Named words args cs names
 heads-named words args cs names m s p l = record { readable = record { sections = s; partition = p; long = l }; named = m }
 
 -- the name of an application names itself
-pub name-itself : (words args counts cs names : List ℕ) → HeadNames words args cs names → NamesLeast words args counts cs names → (ps : List (ℕ × ℕ)) → Closed (nodesFrom words args) ps (classOf cs) → (i : ℕ) → i < nodeCount words → Applied words cs i → valueName cs names (valueName cs names i) ≡ valueName cs names i
+name-itself : (words args counts cs names : List ℕ) → HeadNames words args cs names → NamesLeast words args counts cs names → (ps : List (ℕ × ℕ)) → Closed (nodesFrom words args) ps (classOf cs) → (i : ℕ) → i < nodeCount words → Applied words cs i → valueName cs names (valueName cs names i) ≡ valueName cs names i
 name-itself words args counts cs names m t ps c i h n =
     let v = valueName cs names i in
     let l = m .named .node i h in

@@ -31,7 +31,7 @@ use Rattle.unify.proofs.FindLaws.{order-short}
 use Rattle.unify.proofs.BindingLaws.{heads-named}
 
 -- there are no more nodes than the limit
-pub nodes-few : (words args : List ℕ) → Sections words args → nodeCount words ≤ maxNodes
+nodes-few : (words args : List ℕ) → Sections words args → nodeCount words ≤ maxNodes
 nodes-few words args s = let z = s .limit in omega (arith, z)
 
 module _ (words args : List ℕ) (s : Sections words args) (counts cs : List ℕ) (k : Counts words args counts (nodeCount words)) (f : Formed words args counts cs) where

@@ -217,7 +217,7 @@ module _ (n : ℕ) (cs next : List ℕ) (g h : ℕ) (t : TwoHeads n cs next g h)
         }
 
 -- classes that are merged can be merged on
-pub merged-trailed : {n : ℕ} {cs next : List ℕ} {g h : ℕ} {cs′ next′ : List ℕ} → Merged n cs next g h cs′ next′ → Trailed n cs′ next′
+merged-trailed : {n : ℕ} {cs next : List ℕ} {g h : ℕ} {cs′ next′ : List ℕ} → Merged n cs next g h cs′ next′ → Trailed n cs′ next′
 merged-trailed {n = n} {cs = cs} {next = next} {g = g} {h = h} m =
     subst₂ (Trailed n) (sym (m .renames)) (sym (m .linked)) (trailed-after n cs next g h (m .heads) (m .trailed))
 

@@ -8,7 +8,8 @@ use borrow.Author.Needs.{needs}
 use lib.ListN.{length, length-set}
 use Rattle.table.specs.Limits.{maxTerms}
 use Rattle.listing.specs.Code.Walk.{Turning}
-use Rattle.listing.proofs.WalkLaws.{written-as, ending, going-on, hopeless-walked, stuck-room, stuck-walked, weight-room, pair-room, key-room, placed-next, placed-stepped, refused-stepped, unpaired-some, mark-inside, joining, joined-stepped, turning-first, turning-walking, turning-next, turning-full, turning-done, joined-key-room, kept-ending, kept-key, kept-joined, mark-room, same-next, same-joined, clash-joined, occurs-joined, joined-next, unified-joined, joins-since, joins-undone}
+use Rattle.listing.proofs.StringLaws.{key-in-range}
+use Rattle.listing.proofs.WalkLaws.{written-as, ending, going-on, hopeless-walked, stuck-room, stuck-walked, weight-room, pair-room, key-room, placed-next, placed-stepped, refused-stepped, unpaired-some, mark-inside, joining, joined-stepped, turning-first, turning-walking, turning-next, turning-full, turning-done, kept-ending, kept-key, kept-joined, mark-room, same-next, same-joined, clash-joined, occurs-joined, joined-next, unified-joined, joins-since, joins-undone}
 use borrow.Fn.Kinds.{In}
 use borrow.Fn.PlainCycle.{Measures, is, falls, and}
 use Rattle.listing.proofs.walk.step.Reads as step
@@ -601,7 +602,7 @@ walk-joined-add-if1 t c =
 walk-joined-is-kept-requires : (t : ℕ) → walk-joined-lts.Need-is-kept-requires (walk-joined-claims t) (walk-joined-at t) walk-joined.Post
 walk-joined-is-kept-requires t c κs =
     let g = c .before .before .before .before .before .before .before .before .before .before .before .before .pre .1 in
-    (g .remembers .size, joined-key-room g)
+    (g .remembers .size, key-in-range (g .listable) (g .branching))
 
 walk-joined-add-write-kept : (t : ℕ) → walk-joined-lts.Need-add-write-kept (walk-joined-claims t) (walk-joined-at t) walk-joined.Post
 walk-joined-add-write-kept t c =

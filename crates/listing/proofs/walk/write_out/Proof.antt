@@ -1,7 +1,7 @@
 -- `listing::walk::write_out` meets its contract: where every left term has its digit the right digits are left, otherwise the labels of the
 -- other left terms. All entries written have the binding words of the entry, and their place is noted. Assumes nothing.
 use borrow.Author.Needs.{needs}
-use Rattle.listing.proofs.StringLaws.{key-room, other, string-walked, label-walked}
+use Rattle.listing.proofs.StringLaws.{key-in-range, other, string-walked, label-walked}
 use Rattle.listing.proofs.walk.write_out.Statement.{statement}
 use Rattle.listing.proofs.walk.write_out.Tie as tie
 
@@ -12,7 +12,7 @@ write-rights-requires : tie.Need-write-rights-requires
 write-rights-requires c κs = search needs
 
 note-place-requires : tie.Need-note-place-requires
-note-place-requires c κs = let g = c .before .before .before .before .before .before .before .before .before .before .before .before .before .before .before .before .pre .0 in (g .remembers .size, key-room (g .listable) (g .branching))
+note-place-requires c κs = let g = c .before .before .before .before .before .before .before .before .before .before .before .before .before .before .before .before .pre .0 in (g .remembers .size, key-in-range (g .listable) (g .branching))
 
 same-length : tie.Need-same-length
 same-length c = search needs
@@ -32,7 +32,7 @@ write-labels-requires : tie.Need-write-labels-requires
 write-labels-requires c κs = search needs
 
 note-place-requires-2 : tie.Need-note-place-requires-2
-note-place-requires-2 c κs = let g = c .before .before .before .before .before .before .before .before .before .before .before .before .before .before .before .before .pre .0 in (g .remembers .size, key-room (g .listable) (g .branching))
+note-place-requires-2 c κs = let g = c .before .before .before .before .before .before .before .before .before .before .before .before .before .before .before .before .pre .0 in (g .remembers .size, key-in-range (g .listable) (g .branching))
 
 same-length-4 : tie.Need-same-length-4
 same-length-4 c = search needs
