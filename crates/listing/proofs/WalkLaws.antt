@@ -2,7 +2,7 @@
 -- The definition mirrors the code, so that each way through the code is one equation of it. Assumes nothing.
 use Prim.Native.Nat.{ℕ, suc, _+_, _-_, _*_, _^_, _≤_, _<_}
 use mathlib.Core.Bool.{Bool, true, false, _&&_, _||_, false≢true}
-use mathlib.Core.List.{List, [], _∷_, _++_, List·Memᴰ·not-nil}
+use mathlib.Core.List.{List, [], _∷_, _++_}
 use mathlib.Core.Logic.{_⊎_, ⊎-elim, inl, inr, _↔_}
 use mathlib.Core.Path.{_≡_, refl, sym, ap, _∙_}
 use native.Mathlib.Nat.{mul-le-mul-right, pow-suc, pow-le-pow-right}
@@ -37,14 +37,14 @@ use Rattle.listing.specs.Code.Known.{mayIn}
 use Rattle.listing.specs.Code.Walk.{over, ifUnified, onDigit, below, unpairedIn, hopeless, Branching, Walking, Joining, branchEntries, digitEntries, KeepsBranch, WritesBelow, Walked, WalkedJoined, Stepped, Turning}
 use Rattle.unify.proofs.AtOnceLaws.{together, formed-unified}
 use Rattle.unify.proofs.PreparedLaws.{prepared-kept}
-use Rattle.unify.proofs.TrailLaws.{merges-trailed, undoable, undone-same}
+use Rattle.unify.proofs.TrailLaws.{merges-trailed, merges-since, merges-back}
 use Rattle.listing.proofs.KnownLaws.{may-word}
 use Rattle.listing.proofs.MemoryLaws.{key-placed, key-paired, key-bound, pairable-inside}
 use Rattle.listing.proofs.PartnerLaws.{below-stuck, may-none}
 use Rattle.listing.proofs.WritingLaws.{remains-whole, remains-next, remains-full, remains-done, writes-none}
 use Rattle.listing.proofs.HopelessLaws.{below-hopeless, unpaired-set}
 use Rattle.listing.proofs.BelowLaws.{inside-more, not-unified, same-more, same-unified}
-use Rattle.listing.proofs.BranchLaws.{digit-label, digit-taken, digit-pair, paired-placed, paired-more, paired-inside, set-digits, set-marks, mark-digits, mark-marks, mark-word, keeps-again, branch-room, marks-long, digits-positive, branching-kept, branching-next}
+use Rattle.listing.proofs.BranchLaws.{digit-label, digit-taken, digit-pair, paired-placed, paired-more, set-digits, set-marks, mark-digits, mark-marks, mark-word, keeps-again, branch-room, marks-long, branching-kept, branching-next}
 use Rattle.listing.proofs.StringLaws.{branch-pairable}
 
 -- where left terms are still to go, the entries below a branch are those of each digit of the next one
@@ -81,10 +81,6 @@ nothing-below {es} {entry = entry} {lent = lent} {at = at} r h e =
       keeps = λ z. record { digits = refl; marks = refl };
       remembers = λ z. r;
     }
-
--- what is written is the same under other names
-pub written-as : {es : List (List ℕ)} {words args left right : List ℕ} {i : ℕ} {entry memory lent : List ℕ} {at : ℕ} {entry₁ memory₁ lent₁ : List ℕ} {w₁ : Written} → WritesBelow es words args left right i entry memory lent at entry₁ memory₁ lent₁ w₁ → {entry₂ memory₂ lent₂ : List ℕ} {w₂ : Written} → entry₂ ≡ entry₁ → memory₂ ≡ memory₁ → lent₂ ≡ lent₁ → w₂ ≡ w₁ → WritesBelow es words args left right i entry memory lent at entry₂ memory₂ lent₂ w₂
-written-as y p q s e = rw (p, q, s, e) y
 
 -- one of two tests of numbers is met
 either : (i n j m : ℕ) → eqb i n || eqb j m ≡ true → (i ≡ n) ⊎ (j ≡ m)
@@ -415,11 +411,7 @@ module _ {words args left right : List ℕ} {labels : Labels} {known prepared cs
       let y = is-node words args b (g .second) in
       same-unified (nodesFrom words args) (sections-well-formed words args (g .listable .sections)) ((a, b) ∷ g .standing .pairs) ((a, b) ∷ pairsIn left right entry i) (inside-more (nodesFrom words args) a b (g .standing .pairs) x y (g .standing .stands .inside)) (rw (g .pair) at (branch-inside (g .listable) (g .branching))) (same-more (nodesFrom words args) (a, b) (g .standing .pairs) (pairsIn left right entry i) (g .standing .unifiers))
 
-  -- a pair that fails has no entries below it
-  failed : (outcome (nodesFrom words args) ((a, b) ∷ g .standing .pairs) ≡ unified → ⊥) → WalkedJoined words args left right labels i a b entry memory lent at entry memory lent (idle at)
-  failed f = nothing-below (g .remembers) (g .room) (not-unified _ _ (λ z. f (joined-unified .1 z)))
-
-  -- one that does not is walked on with
+  -- where it does not, it is walked on with
   walking-on : {cs′ next′ : List ℕ} → Formed words args known cs′ → Trailed (nodeCount words) cs′ next′ → Prepared words args known cs′ prepared → Stands words args cs′ ((a, b) ∷ g .standing .pairs) → Walking words args left right labels known prepared cs′ next′ key weight unpaired (i + 1) entry memory lent at
   walking-on f o y s =
       record {
@@ -479,13 +471,17 @@ module _ {words args left right : List ℕ} {labels : Labels} {known prepared cs
     came-to : outcome (nodesFrom words args) ((a, b) ∷ g .standing .pairs) ≡ extended r
     came-to = sym (x .answers (g .standing .pairs) (g .standing .stands))
 
+    -- a pair that fails has no entries below it, and the classes are as before
+    failed-joined : (extended r ≡ unified → ⊥) → WalkedJoined words args left right labels i a b entry memory lent at entry memory lent (idle at) × ((cs′ ≡ cs) × (next′ ≡ next))
+    failed-joined f = (nothing-below (g .remembers) (g .room) (not-unified _ _ (λ z. f (sym came-to ∙ joined-unified .1 z))), x .failed (λ z. f (ap extended z)))
+
     -- a clash
-    pub clash-joined : r ≡ Clash → WalkedJoined words args left right labels i a b entry memory lent at entry memory lent (idle at)
-    clash-joined e = failed (λ z. let y = came-to ∙ ap extended e in let o : _≡_ {A = ℕ} 0 1 = cc in omega arith)
+    pub clash-joined : r ≡ Clash → WalkedJoined words args left right labels i a b entry memory lent at entry memory lent (idle at) × ((cs′ ≡ cs) × (next′ ≡ next))
+    clash-joined e = failed-joined (λ z. let y = ap extended e in let o : _≡_ {A = ℕ} 0 1 = cc in omega arith)
 
     -- a variable in a term that holds it
-    pub occurs-joined : r ≡ Occurs → WalkedJoined words args left right labels i a b entry memory lent at entry memory lent (idle at)
-    occurs-joined e = failed (λ z. let y = came-to ∙ ap extended e in let o : _≡_ {A = ℕ} 0 1 = cc in omega arith)
+    pub occurs-joined : r ≡ Occurs → WalkedJoined words args left right labels i a b entry memory lent at entry memory lent (idle at) × ((cs′ ≡ cs) × (next′ ≡ next))
+    occurs-joined e = failed-joined (λ z. let y = ap extended e in let o : _≡_ {A = ℕ} 0 1 = cc in omega arith)
 
     module _ (e : r ≡ Unified) where
       -- the walk goes on with the extended classes
@@ -501,16 +497,12 @@ module _ {words args left right : List ℕ} {labels : Labels} {known prepared cs
       pub unified-joined : {entry′ memory′ lent′ : List ℕ} {w : Written} → Walked words args left right labels (i + 1) entry memory lent at entry′ memory′ lent′ w → WalkedJoined words args left right labels i a b entry memory lent at entry′ memory′ lent′ w
       unified-joined y = walked-on (came-to ∙ ap extended e) y
 
-    -- whatever the answer, the joins can be undone: mark heads had gone before them
-    module _ {mark : ℕ} (u : mark ≡ gone next) (l : length cs′ ≡ length cs) {cs″ next″ : List ℕ} (p : cs″ ≡ cs′) (q : next″ ≡ next′) where
-      -- as long as the classes are, so many nodes there are
-      nodes-long : nodeCount words ≡ length cs″
-      nodes-long = sym (ap length p ∙ l ∙ g .formed .partition .size)
+      -- after the walk they are the same, and the joins can be undone
+      module _ {cs″ next″ : List ℕ} (s : (cs″ ≡ cs′) × (next″ ≡ next′)) where
+        -- there are classes to go back to
+        pub joins-since : Since (length cs″) (gone next) cs″ next″ × (length next″ ≡ links)
+        joins-since = rw (s .0, s .1) (merges-since (g .trailed) (joined-next .formed .partition .size) (x .merges))
 
-      -- there are classes to go back to
-      pub joins-since : Since (length cs″) mark cs″ next″ × (length next″ ≡ links)
-      joins-since = (rw (← nodes-long, p, q) (undoable u (x .merges)), ap length q ∙ merges-trailed (g .trailed) (x .merges) .size)
-
-      -- these are the classes before the joins
-      pub joins-undone : {cs₁ next₁ : List ℕ} → Before (length cs″) mark cs₁ next₁ cs″ next″ → (cs₁ ≡ cs) × (next₁ ≡ next)
-      joins-undone o = undone-same u (x .merges) (rw (← nodes-long, p, q) at o)
+        -- these are the classes before the joins
+        pub joins-undone : {cs₁ next₁ : List ℕ} → Before (length cs″) (gone next) cs₁ next₁ cs″ next″ → (cs₁ ≡ cs) × (next₁ ≡ next)
+        joins-undone o = merges-back (joined-next .formed .partition .size) (x .merges) (rw (s .0, s .1) at o)

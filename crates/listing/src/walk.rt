@@ -226,7 +226,7 @@ fn walk_joined(
         );
     }
     let mark = next[GONE];
-    let w = match extend(nodes, arguments, known, of, next, a, b) {
+    match extend(nodes, arguments, known, of, next, a, b) {
         Extended::Clash => Written {
             used: at,
             missed: 0,
@@ -235,28 +235,30 @@ fn walk_joined(
             used: at,
             missed: 0,
         },
-        Extended::Unified => walk(
-            nodes,
-            arguments,
-            left,
-            right,
-            labels,
-            known,
-            prepared,
-            of,
-            next,
-            key,
-            weight,
-            unpaired,
-            i + 1,
-            entry,
-            memory,
-            out,
-            at,
-        ),
-    };
-    undo(of, next, mark);
-    w
+        Extended::Unified => {
+            let w = walk(
+                nodes,
+                arguments,
+                left,
+                right,
+                labels,
+                known,
+                prepared,
+                of,
+                next,
+                key,
+                weight,
+                unpaired,
+                i + 1,
+                entry,
+                memory,
+                out,
+                at,
+            );
+            undo(of, next, mark);
+            w
+        }
+    }
 }
 
 // Writes the entries of a branch whose next left term has digit d.

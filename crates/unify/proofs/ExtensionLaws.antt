@@ -4,7 +4,7 @@ use Prim.Native.Nat.{ℕ, _<_}
 use mathlib.Core.Bool.{Bool, true, false}
 use mathlib.Core.List.{List, [], _∷_, List·Memᴰ, List·Memᴰ·cases-cons}
 use mathlib.Core.Logic.{_⊎_, inl, inr}
-use mathlib.Core.Path.{_≡_, sym, ap, _∙_}
+use mathlib.Core.Path.{_≡_, refl, sym, ap, _∙_}
 use native.Mathlib.Omega.{arith}
 use lib.ListN.{length}
 use Rattle.table.specs.Layout.{word, nodeCount}
@@ -19,7 +19,7 @@ use Rattle.unification.proofs.SectionLaws.{nodes-long, is-node, sections-well-f
 use Rattle.unify.specs.declared.Extended.{Extended}
 use Rattle.unify.specs.declared.Extended.the-variants.{Unified, Clash, Occurs}
 use Rattle.unify.specs.Code.Open.{Counts, ClosedHeads, KeepsClosed}
-use Rattle.unify.specs.Code.Trail.{Merges}
+use Rattle.unify.specs.Code.Trail.{none}
 use Rattle.unify.specs.Code.Closing.{Closing, Joins}
 use Rattle.unify.specs.Code.Order.{Ordered, Searched}
 use Rattle.unify.specs.Code.Stands.{Formed, Stands, Extends, extended}
@@ -36,16 +36,25 @@ inside-more ns ps a b p q h c d m = go (List·Memᴰ·cases-cons m)
     go (inl e) = (rw (ap (λ (x : ℕ × ℕ). x .0) e) p, rw (ap (λ (x : ℕ × ℕ). x .1) e) q)
     go (inr k) = h c d k
 
--- a failure: whatever classes are given back
-extends-failed : (words args counts cs next : List ℕ) (a b : ℕ) (cs′ next′ : List ℕ) (x : Extended) → Merges (nodeCount words) cs next cs′ next′ → (x ≡ Unified → ⊥) → ((ps : List (ℕ × ℕ)) → Stands words args cs ps → outcome (nodesFrom words args) ((a, b) ∷ ps) ≡ extended x) → Extends words args counts cs next a b x cs′ next′
+-- a failure: the classes are as before
+extends-failed : (words args counts cs next : List ℕ) (a b : ℕ) (cs′ next′ : List ℕ) (x : Extended) → (cs′ ≡ cs) × (next′ ≡ next) → (x ≡ Unified → ⊥) → ((ps : List (ℕ × ℕ)) → Stands words args cs ps → outcome (nodesFrom words args) ((a, b) ∷ ps) ≡ extended x) → Extends words args counts cs next a b x cs′ next′
 extends-failed words args counts cs next a b cs′ next′ x y n o =
     record {
       answers = λ ps d. sym (o ps d);
       formed = λ z. absurd (n z);
       stands = λ z. absurd (n z);
-      merges = y;
+      merges = rw (y .0, y .1) none;
+      failed = λ z. y;
       kept = λ z. absurd (n z);
     }
+
+-- where there is a clash the classes are as before
+pub clash-back : {words args counts cs next : List ℕ} {a b : ℕ} {r : Extended} {cs′ next′ : List ℕ} → r ≡ Clash → Extends words args counts cs next a b r cs′ next′ → (cs′ ≡ cs) × (next′ ≡ next)
+clash-back e x = x .failed (λ z. let y : Clash ≡ Unified = sym e ∙ z in let o : _≡_ {A = ℕ} 0 1 = cc in omega arith)
+
+-- so they are where a class leads to itself
+pub occurs-back : {words args counts cs next : List ℕ} {a b : ℕ} {r : Extended} {cs′ next′ : List ℕ} → r ≡ Occurs → Extends words args counts cs next a b r cs′ next′ → (cs′ ≡ cs) × (next′ ≡ next)
+occurs-back e x = x .failed (λ z. let y : Occurs ≡ Unified = sym e ∙ z in let o : _≡_ {A = ℕ} 0 1 = cc in omega arith)
 
 module _ (words args counts : List ℕ) (s : Sections words args) (cs : List ℕ) (f : Formed words args counts cs) (a b : ℕ) (p : a < nodeCount words) (q : b < nodeCount words) where
   module _ (ps : List (ℕ × ℕ)) (d : Stands words args cs ps) where
@@ -60,9 +69,9 @@ module _ (words args counts : List ℕ) (s : Sections words args) (cs : List ℕ
 
   module _ (next : List ℕ) (fine : Bool) (cs′ next′ : List ℕ) (j : Joins words args counts cs next a b fine cs′ next′) where
     -- a clash
-    pub extends-clash : fine ≡ false → Extends words args counts cs next a b Clash cs′ next′
-    extends-clash t =
-        extends-failed words args counts cs next a b cs′ next′ Clash (j .merges) (λ z. let y : _≡_ {A = ℕ} 0 1 = cc in omega arith)
+    pub extends-clash : fine ≡ false → {cs″ next″ : List ℕ} → (cs″ ≡ cs) × (next″ ≡ next) → Extends words args counts cs next a b Clash cs″ next″
+    extends-clash t {cs″} {next″} u =
+        extends-failed words args counts cs next a b cs″ next″ Clash u (λ z. let y : _≡_ {A = ℕ} 0 1 = cc in omega arith)
         (λ ps d. outcome-clash (nodesFrom words args) (sections-well-formed words args s) ((a, b) ∷ ps) (longer ps d) .1 (j .clashes t ((a, b) ∷ ps) [] (waiting ps d)))
 
     module _ (t : fine ≡ true) (k : Counts words args counts (nodeCount words)) where
@@ -72,9 +81,9 @@ module _ (words args counts : List ℕ) (s : Sections words args) (cs : List ℕ
 
       module _ (r : Bool) (x : Searched words args (word counts) cs′ a r) where
         -- a cycle
-        pub extends-occurs : r ≡ true → Extends words args counts cs next a b Occurs cs′ next′
-        extends-occurs y =
-            extends-failed words args counts cs next a b cs′ next′ Occurs (j .merges) (λ z. let w : _≡_ {A = ℕ} 0 1 = cc in omega arith)
+        pub extends-occurs : r ≡ true → {cs″ next″ : List ℕ} → (cs″ ≡ cs) × (next″ ≡ next) → Extends words args counts cs next a b Occurs cs″ next″
+        extends-occurs y {cs″} {next″} u =
+            extends-failed words args counts cs next a b cs″ next″ Occurs u (λ z. let w : _≡_ {A = ℕ} 0 1 = cc in omega arith)
             (λ ps d.
             let l = x .cycle y in
             cycle-decides (nodesFrom words args) (sections-well-formed words args s) ((a, b) ∷ ps) (longer ps d) (classOf cs′) (closed-after ps d) (l .0) (leads-reaches words args s cs′ ((a, b) ∷ ps) (longer ps d) (closed-after ps d) counts k (l .2)))
@@ -111,5 +120,6 @@ module _ (words args counts : List ℕ) (s : Sections words args) (cs : List ℕ
               formed = λ z ps d. formed-after y ps d;
               stands = λ z ps d. record { inside = longer ps d; closed = closed-after ps d };
               merges = j .merges;
+              failed = λ f. absurd (f refl);
               kept = λ z. j .kept;
             }

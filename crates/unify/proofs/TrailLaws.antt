@@ -365,6 +365,14 @@ ways-back {n = n} {cs₁ = cs₁} {next₁ = next₁} e (more l o) (more m p) =
 pub undone-same : {n mark : ℕ} {cs next cs₁ next₁ cs′ next′ : List ℕ} → mark ≡ gone next → Merges n cs next cs′ next′ → Before n mark cs₁ next₁ cs′ next′ → (cs₁ ≡ cs) × (next₁ ≡ next)
 undone-same e m b = ways-back (b .marked ∙ e) m (b .merges)
 
+-- what undoing joins asks
+pub merges-since : {n : ℕ} {cs next cs′ next′ : List ℕ} → Trailed n cs next → length cs′ ≡ n → Merges n cs next cs′ next′ → Since (length cs′) (gone next) cs′ next′ × (length next′ ≡ links)
+merges-since t e m = (rw e (undoable refl m), merges-trailed t m .size)
+
+-- and what it comes to: the classes before them
+pub merges-back : {n : ℕ} {cs next cs₁ next₁ cs′ next′ : List ℕ} → length cs′ ≡ n → Merges n cs next cs′ next′ → Before (length cs′) (gone next) cs₁ next₁ cs′ next′ → (cs₁ ≡ cs) × (next₁ ≡ next)
+merges-back e m b = undone-same refl m (rw e at b)
+
 module _ (n : ℕ) (cs′ next′ : List ℕ) (l : Last n cs′ next′) (k : ℕ) (e : k ≡ gone next′) where
   -- some head has gone
   pub last-some : 0 < k

@@ -44,11 +44,12 @@ pub fn may_unify(
         return false;
     }
     let mark = next[GONE];
-    let may = match extend(nodes, arguments, counts, of, next, a, b) {
-        Extended::Unified => true,
+    match extend(nodes, arguments, counts, of, next, a, b) {
         Extended::Clash => false,
         Extended::Occurs => false,
-    };
-    undo(of, next, mark);
-    may
+        Extended::Unified => {
+            undo(of, next, mark);
+            true
+        }
+    }
 }

@@ -8,9 +8,11 @@ ghost use Rattle.unify.specs.Code.Stands.{Formed, Extends};
 use crate::Extended;
 use crate::closure;
 use crate::order;
+use crate::trail::GONE;
+use crate::trail::undo;
 use table::Node;
 
-// Extends the classes of a list of pairs by the pair of a and b. This can be undone; what stands before that is of account only where the answer is unified.
+// Extends the classes of a list of pairs by the pair of a and b, which can be undone. Where the answer is not unified they are as before.
 pub fn extend(
     nodes: &[u32],
     arguments: &[u32],
@@ -25,10 +27,13 @@ pub fn extend(
     requires { ⌜ (a .0 < nodeCount (now nodes)) × (b .0 < nodeCount (now nodes)) ⌝ }
     ensures { λ r. ⌜ Extends (now (nodes .entry)) (now (arguments .entry)) (now (counts .entry)) (now (of .entry)) (now (next .entry)) (a .0) (b .0) r (now (of .exit)) (now (next .exit)) ⌝ }
 {
+    let mark = next[GONE];
     if !closure::join(nodes, arguments, counts, of, next, a, b) {
+        undo(of, next, mark);
         return Extended::Clash;
     }
     if order::leads_back(nodes, arguments, counts, of, a) {
+        undo(of, next, mark);
         return Extended::Occurs;
     }
     Extended::Unified

@@ -54,13 +54,14 @@ extended Unified = unified
 extended Clash = clash
 extended Occurs = occurs
 
--- Classes cs are extended by the pair of a and b, which can be undone: the answer is what unifying the longer list comes to, and where
--- that is unified, classes cs′ stand for it, and closed applications keep their heads.
+-- Classes cs are extended by the pair of a and b: the answer is what unifying the longer list comes to. Where that is unified, classes cs′
+-- stand for it, closed applications keep their heads, and the joins can be undone; otherwise the classes are as before.
 pub record Extends (words args counts cs next : List ℕ) (a b : ℕ) (r : Extended) (cs′ next′ : List ℕ) : Type 0 where
   pub answers : (ps : List (ℕ × ℕ)) → Stands words args cs ps → extended r ≡ outcome (nodesFrom words args) ((a, b) ∷ ps)
   pub formed : r ≡ Unified → (ps : List (ℕ × ℕ)) → Stands words args cs ps → Formed words args counts cs′
   pub stands : r ≡ Unified → (ps : List (ℕ × ℕ)) → Stands words args cs ps → Stands words args cs′ ((a, b) ∷ ps)
   pub merges : Merges (nodeCount words) cs next cs′ next′
+  pub failed : (r ≡ Unified → ⊥) → (cs′ ≡ cs) × (next′ ≡ next)
   pub kept : r ≡ Unified → KeepsClosed words counts cs cs′
 
 -- The variables present, by their least nodes.

@@ -1,7 +1,6 @@
 -- The proof of the cycle of calls {step, walk, walk_joined}. Each way round hands the branch on with one left term less to go, so the measure falls.
 -- Each way through the code is a law of the definition that mirrors it. Assumes nothing.
 use Prim.Native.Nat.{ℕ, suc, _<_, _+_, _*_, _-_}
-use mathlib.Core.Logic.{⊎-elim}
 use mathlib.Core.Path.{_≡_, refl, sym, ap, _∙_}
 use native.Mathlib.Omega.{arith}
 use borrow.Author.Needs.{needs}
@@ -9,7 +8,7 @@ use lib.ListN.{length, length-set}
 use Rattle.table.specs.Limits.{maxTerms}
 use Rattle.listing.specs.Code.Walk.{Turning}
 use Rattle.listing.proofs.StringLaws.{key-in-range}
-use Rattle.listing.proofs.WalkLaws.{written-as, ending, going-on, hopeless-walked, stuck-room, stuck-walked, weight-room, pair-room, key-room, placed-next, placed-stepped, refused-stepped, unpaired-some, mark-inside, joining, joined-stepped, turning-first, turning-walking, turning-next, turning-full, turning-done, kept-ending, kept-key, kept-joined, mark-room, same-next, same-joined, clash-joined, occurs-joined, joined-next, unified-joined, joins-since, joins-undone}
+use Rattle.listing.proofs.WalkLaws.{ending, going-on, hopeless-walked, stuck-room, stuck-walked, weight-room, pair-room, key-room, placed-next, placed-stepped, refused-stepped, unpaired-some, mark-inside, joining, joined-stepped, turning-first, turning-walking, turning-next, turning-full, turning-done, kept-ending, kept-key, kept-joined, mark-room, same-next, same-joined, clash-joined, occurs-joined, joined-next, unified-joined, joins-since, joins-undone}
 use borrow.Fn.Kinds.{In}
 use borrow.Fn.PlainCycle.{Measures, is, falls, and}
 use Rattle.listing.proofs.walk.step.Reads as step
@@ -660,47 +659,61 @@ walk-joined-walk-requires t c κs =
 
 walk-joined-undo-requires : (t : ℕ) → walk-joined-lts.Need-undo-requires (walk-joined-claims t) (walk-joined-at t) walk-joined.Post
 walk-joined-undo-requires t c κs =
-    let g = c .before .before .before .before .before .before .before .before .before .before .before .before .before .before .before .before .before .before .before .before .before .before .before .before .before .pre .1 in
-    let x = c .before .before .before .before .before .before .before .extend .ensures in
-    let k = c .before .before .before .before .before .before .before .extend .kept .1 .1 .1 .0 in
-    ⊎-elim (λ w. joins-since g x refl k (w .2) (w .3)) (⊎-elim (λ w. joins-since g x refl k (w .2) (w .3)) (λ w. joins-since g x refl k (w .18 ∙ w .7 .ensures .1 .0) (w .19 ∙ w .7 .ensures .1 .1))) (c .before .before .match .came)
+    let g = c .before .before .before .before .before .before .before .before .before .before .before .before .before .before .before .before .before .before .before .before .before .before .before .before .before .before .before .before .before .before .before .before .before .before .before .before .before .before .before .before .before .before .pre .1 in
+    let x = c .before .before .before .before .before .before .before .before .before .before .before .before .before .before .before .before .before .before .before .before .before .before .before .before .extend .ensures in
+    let e = c .before .before .before .before .before .before .before .before .before .before .before .before .before .before .before .before .before .before .enum-told3 .given .1 in
+    joins-since g x e (c .before .before .before .before .before .before .before .before .before .before .before .before .walk .ensures .1)
 
 walk-joined-same-length-4 : (t : ℕ) → walk-joined-lts.Need-same-length-4 (walk-joined-claims t) (walk-joined-at t) walk-joined.Post
-walk-joined-same-length-4 t c =
-    let u = c .before .before .before .before .undo .kept .0 in
-    let k = c .before .before .before .before .before .before .before .before .before .before .before .before .extend .kept .1 .1 .1 .0 in
-    ⊎-elim (λ w. u ∙ ap length (w .2) ∙ k) (⊎-elim (λ w. u ∙ ap length (w .2) ∙ k) (λ w. u ∙ ap length (w .18 ∙ w .7 .ensures .1 .0) ∙ k)) (c .before .before .before .before .before .before .before .match .came)
+walk-joined-same-length-4 t c = search needs
 
 walk-joined-same-length-5 : (t : ℕ) → walk-joined-lts.Need-same-length-5 (walk-joined-claims t) (walk-joined-at t) walk-joined.Post
-walk-joined-same-length-5 t c =
-    let u = c .before .before .before .before .undo .kept .1 .0 in
-    let k = c .before .before .before .before .before .before .before .before .before .before .before .before .extend .kept .1 .1 .1 .1 .0 in
-    ⊎-elim (λ w. u ∙ ap length (w .3) ∙ k) (⊎-elim (λ w. u ∙ ap length (w .3) ∙ k) (λ w. u ∙ ap length (w .19 ∙ w .7 .ensures .1 .1) ∙ k)) (c .before .before .before .before .before .before .before .match .came)
+walk-joined-same-length-5 t c = search needs
 
 walk-joined-same-length-6 : (t : ℕ) → walk-joined-lts.Need-same-length-6 (walk-joined-claims t) (walk-joined-at t) walk-joined.Post
-walk-joined-same-length-6 t c =
-    ⊎-elim (λ w. ap length (w .4)) (⊎-elim (λ w. ap length (w .4)) (λ w. ap length (w .20) ∙ w .7 .kept .1 .1 .1 .1 .1 .1 .1 .1 .1 .1 .1 .1 .1 .0)) (c .before .before .before .before .before .before .before .match .came)
-
-walk-joined-same-length-7 : (t : ℕ) → walk-joined-lts.Need-same-length-7 (walk-joined-claims t) (walk-joined-at t) walk-joined.Post
-walk-joined-same-length-7 t c =
-    ⊎-elim (λ w. ap length (w .5)) (⊎-elim (λ w. ap length (w .5)) (λ w. ap length (w .21) ∙ w .7 .kept .1 .1 .1 .1 .1 .1 .1 .1 .1 .1 .1 .1 .1 .1 .0)) (c .before .before .before .before .before .before .before .match .came)
-
-walk-joined-same-length-8 : (t : ℕ) → walk-joined-lts.Need-same-length-8 (walk-joined-claims t) (walk-joined-at t) walk-joined.Post
-walk-joined-same-length-8 t c =
-    ⊎-elim (λ w. ap length (w .6)) (⊎-elim (λ w. ap length (w .6)) (λ w. ap length (w .22) ∙ w .7 .kept .1 .1 .1 .1 .1 .1 .1 .1 .1 .1 .1 .1 .1 .1 .1 .0)) (c .before .before .before .before .before .before .before .match .came)
+walk-joined-same-length-6 t c = search needs
 
 walk-joined-returns-2 : (t : ℕ) → walk-joined-lts.Need-returns-2 (walk-joined-claims t) (walk-joined-at t) walk-joined.Post
 walk-joined-returns-2 t c =
-    let g = c .before .before .before .before .before .before .before .before .before .before .before .before .before .before .before .before .before .before .before .before .before .before .before .before .before .before .before .before .before .before .pre .1 in
-    let x = c .before .before .before .before .before .before .before .before .before .before .before .before .extend .ensures in
-    let k = c .before .before .before .before .before .before .before .before .before .before .before .before .extend .kept .1 .1 .1 .0 in
-    let u = c .before .before .before .before .undo .ensures in
-    ⊎-elim
-    (λ w. (written-as (clash-joined g x (w .1 .given .1)) (w .4) (w .5) (w .6) (w .7), joins-undone g x refl k (w .2) (w .3) u))
-    (⊎-elim
-    (λ w. (written-as (occurs-joined g x (w .1 .given .1)) (w .4) (w .5) (w .6) (w .7), joins-undone g x refl k (w .2) (w .3) u))
-    (λ w. (written-as (unified-joined g x (w .1 .given .1) (w .7 .ensures .0)) (w .20) (w .21) (w .22) (w .23), joins-undone g x refl k (w .18 ∙ w .7 .ensures .1 .0) (w .19 ∙ w .7 .ensures .1 .1) u)))
-    (c .before .before .before .before .before .before .before .match .came)
+    let g = c .before .before .before .before .before .before .before .before .before .before .before .before .before .before .before .before .before .before .before .before .before .before .before .before .pre .1 in
+    clash-joined g (c .before .before .before .before .before .before .extend .ensures) (c .enum-told .given .1)
+
+walk-joined-same-length-7 : (t : ℕ) → walk-joined-lts.Need-same-length-7 (walk-joined-claims t) (walk-joined-at t) walk-joined.Post
+walk-joined-same-length-7 t c = search needs
+
+walk-joined-same-length-8 : (t : ℕ) → walk-joined-lts.Need-same-length-8 (walk-joined-claims t) (walk-joined-at t) walk-joined.Post
+walk-joined-same-length-8 t c = search needs
+
+walk-joined-same-length-9 : (t : ℕ) → walk-joined-lts.Need-same-length-9 (walk-joined-claims t) (walk-joined-at t) walk-joined.Post
+walk-joined-same-length-9 t c = search needs
+
+walk-joined-returns-3 : (t : ℕ) → walk-joined-lts.Need-returns-3 (walk-joined-claims t) (walk-joined-at t) walk-joined.Post
+walk-joined-returns-3 t c =
+    let g = c .before .before .before .before .before .before .before .before .before .before .before .before .before .before .before .before .before .before .before .before .before .before .before .before .pre .1 in
+    occurs-joined g (c .before .before .before .before .before .before .extend .ensures) (c .enum-told2 .given .1)
+
+walk-joined-same-length-10 : (t : ℕ) → walk-joined-lts.Need-same-length-10 (walk-joined-claims t) (walk-joined-at t) walk-joined.Post
+walk-joined-same-length-10 t c = search needs
+
+walk-joined-same-length-11 : (t : ℕ) → walk-joined-lts.Need-same-length-11 (walk-joined-claims t) (walk-joined-at t) walk-joined.Post
+walk-joined-same-length-11 t c = search needs
+
+walk-joined-same-length-12 : (t : ℕ) → walk-joined-lts.Need-same-length-12 (walk-joined-claims t) (walk-joined-at t) walk-joined.Post
+walk-joined-same-length-12 t c = search needs
+
+walk-joined-same-length-13 : (t : ℕ) → walk-joined-lts.Need-same-length-13 (walk-joined-claims t) (walk-joined-at t) walk-joined.Post
+walk-joined-same-length-13 t c = search needs
+
+walk-joined-same-length-14 : (t : ℕ) → walk-joined-lts.Need-same-length-14 (walk-joined-claims t) (walk-joined-at t) walk-joined.Post
+walk-joined-same-length-14 t c = search needs
+
+walk-joined-returns-4 : (t : ℕ) → walk-joined-lts.Need-returns-4 (walk-joined-claims t) (walk-joined-at t) walk-joined.Post
+walk-joined-returns-4 t c =
+    let g = c .before .before .before .before .before .before .before .before .before .before .before .before .before .before .before .before .before .before .before .before .before .before .before .before .before .before .before .before .before .before .before .before .before .before .before .before .before .before .before .before .before .before .before .before .before .before .before .pre .1 in
+    let x = c .before .before .before .before .before .before .before .before .before .before .before .before .before .before .before .before .before .before .before .before .before .before .before .before .before .before .before .before .before .extend .ensures in
+    let e = c .before .before .before .before .before .before .before .before .before .before .before .before .before .before .before .before .before .before .before .before .before .before .before .enum-told3 .given .1 in
+    let w = c .before .before .before .before .before .before .before .before .before .before .before .before .before .before .before .before .before .walk .ensures in
+    (unified-joined g x e (w .0), joins-undone g x e (w .1) (c .before .before .before .before .undo .ensures))
 
 pub +step+walk+walk-joined-spec : {M : Type 1} → statement M
 +step+walk+walk-joined-spec = close μ-step μ-walk μ-walk-joined (λ t. step-lts.spec (step-claims t)
@@ -833,6 +846,14 @@ pub +step+walk+walk-joined-spec : {M : Type 1} → statement M
     (walk-joined-same-length-4 t)
     (walk-joined-same-length-5 t)
     (walk-joined-same-length-6 t)
+    (walk-joined-returns-2 t)
     (walk-joined-same-length-7 t)
     (walk-joined-same-length-8 t)
-    (walk-joined-returns-2 t)
+    (walk-joined-same-length-9 t)
+    (walk-joined-returns-3 t)
+    (walk-joined-same-length-10 t)
+    (walk-joined-same-length-11 t)
+    (walk-joined-same-length-12 t)
+    (walk-joined-same-length-13 t)
+    (walk-joined-same-length-14 t)
+    (walk-joined-returns-4 t)

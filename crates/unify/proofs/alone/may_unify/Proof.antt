@@ -1,11 +1,11 @@
 -- `unify::alone::may_unify` meets its contract: what does not unify by itself unifies with no other pairs, and undoing its joins leaves the classes
 -- as they were. Assumes nothing.
 use mathlib.Core.Bool.{false≢true}
-use mathlib.Core.Logic.{⊎-elim}
 use mathlib.Core.Path.{refl, sym, _∙_}
 use native.Mathlib.Omega.{arith}
 use borrow.Author.Needs.{needs}
-use Rattle.unify.proofs.TrailLaws.{merges-trailed, undoable, undone-same}
+use Rattle.unify.proofs.TrailLaws.{merges-since, merges-back}
+use Rattle.unify.proofs.ExtensionLaws.{clash-back, occurs-back}
 use Rattle.unify.proofs.AloneLaws.{never-differ, never-closed, never-clash, never-occurs}
 use Rattle.unify.proofs.alone.may_unify.Statement.{statement}
 use Rattle.unify.proofs.alone.may_unify.Tie as tie
@@ -83,9 +83,9 @@ enum-told-3 c = search needs
 
 undo-requires : tie.Need-undo-requires
 undo-requires c κs =
-    let s = c .before .before .before .before .before .before .before .before .before .before .before .before .before .before .before .before .before .before .before .before .before .before .before .before .before .before .before .before .before in
-    let x = c .before .before .before .before .before .before .before .extend in
-    (rw (x .kept .1 .1 .1 .0 ∙ s .pre .1 .0 .0 .partition .size) (undoable refl (x .ensures .merges)), merges-trailed (s .pre .1 .0 .1) (x .ensures .merges) .size)
+    let s = c .before .before .before .before .before .before .before .before .before .before .before .before .before .before .before .before .before .before .before .before .before .before .before .before .before .before .before .before .before .before in
+    let x = c .before .before .before .before .before .before .before .before .extend in
+    merges-since (s .pre .1 .0 .1) (x .kept .1 .1 .1 .0 ∙ s .pre .1 .0 .0 .partition .size) (x .ensures .merges)
 
 same-length-4 : tie.Need-same-length-4
 same-length-4 c = search needs
@@ -95,17 +95,33 @@ same-length-5 c = search needs
 
 returns-4 : tie.Need-returns-4
 returns-4 c =
-    let s = c .before .before .before .before .before .before .before .before .before .before .before .before .before .before .before .before .before .before .before .before .before .before .before .before .before .before .before .before .before .before .before .before .before .before in
-    let x = c .before .before .before .before .before .before .before .before .before .before .before .before .extend in (
-      (λ z.
-          ⊎-elim
-          (λ t. absurd (false≢true (sym z ∙ t .2)))
-          (⊎-elim
-          (λ t. never-clash _ _ _ (s .pre .0 .0) _ (s .pre .1 .0 .0) (s .pre .1 .1 .0) (s .args .a .0) (s .args .b .0) (s .pre .1 .1 .1 .0) (s .pre .1 .1 .1 .1) _ _ _ _ (t .1 .given .1) (x .ensures))
-          (λ t. never-occurs _ _ _ (s .pre .0 .0) _ (s .pre .1 .0 .0) (s .pre .1 .1 .0) (s .args .a .0) (s .args .b .0) (s .pre .1 .1 .1 .0) (s .pre .1 .1 .1 .1) _ _ _ _ (t .1 .given .1) (x .ensures)))
-          (c .before .before .before .before .before .before .before .match .came)),
-      undone-same refl (x .ensures .merges) (rw (x .kept .1 .1 .1 .0 ∙ s .pre .1 .0 .0 .partition .size) at (c .before .before .before .before .undo .ensures)),
-    )
+    let s = c .before .before .before .before .before .before .before .before .before .before .before .before .before .before .before .before .before .before .before .before .before .before .before .before .before .before .before .before in
+    let x = c .before .before .before .before .before .before .extend .ensures in
+    ((λ z. never-clash _ _ _ (s .pre .0 .0) _ (s .pre .1 .0 .0) (s .pre .1 .1 .0) (s .args .a .0) (s .args .b .0) (s .pre .1 .1 .1 .0) (s .pre .1 .1 .1 .1) _ _ _ _ (c .enum-told .given .1) x), clash-back (c .enum-told .given .1) x)
+
+same-length-6 : tie.Need-same-length-6
+same-length-6 c = search needs
+
+same-length-7 : tie.Need-same-length-7
+same-length-7 c = search needs
+
+returns-5 : tie.Need-returns-5
+returns-5 c =
+    let s = c .before .before .before .before .before .before .before .before .before .before .before .before .before .before .before .before .before .before .before .before .before .before .before .before .before .before .before .before in
+    let x = c .before .before .before .before .before .before .extend .ensures in
+    ((λ z. never-occurs _ _ _ (s .pre .0 .0) _ (s .pre .1 .0 .0) (s .pre .1 .1 .0) (s .args .a .0) (s .args .b .0) (s .pre .1 .1 .1 .0) (s .pre .1 .1 .1 .1) _ _ _ _ (c .enum-told2 .given .1) x), occurs-back (c .enum-told2 .given .1) x)
+
+same-length-8 : tie.Need-same-length-8
+same-length-8 c = search needs
+
+same-length-9 : tie.Need-same-length-9
+same-length-9 c = search needs
+
+returns-6 : tie.Need-returns-6
+returns-6 c =
+    let s = c .before .before .before .before .before .before .before .before .before .before .before .before .before .before .before .before .before .before .before .before .before .before .before .before .before .before .before .before .before .before .before .before .before .before .before in
+    let x = c .before .before .before .before .before .before .before .before .before .before .before .before .before .extend in
+    ((λ z. absurd (false≢true (sym z))), merges-back (x .kept .1 .1 .1 .0 ∙ s .pre .1 .0 .0 .partition .size) (x .ensures .merges) (c .before .before .before .before .undo .ensures))
 
 pub may-unify-spec : {M : Type 1} → statement M
 may-unify-spec =
@@ -131,4 +147,10 @@ may-unify-spec =
     undo-requires
     same-length-4
     same-length-5
-    returns-4)
+    returns-4
+    same-length-6
+    same-length-7
+    returns-5
+    same-length-8
+    same-length-9
+    returns-6)
