@@ -228,7 +228,7 @@ module _ {words args left right : List ℕ} {labels : Labels} (g : Listable word
         ∙ take-replicate (length right) (length right + c) 1 (omega arith)
 
     -- what the walk needs to know of it
-    pub first-walking : {known prepared cs next : List ℕ} → KnownOf words args known → MayPair words args left right (mayIn known) → Formed words args known cs → StandsAlways words args cs → Trailed (nodeCount words) cs next → Prepared words args known cs prepared → (lent : List ℕ) → Walking words args left right labels known prepared cs next 0 1 (length right) 0 first-entry (replicate 128 0) lent 0
+    pub first-walking : {known prepared cs next : List ℕ} → KnownOf words args known → MayPair words args left right (mayIn known) → Formed words args known cs → StandsAlways words args cs → Trailed (nodeCount words) cs next → Prepared words args known cs prepared → (lent : List ℕ) → Walking words args left right labels known prepared cs next 0 1 (length right) 0 first-entry (replicate 64 0) lent 0
     unfolding keyOf
     first-walking k m f s o y lent =
         record {

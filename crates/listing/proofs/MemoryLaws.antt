@@ -199,12 +199,12 @@ put-part v k at xs ys lent h l =
     ∙ take-all v (drop k xs) (omega (arith, h, length-drop k xs))
 
 -- at first nothing is remembered
-pub remembers-none : (words args left right lent : List ℕ) → Remembers words args left right (replicate 128 0) lent 0
+pub remembers-none : (words args left right lent : List ℕ) → Remembers words args left right (replicate 64 0) lent 0
 remembers-none words args left right lent =
     record {
       size = refl;
       room = omega arith;
-      lies = λ s h n. absurd (n (getD-replicate 128 s 0 0 (omega (arith, h))));
+      lies = λ s h n. absurd (n (getD-replicate 64 s 0 0 (omega (arith, h))));
     }
 
 -- what is written later leaves an entry where it lies

@@ -16,10 +16,10 @@ use crate::writing;
 use unify::words::bind;
 
 // How many keys are kept.
-pub const SLOTS: usize = 64;
+pub const SLOTS: usize = 32;
 
 // A prime: the slot of a key is its remainder.
-const SPREAD: usize = 61;
+const SPREAD: usize = 31;
 
 // The slot of a key.
 fn slot(key: usize) -> usize

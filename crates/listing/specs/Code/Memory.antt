@@ -14,11 +14,11 @@ use Rattle.listing.specs.Code.Branch.{pairedBy, pairsIn, widthOf}
 
 -- How many keys are kept.
 abbrev pub slots : ℕ
-slots = 64
+slots = 32
 
 -- The slot of a key.
 abbrev pub slotOf : ℕ → ℕ
-slotOf key = key % 61
+slotOf key = key % 31
 
 -- The key of left digits, where there are m right terms: a digit for each that pairs, 0 for each that puts in a label.
 unfoldable pub keyOf : ℕ → List ℕ → ℕ
