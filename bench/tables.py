@@ -104,7 +104,7 @@ def growth():
             many("x#", 6) + ", f(" + many("x#", 6) + ") = "
             + ", ".join(closed(size, number) for number in range(6)) + ", f(" + many("d", 6) + ")"
         )
-    for size in (1, 4, 8, 16, 28):
+    for size in (4, 8, 16, 28):
         yield f"nodes-hopeless-open-{7 * size + 8:03}", (
             many("x#", 6) + ", f(" + many("x#", 6) + ") = "
             + ", ".join(closed(size, number).replace(f"c{number}", f"y{number}") for number in range(6)) + ", f(" + many("d", 6) + ")"
