@@ -5,10 +5,10 @@ pub mod RightLaws
 pub mod LabelLaws
 pub mod HopelessLaws
 pub mod BelowLaws
+pub mod BranchLaws
 pub mod PartnerLaws
 pub mod MemoryLaws
 pub mod KnownLaws
-pub mod BranchLaws
 pub mod StringLaws
 pub mod WalkLaws
 pub mod CallingLaws

@@ -63,12 +63,12 @@ module _ (next : List ℕ) where
     -- fewer steps than there are nodes are enough: more pass some node twice
     enough : (b k i j : ℕ) → k < b → i < n → stepsOn next k i ≡ j → (m : ℕ) × (m < n) × (stepsOn next m i ≡ j)
     enough zero k i j l h e = absurd (omega arith)
-    enough (suc b) k i j l h e = go (λ p u v. enough b p i j u h v) (decLt k (n))
+    enough (suc b) k i j l h e = go (λ p u v. enough b p i j u h v) (decLt k n)
       where
         go : ((p : ℕ) → p < b → stepsOn next p i ≡ j → (m : ℕ) × (m < n) × (stepsOn next m i ≡ j)) → Dec (k < n) → (m : ℕ) × (m < n) × (stepsOn next m i ≡ j)
         go f (yes z) = (k, z, e)
         go f (no z) =
-            let r = pigeons (n) (λ p. stepsOn next p i) (λ p q. steps-below p i h) in
+            let r = pigeons n (λ p. stepsOn next p i) (λ p q. steps-below p i h) in
             let x = r .2 in
             let y = r .3 in
             let a = steps-more (r .1) (k - r .1) k i (omega (arith, y, z)) in
@@ -249,9 +249,9 @@ module _ (n : ℕ) (cs next : List ℕ) (g h : ℕ) (t : TwoHeads n cs next g h)
       ∙ sym (map-at (renamed g h) cs h (rw (t .partition .size) (t .second)) ∙ ap (renamed g h) (t .second-own) ∙ renamed-other g h h (λ z. t .apart (sym z)))
 
   -- there are as many nodes
-  pub long : length (exchanged next g h) ≡ length next
+  pub exchanged-long : length (exchanged next g h) ≡ length next
   unfolding exchanged
-  long = length-set (set next g (word next h)) h (word next g) ∙ length-set next g (word next h)
+  exchanged-long = length-set (set next g (word next h)) h (word next g) ∙ length-set next g (word next h)
 
   -- the one after a node is a node
   below-after : (i : ℕ) → i < n → Dec (i ≡ g) → Dec (i ≡ h) → word (exchanged next g h) i < n
@@ -298,7 +298,7 @@ module _ (n : ℕ) (cs next : List ℕ) (g h : ℕ) (t : TwoHeads n cs next g h)
   pub circles-linked : Circles n (map (renamed g h) cs) (exchanged next g h)
   circles-linked =
       record {
-        size = rw long (t .circles .size);
+        size = rw exchanged-long (t .circles .size);
         below = λ i l. below-after i l (ℕ-discrete i g) (ℕ-discrete i h);
         same = λ i l. one-class i l (ℕ-discrete i g) (ℕ-discrete i h);
         around = λ i j l k e. around-after i j l k e (case-of i l) (case-of j k);

@@ -6,10 +6,10 @@ pub mod OpenLaws
 pub mod CountLaws
 pub mod ClosedLaws
 pub mod CopyLaws
-pub mod RelabelLaws
 pub mod CircleLaws
-pub mod TrailLaws
 pub mod CirclesBeginLaws
+pub mod RelabelLaws
+pub mod TrailLaws
 pub mod ClosedClashLaws
 pub mod ClosingLaws
 pub mod ClosingStepLaws

@@ -13,38 +13,38 @@ use Rattle.unification.proofs.ListLaws.{map-at}
 use Rattle.unification.proofs.CountLaws.{renamed-here, renamed-other, in-list, join-keeps, join-lowers, roots-some}
 use Rattle.unify.specs.Code.Circle.{Follows, here, onward, Circles}
 use Rattle.unify.specs.Code.Uniting.{Circling, Relabels, TwoHeads, exchanged}
-use Rattle.unify.specs.Code.Trail.{links, gone, noted, Trailed, Merged, OneMerged, Merges, none, more, Last, Before, Since}
-use Rattle.unify.proofs.CircleLaws.{step-on, circling, exchange, long, circles-linked}
+use Rattle.unify.specs.Code.Trail.{links, gone, notedGone, Trailed, Merged, OneMerged, Merges, none, more, Last, Before, Since}
+use Rattle.unify.proofs.CircleLaws.{step-on, circling, exchange, exchanged-long, circles-linked}
 
 -- a note leaves as many words
-noted-long : (m : List ℕ) (g : ℕ) → length (noted m g) ≡ length m
-unfolding noted
+noted-long : (m : List ℕ) (g : ℕ) → length (notedGone m g) ≡ length m
+unfolding notedGone
 noted-long m g = length-set (set m 256 (suc (gone m))) (256 + suc (gone m)) g ∙ length-set m 256 (suc (gone m))
 
 -- and the other words
-noted-other : (m : List ℕ) (g k : ℕ) → (k ≡ 256 → ⊥) → (k ≡ 256 + suc (gone m) → ⊥) → word (noted m g) k ≡ word m k
-unfolding noted
+noted-other : (m : List ℕ) (g k : ℕ) → (k ≡ 256 → ⊥) → (k ≡ 256 + suc (gone m) → ⊥) → word (notedGone m g) k ≡ word m k
+unfolding notedGone
 noted-other m g k d e =
     getD-set-other (set m 256 (suc (gone m))) (256 + suc (gone m)) k g 0 e ∙ getD-set-other m 256 k (suc (gone m)) 0 d
 
 module _ (m : List ℕ) (g : ℕ) (size : length m ≡ links) where
   -- one more head has gone
-  noted-more : gone (noted m g) ≡ suc (gone m)
-  unfolding noted
+  noted-more : gone (notedGone m g) ≡ suc (gone m)
+  unfolding notedGone
   noted-more =
       getD-set-other (set m 256 (suc (gone m))) (256 + suc (gone m)) 256 g 0 (λ z. omega (arith, z))
       ∙ getD-set-same m 256 (suc (gone m)) 0 (omega (arith, size))
 
   -- and it is the one noted
-  noted-last : gone m < 255 → word (noted m g) (256 + suc (gone m)) ≡ g
-  unfolding noted
+  noted-last : gone m < 255 → word (notedGone m g) (256 + suc (gone m)) ≡ g
+  unfolding notedGone
   noted-last l =
       let k = length-set m 256 (suc (gone m)) in
       getD-set-same (set m 256 (suc (gone m))) (256 + suc (gone m)) g 0 (omega (arith, size, k, l))
 
   -- a note taken back
-  noted-back : word m (256 + suc (gone m)) ≡ 0 → set (set (noted m g) (256 + suc (gone m)) 0) 256 (gone m) ≡ m
-  unfolding noted
+  noted-back : word m (256 + suc (gone m)) ≡ 0 → set (set (notedGone m g) (256 + suc (gone m)) 0) 256 (gone m) ≡ m
+  unfolding notedGone
   noted-back e =
       ap (λ (l : List ℕ). set l 256 (gone m)) (set-set (set m 256 (suc (gone m))) (256 + suc (gone m)) g 0)
       ∙ set-comm (set m 256 (suc (gone m))) (256 + suc (gone m)) 256 0 (gone m) (λ z. omega (arith, z))
@@ -168,7 +168,7 @@ module _ (n : ℕ) (cs next : List ℕ) (g h : ℕ) (t : TwoHeads n cs next g h)
 
     -- there are as many words
     linked-long : length (exchanged next g h) ≡ links
-    linked-long = long n cs next g h t ∙ r .size
+    linked-long = exchanged-long n cs next g h t ∙ r .size
 
     -- so the head that goes can be noted
     pub note-ready : (next₁ : List ℕ) → next₁ ≡ exchanged next g h → (length next₁ ≡ links) × (gone next₁ < 255)
@@ -178,21 +178,21 @@ module _ (n : ℕ) (cs next : List ℕ) (g h : ℕ) (t : TwoHeads n cs next g h)
         (ap length e ∙ linked-long, omega (arith, a, b))
 
     -- with the note too
-    after-long : length (noted (exchanged next g h) g) ≡ links
+    after-long : length (notedGone (exchanged next g h) g) ≡ links
     after-long = noted-long (exchanged next g h) g ∙ linked-long
 
     -- one more head has gone
-    after-gone : gone (noted (exchanged next g h) g) ≡ suc (gone next)
+    after-gone : gone (notedGone (exchanged next g h) g) ≡ suc (gone next)
     after-gone = noted-more (exchanged next g h) g linked-long ∙ ap suc gone-same
 
     -- the nodes have the ones after them as before the note
-    after-node : (i : ℕ) → i < n → word (noted (exchanged next g h) g) i ≡ word (exchanged next g h) i
+    after-node : (i : ℕ) → i < n → word (notedGone (exchanged next g h) g) i ≡ word (exchanged next g h) i
     after-node i l =
         let a = r .few in
         noted-other (exchanged next g h) g i (λ z. omega (arith, z, a, l)) (λ z. omega (arith, z, a, l))
 
     -- nothing stands behind the note
-    after-clear : (k : ℕ) → 256 + suc (gone next) < k → word (noted (exchanged next g h) g) k ≡ 0
+    after-clear : (k : ℕ) → 256 + suc (gone next) < k → word (notedGone (exchanged next g h) g) k ≡ 0
     after-clear k l =
         let a = r .few in
         let e = gone-same in
@@ -201,7 +201,7 @@ module _ (n : ℕ) (cs next : List ℕ) (g h : ℕ) (t : TwoHeads n cs next g h)
         ∙ r .clear k (omega (arith, l))
 
     -- so more can be merged
-    trailed-after : Trailed n (map (renamed g h) cs) (noted (exchanged next g h) g)
+    trailed-after : Trailed n (map (renamed g h) cs) (notedGone (exchanged next g h) g)
     trailed-after =
         let a = r .few in
         let b = r .room in
@@ -209,7 +209,7 @@ module _ (n : ℕ) (cs next : List ℕ) (g h : ℕ) (t : TwoHeads n cs next g h)
         let e = after-gone in
         let f = fewer-classes in
         record {
-          circles = circles-same (exchanged next g h) (noted (exchanged next g h) g) (omega (arith, a, d)) after-node (circles-linked n cs next g h t);
+          circles = circles-same (exchanged next g h) (notedGone (exchanged next g h) g) (omega (arith, a, d)) after-node (circles-linked n cs next g h t);
           few = a;
           size = d;
           room = omega (arith, b, e, f);
@@ -236,7 +236,7 @@ merges-trailed t none = t
 merges-trailed t (more m o) = merged-trailed (o .2)
 
 -- and what was merged can be undone
-pub undoable : {n mark : ℕ} {cs next cs′ next′ : List ℕ} → mark ≡ gone next → Merges n cs next cs′ next′ → Since n mark cs′ next′
+undoable : {n mark : ℕ} {cs next cs′ next′ : List ℕ} → mark ≡ gone next → Merges n cs next cs′ next′ → Since n mark cs′ next′
 undoable {cs = cs} {next = next} e m = record { heads = cs; next = next; before = record { merges = m; marked = sym e } }
 
 module _ (n : ℕ) (cs next : List ℕ) (g h : ℕ) (cs′ next′ : List ℕ) (m : Merged n cs next g h cs′ next′) where

@@ -5,7 +5,7 @@ ghost use Prim.Native.Nat.{_<_};
 ghost use lib.ListN.{length};
 ghost use Rattle.table.specs.Layout.{word};
 ghost use Rattle.unify.specs.Code.Uniting.{Circling, Relabels, TwoHeads, exchanged};
-ghost use Rattle.unify.specs.Code.Trail.{links, gone, noted, Trailed, Merged, OneMerged, Last, Before, Since};
+ghost use Rattle.unify.specs.Code.Trail.{links, gone, notedGone, Trailed, Merged, OneMerged, Last, Before, Since};
 
 // Where it stands how many heads have gone.
 pub const GONE: usize = 256;
@@ -43,7 +43,7 @@ fn link(next: &mut [u8], g: u8, h: u8)
 // Notes that head g has gone.
 fn note(next: &mut [u8], g: u8)
     requires { ⌜ (length (now next) ≡ links) × (gone (now next) < 255) ⌝ }
-    ensures { λ r. ⌜ now (next .exit) ≡ noted (now (next .entry)) g ⌝ }
+    ensures { λ r. ⌜ now (next .exit) ≡ notedGone (now (next .entry)) g ⌝ }
 {
     let k = next[GONE] + 1;
     let i = GONE + k as usize;

@@ -19,8 +19,8 @@ abbrev pub gone : List ℕ → ℕ
 gone next = word next 256
 
 -- Head g has gone as well.
-unfoldable pub noted : List ℕ → ℕ → List ℕ
-noted next g = set (set next 256 (suc (gone next))) (256 + suc (gone next)) g
+unfoldable pub notedGone : List ℕ → ℕ → List ℕ
+notedGone next g = set (set next 256 (suc (gone next))) (256 + suc (gone next)) g
 
 -- The members of each class stand in a circle, there is room to note each head that can still go, and nothing stands behind those noted.
 pub record Trailed (n : ℕ) (cs next : List ℕ) : Type 0 where
@@ -35,7 +35,7 @@ pub record Merged (n : ℕ) (cs next : List ℕ) (g h : ℕ) (cs′ next′ : Li
   pub heads : TwoHeads n cs next g h
   pub trailed : Trailed n cs next
   pub renames : cs′ ≡ map (renamed g h) cs
-  pub linked : next′ ≡ noted (exchanged next g h) g
+  pub linked : next′ ≡ notedGone (exchanged next g h) g
 
 -- The same where h is as strong.
 pub record Goes (words counts cs next : List ℕ) (g h : ℕ) (cs′ next′ : List ℕ) : Type 0 where

@@ -3,7 +3,7 @@ use Prim.Native.Nat.{ℕ}
 use mathlib.Core.List.{List}
 use mathlib.Core.Path.{refl, ap, _∙_}
 use borrow.Author.Needs.{needs}
-use Rattle.unify.specs.Code.Trail.{noted}
+use Rattle.unify.specs.Code.Trail.{notedGone}
 use Rattle.unify.proofs.CircleLaws.{circling}
 use Rattle.unify.proofs.TrailLaws.{relabels-renames, note-ready}
 use Rattle.unify.proofs.trail.merge.Statement.{statement}
@@ -37,7 +37,7 @@ returns c =
       heads = p .0;
       trailed = p .1;
       renames = relabels-renames _ _ _ _ _ (p .0) _ (c .before .before .before .before .before .before .before .before .before .before .relabel .ensures);
-      linked = c .before .before .note .ensures ∙ ap (λ (l : List ℕ). noted l (s .args .from)) (c .before .before .before .before .before .before .link .ensures);
+      linked = c .before .before .note .ensures ∙ ap (λ (l : List ℕ). notedGone l (s .args .from)) (c .before .before .before .before .before .before .link .ensures);
     }
 
 pub merge-spec : {M : Type 1} → statement M

@@ -5,7 +5,7 @@ use native.Mathlib.Numerals.{add-one}
 use native.Mathlib.Omega.{arith}
 use borrow.Author.Needs.{needs}
 use lib.ListN.{set, length-set}
-use Rattle.unify.specs.Code.Trail.{gone, noted}
+use Rattle.unify.specs.Code.Trail.{gone, notedGone}
 use Rattle.unify.proofs.trail.note.Statement.{statement}
 use Rattle.unify.proofs.trail.note.Tie as tie
 
@@ -35,7 +35,7 @@ same-length : tie.Need-same-length
 same-length c = search needs
 
 returns : tie.Need-returns
-unfolding noted
+unfolding notedGone
 returns c = ap (λ (x : ℕ). set (set (c .before .args .next .now) 256 x) (256 + x) (c .before .args .g)) (add-one _)
 
 pub note-spec : {M : Type 1} → statement M
