@@ -22,6 +22,7 @@ use Rattle.unification.specs.Code.Given.{WellFormed, Inside}
 use Rattle.unification.specs.Outcome.{Outcome, unified, clash, occurs}
 use Rattle.unification.specs.Computed.Variables.{variablesOf}
 use Rattle.unification.specs.Computed.Unifying.{outcome, wordsOf}
+use Rattle.unification.proofs.FlatLaws.{flat-append, flat-same, flat-none, flat-one, flat-map}
 use Rattle.unification.proofs.AnswerLaws.{words-counted}
 use Rattle.unification.proofs.OutcomeLaws.{outcome-unified}
 use Rattle.unification.proofs.PairLaws.{more-none, same-outcome, same-words}
@@ -37,39 +38,6 @@ use Rattle.listing.specs.Code.Branch.{pairedBy}
 use Rattle.listing.specs.Code.Walk.{over, ifUnified, onDigit, below}
 use Rattle.listing.proofs.RightLaws.{marked-long}
 use Rattle.listing.proofs.HopelessLaws.{over-none}
-
-module _ {A B : Type 0} where
-  -- lists for the elements of two lists stand one after the other
-  flat-append : (f : A → List B) (xs ys : List A) → flatMap f (xs ++ ys) ≡ flatMap f xs ++ flatMap f ys
-  unfolding flatMap
-  flat-append f [] ys = refl
-  flat-append f (x ∷ xs) ys =
-      ap (λ (zs : List B). f x ++ zs) (flat-append f xs ys) ∙ sym (append-assoc (f x) (flatMap f xs) (flatMap f ys))
-
-  -- they depend on the elements alone
-  flat-same : (f g : A → List B) (xs : List A) → ((x : A) → List·Memᴰ x xs → f x ≡ g x) → flatMap f xs ≡ flatMap g xs
-  unfolding flatMap
-  flat-same f g [] h = refl
-  flat-same f g (x ∷ xs) h =
-      rw (h x (List·Memᴰ·head refl), flat-same f g xs (λ y m. h y (List·Memᴰ·tail m)))
-
-  -- and are nothing if each is
-  flat-none : (f : A → List B) (xs : List A) → ((x : A) → f x ≡ []) → flatMap f xs ≡ []
-  unfolding flatMap
-  flat-none f [] h = refl
-  flat-none f (x ∷ xs) h = rw (h x, flat-none f xs h)
-
-  -- one element for each
-  pub flat-one : (f : A → B) (xs : List A) → flatMap (λ x. f x ∷ []) xs ≡ map f xs
-  unfolding flatMap
-  flat-one f [] = refl
-  flat-one f (x ∷ xs) = ap (f x ∷_) (flat-one f xs)
-
--- the elements can be mapped first
-flat-map : {A B C : Type 0} (f : B → List C) (g : A → B) (xs : List A) → flatMap f (map g xs) ≡ flatMap (λ x. f (g x)) xs
-unfolding flatMap
-flat-map f g [] = refl
-flat-map {C = C} f g (x ∷ xs) = ap (λ (zs : List C). f (g x) ++ zs) (flat-map f g xs)
 
 -- what strings that branch have, they have digit by digit
 pub flat-branch : (f : List ℕ → List (List ℕ)) (d c : ℕ) (g : ℕ → List (List ℕ)) → flatMap f (branch d c g) ≡ over d c (λ e. flatMap (λ es. f (e ∷ es)) (g e))

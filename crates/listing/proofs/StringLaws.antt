@@ -15,6 +15,7 @@ use Rattle.unification.specs.Node.{Node}
 use Rattle.unification.specs.Outcome.{unified}
 use Rattle.unification.specs.Computed.Unifying.{outcome, wordsOf}
 use Rattle.unification.specs.Code.Sections.{nodesFrom}
+use Rattle.unification.proofs.FlatLaws.{flat-one}
 use Rattle.unification.proofs.AnswerLaws.{words-counted}
 use Rattle.multiset_unification.specs.Computed.Choices.{branch}
 use Rattle.listing.specs.declared.Labels.{Labels}
@@ -26,7 +27,7 @@ use Rattle.listing.specs.Code.Walk.{over, onDigit, below, unpairedIn, Br
 use Rattle.listing.proofs.RightLaws.{right-words}
 use Rattle.listing.proofs.LabelLaws.{label-words}
 use Rattle.listing.proofs.MemoryLaws.{key-fits, remembers-noted}
-use Rattle.listing.proofs.BelowLaws.{flat-one, flat-branch, over-same}
+use Rattle.listing.proofs.BelowLaws.{flat-branch, over-same}
 use Rattle.listing.proofs.BranchLaws.{digit-label, digit-taken, keeps-again, branch-room, branching-kept}
 
 -- where every right term is paired, every mark is 0

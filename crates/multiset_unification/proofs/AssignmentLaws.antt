@@ -1,9 +1,9 @@
 -- Of an assignment only the terms of the variables present and the multisets of the table's labels matter.
 -- Both sides are made of these, and so is all that an instance asks for. Assumes nothing.
-use Prim.Native.Nat.{ℕ, zero, suc, _<_}
-use mathlib.Core.List.{List, [], _∷_, map, flatMap, List·Memᴰ, List·Memᴰ·head, List·Memᴰ·tail, Memᴰ·append-left, Memᴰ·append-right}
+use Prim.Native.Nat.{ℕ, suc, _<_}
+use mathlib.Core.List.{List, [], _∷_, map, flatMap, List·Memᴰ, Memᴰ·append-left, Memᴰ·append-right}
 use mathlib.Core.Logic.{_↔_}
-use mathlib.Core.Path.{_≡_, refl, sym, _∙_}
+use mathlib.Core.Path.{_≡_, sym, _∙_}
 use native.Mathlib.Omega.{arith}
 use lib.ListN.{length}
 use Rattle.table.specs.Layout.{word, leftTermsOf, leftLabelsOf, rightTermsOf, rightLabelsOf, labelsOf}
@@ -13,6 +13,7 @@ use Rattle.terms.specs.Multiset.{Same}
 use Rattle.terms.proofs.MultisetLaws.{same-append, same-refl, same-sym}
 use Rattle.unification.specs.Node.{nodesIn, Present}
 use Rattle.unification.specs.Unifier.{value}
+use Rattle.unification.proofs.ListLaws.{placed}
 use Rattle.unification.proofs.TableLaws.{well-formed, left-node, right-node}
 use Rattle.unification.proofs.NodeLaws.{value-agree}
 use Rattle.multiset_unification.specs.Assignment.{Assignment, side, EqualSides}
@@ -31,12 +32,6 @@ agree-back t A B g =
       labels = λ l m. same-sym (A .labels l) (B .labels l) (g .labels l m);
     }
 
--- the word at a place is in the list
-at-place : (l : List ℕ) (i : ℕ) → i < length l → List·Memᴰ (word l i) l
-at-place [] i h = absurd (omega arith)
-at-place (a ∷ l) zero h = List·Memᴰ·head refl
-at-place (a ∷ l) (suc i) h = List·Memᴰ·tail (at-place l i (omega arith))
-
 together-same : (f g : ℕ → List Term) (l : List ℕ) → ((i : ℕ) → i < length l → Same (f (word l i)) (g (word l i))) → Same (flatMap f l) (flatMap g l)
 unfolding flatMap
 together-same f g [] h = same-refl []
@@ -45,10 +40,10 @@ together-same f g (a ∷ l) h =
 
 module _ (t : List ℕ) (A B : Assignment) (g : Agree t A B) where
   left-label : (p : ℕ) → p < length (leftLabelsOf t) → Same (A .labels (word (leftLabelsOf t) p)) (B .labels (word (leftLabelsOf t) p))
-  left-label p h = g .labels (word (leftLabelsOf t) p) (Memᴰ·append-left (rightLabelsOf t) (at-place (leftLabelsOf t) p h))
+  left-label p h = g .labels (word (leftLabelsOf t) p) (Memᴰ·append-left (rightLabelsOf t) (placed (leftLabelsOf t) p h))
 
   right-label : (q : ℕ) → q < length (rightLabelsOf t) → Same (A .labels (word (rightLabelsOf t) q)) (B .labels (word (rightLabelsOf t) q))
-  right-label q h = g .labels (word (rightLabelsOf t) q) (Memᴰ·append-right (leftLabelsOf t) (at-place (rightLabelsOf t) q h))
+  right-label q h = g .labels (word (rightLabelsOf t) q) (Memᴰ·append-right (leftLabelsOf t) (placed (rightLabelsOf t) q h))
 
   side-same : Accepted t → (terms labels : List ℕ) → ((i : ℕ) → i < length terms → word terms i < length (nodesIn t)) → ((i : ℕ) → i < length labels → Same (A .labels (word labels i)) (B .labels (word labels i))) → Same (side (nodesIn t) A terms labels) (side (nodesIn t) B terms labels)
   unfolding side

@@ -78,7 +78,7 @@ branch-rises : (d k : ℕ) (f : ℕ → List (List ℕ)) → ((e : ℕ) → Risi
 unfolding branch
 branch-rises d zero f h = end
 branch-rises d (suc k) f h =
-    rising-append Before (map (d ∷_) (f d)) (branch (suc d) k f) (rising-map Before Before (d ∷_) (f d) (λ x y b. later b) (h d)) (branch-rises (suc d) k f h)
+    rising-append Before (map (d ∷_) (f d)) (branch (suc d) k f) (rising-map Before Before (d ∷_) (f d) (λ x y m n b. later b) (h d)) (branch-rises (suc d) k f h)
     (λ x y m n. apart x y (Memᴰ·of-map (d ∷_) (f d) m) (branch-from (suc d) k f y n))
   where
     apart : (x y : List ℕ) → (es : List ℕ) × List·Memᴰ es (f d) × (d ∷ es ≡ x) → Branched (suc d) k f y → Before x y

@@ -101,7 +101,8 @@ map-back f g [] h = refl
 map-back f g (x ∷ xs) h = rw (h x (List·Memᴰ·head refl), map-back f g xs (λ y m. h y (List·Memᴰ·tail m)))
 
 module _ (t : List ℕ) where
-  is-choice : (ds : List ℕ) → List·Memᴰ ds (choicesOf t) ↔ Choice t ds
+  -- the choices of a table are the choices of its terms and labels
+  pub is-choice : (ds : List ℕ) → List·Memᴰ ds (choicesOf t) ↔ Choice t ds
   unfolding choicesOf
   is-choice = choices-are (length (leftTermsOf t)) (length (rightTermsOf t)) (length (leftLabelsOf t)) (length (rightLabelsOf t))
 
@@ -148,7 +149,7 @@ module _ (t : List ℕ) where
     -- the digits of the entries are the admissible choices, in strictly rising order
     pub listing-digits : Rising Before (map (digitsOf t) (completeListing t)) × ((ds : List ℕ) → List·Memᴰ ds (map (digitsOf t) (completeListing t)) ↔ Admissible t ds)
     listing-digits =
-        (rising-map Earlier Before (digitsOf t) (completeListing t) (λ e f b. b) listing-rises, λ ds. ((λ m. there ds m), (λ a. back-to ds a)))
+        (rising-map Earlier Before (digitsOf t) (completeListing t) (λ e f m n b. b) listing-rises, λ ds. ((λ m. there ds m), (λ a. back-to ds a)))
       where
         there : (ds : List ℕ) → List·Memᴰ ds (map (digitsOf t) (completeListing t)) → Admissible t ds
         there ds m =

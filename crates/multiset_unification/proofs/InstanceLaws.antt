@@ -1,15 +1,11 @@
 -- The complete listing holds nothing idle: every entry has an instance. In an instance each term is in the label that its digit counts to.
 -- The unifier gives the variables, and each label holds what the digits put there and no rest. A label stands once in the table, so no other place asks anything of it. Assumes nothing.
-use Prim.Native.Nat.{ℕ, zero, suc, _+_, _-_, _<_}
-use mathlib.Core.Bool.{cond}
+use Prim.Native.Nat.{ℕ, suc, _+_, _<_}
 use mathlib.Core.List.{List, [], _∷_, _++_, map, flatten, append-nil, List·Memᴰ, List·Memᴰ·head, Memᴰ·append-left, Memᴰ·map}
 use mathlib.Core.Logic.{_↔_}
 use mathlib.Core.Path.{_≡_, refl, sym, ap, _∙_}
 use native.Mathlib.Omega.{arith}
-use borrow.Author.Tests.{eq-eqb, ne-eqb, lt-ltb, le-ltb}
-use lib.Dec.{eqb, ltb}
-use lib.ListN.{length, drop, length-append, List·getD-append}
-use lib.Seq.{getD-append-add}
+use lib.ListN.{length, drop}
 use Rattle.table.specs.Layout.{word, leftTermsOf, leftLabelsOf, rightTermsOf, rightLabelsOf}
 use Rattle.table.specs.Refusal.{refusal}
 use Rattle.table.specs.Code.Accepted.{Accepted}
@@ -31,27 +27,10 @@ use Rattle.multiset_unification.specs.Instance.{Filled, Instance}
 use Rattle.multiset_unification.specs.Computed.Listing.{completeListing}
 use Rattle.multiset_unification.proofs.PlaceLaws.{with-digit-means}
 use Rattle.multiset_unification.proofs.EntryLaws.{entry-readable}
+use Rattle.multiset_unification.proofs.LabelLaws.{Different, heldBy, held-left, held-right}
 use Rattle.multiset_unification.proofs.FilledLaws.{filled}
 use Rattle.multiset_unification.proofs.CountLaws.{places-count, total-none}
 use Rattle.multiset_unification.proofs.Page14.{page14, page14-empty}
-
--- No label of the list stands twice.
-abbrev Different : List ℕ → Type 0
-Different ks = (i j : ℕ) → i < j → j < length ks → word ks i ≡ word ks j → ⊥
-
--- What a label holds where f says it of each place: that of its first place, and nothing if it has none.
-unfoldable given : List ℕ → (ℕ → List Term) → ℕ → List Term
-given [] f x = []
-given (k ∷ ks) f x = cond (eqb x k) (f 0) (given ks (λ p. f (suc p)) x)
-
--- labels that are all different hold what is said of their places
-given-at : (ks : List ℕ) (f : ℕ → List Term) → Different ks → (p : ℕ) → p < length ks → given ks f (word ks p) ≡ f p
-unfolding given
-given-at [] f d p h = absurd (omega arith)
-given-at (k ∷ ks) f d zero h = rw (eq-eqb k k refl) refl
-given-at (k ∷ ks) f d (suc p) h =
-    rw (ne-eqb (word ks p) k (λ e. d 0 (suc p) (omega arith) h (sym e)))
-    (given-at ks (λ q. f (suc q)) (λ i j l m. d (suc i) (suc j) (omega arith) (omega arith)) p (omega arith))
 
 -- rests that are all empty are nothing together
 no-rests : (k : ℕ) (u : Term) → occurrences u (flatten (tabulate k (λ p. []))) ≡ 0
@@ -59,31 +38,16 @@ unfolding occurrences
 no-rests k u = places-count u k (λ p. []) ∙ total-none k (λ p. 0) (λ p h. refl)
 
 module _ (ls ks rs qs ds : List ℕ) (v : ℕ → Term) where
-  -- What the digits put at each place of the labels, the left ones and then the right ones.
-  abbrev contents : ℕ → List Term
-  contents p = cond (ltb p (length ks)) (map v (inLeft ls rs ds p)) (map v (inRight ls rs ds (p - length ks)))
-
   -- What the digits put in each label.
   abbrev put : ℕ → List Term
-  put = given (ks ++ qs) contents
-
-  put-left : Different (ks ++ qs) → (p : ℕ) → p < length ks → put (word ks p) ≡ map v (inLeft ls rs ds p)
-  put-left d p h =
-      let l = length-append ks qs in
-      ap put (sym (List·getD-append ks qs 0 p h)) ∙ given-at (ks ++ qs) contents d p (omega (arith, l, h)) ∙ rw (lt-ltb p (length ks) h) refl
-
-  put-right : Different (ks ++ qs) → (q : ℕ) → q < length qs → put (word qs q) ≡ map v (inRight ls rs ds q)
-  put-right d q h =
-      let l = length-append ks qs in
-      let e : length ks + q - length ks ≡ q = omega arith in
-      ap put (sym (getD-append-add ks qs q 0)) ∙ given-at (ks ++ qs) contents d (length ks + q) (omega (arith, l, h)) ∙ rw (le-ltb (length ks + q) (length ks) (omega arith), e) refl
+  put = heldBy ks qs (λ p. map v (inLeft ls rs ds p)) (λ q. map v (inRight ls rs ds q))
 
   -- labels that are all different and hold this, and no rests, are filled
   put-filled : Different (ks ++ qs) → Filled ls ks rs qs ds v put
   put-filled d =
       filled ls ks rs qs ds v put (λ p. []) (λ q. [])
-      (λ p h u. ap (occurrences u) (put-left d p h ∙ sym (append-nil _)))
-      (λ q h u. ap (occurrences u) (put-right d q h ∙ sym (append-nil _)))
+      (λ p h u. ap (occurrences u) (held-left ks qs (λ i. map v (inLeft ls rs ds i)) (λ i. map v (inRight ls rs ds i)) d p h ∙ sym (append-nil _)))
+      (λ q h u. ap (occurrences u) (held-right ks qs (λ i. map v (inLeft ls rs ds i)) (λ i. map v (inRight ls rs ds i)) d q h ∙ sym (append-nil _)))
       (λ u. no-rests (length ks) u ∙ sym (no-rests (length qs) u))
 
 -- every entry of the complete listing has an instance

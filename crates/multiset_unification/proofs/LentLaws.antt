@@ -1,6 +1,6 @@
 -- The entries as they lie in the lent words: all entries of a table have one length, so they can be cut out again.
 -- By induction on the entries. Assumes nothing.
-use Prim.Native.Nat.{ℕ, zero, suc, _+_, _*_, _<_}
+use Prim.Native.Nat.{ℕ, zero, suc, _+_, _*_}
 use mathlib.Core.List.{List, [], _∷_, _++_, flatten, append-assoc, List·Memᴰ, List·Memᴰ·head, List·Memᴰ·tail, List·Memᴰ·not-nil}
 use mathlib.Core.Path.{_≡_, refl, sym, ap, _∙_}
 use native.Mathlib.Omega.{arith}
@@ -9,20 +9,11 @@ use lib.ListN.{length, take, drop}
 use lib.Seq.{take-at, drop-at, drop-drop}
 use Rattle.table.specs.Code.Accepted.{Accepted}
 use Rattle.unification.specs.Node.{tabulate}
+use Rattle.unification.proofs.ListLaws.{tabulate-first, tabulate-same}
 use Rattle.multiset_unification.specs.Answer.{entriesLeft, listed, lentAfter, entryWords, entriesIn}
 use Rattle.multiset_unification.specs.Computed.Listing.{completeListing}
 use Rattle.multiset_unification.proofs.EntryLaws.{entry-long}
 use Rattle.multiset_unification.proofs.AnswerLaws.{entries-left}
-
-tabulate-first : {A : Type 0} (n : ℕ) (f : ℕ → A) → tabulate (suc n) f ≡ f 0 ∷ tabulate n (λ i. f (suc i))
-unfolding tabulate
-tabulate-first zero f = refl
-tabulate-first {A} (suc n) f = ap (λ (xs : List A). xs ++ (f (suc n) ∷ [])) (tabulate-first n f)
-
-tabulate-same : {A : Type 0} (n : ℕ) (f g : ℕ → A) → ((i : ℕ) → i < n → f i ≡ g i) → tabulate n f ≡ tabulate n g
-unfolding tabulate
-tabulate-same zero f g h = refl
-tabulate-same (suc n) f g h = rw (tabulate-same n f g (λ i q. h i (omega arith)), h n (omega arith)) refl
 
 -- lists of one length, one after the other, are cut out again
 cut-out : (w : ℕ) (es : List (List ℕ)) → ((e : List ℕ) → List·Memᴰ e es → length e ≡ w) → (rest : List ℕ) → tabulate (length es) (λ i. take w (drop (w * i) (flatten es ++ rest))) ≡ es

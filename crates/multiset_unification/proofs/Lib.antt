@@ -13,6 +13,7 @@ pub mod CoverLaws
 pub mod AnswerLaws
 pub mod LentLaws
 pub mod Page14
+pub mod LabelLaws
 pub mod InstanceLaws
 pub mod AssignmentLaws
 pub mod Starred

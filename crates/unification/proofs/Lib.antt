@@ -1,5 +1,6 @@
 -- Laws of the definitions, from the bottom up.
 pub mod ListLaws
+pub mod FlatLaws
 pub mod MatchedLaws
 pub mod RisingLaws
 pub mod PigeonLaws

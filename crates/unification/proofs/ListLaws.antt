@@ -7,7 +7,7 @@ use mathlib.Core.Path.{_≡_, refl, ap, _∙_}
 use native.Mathlib.Decide.{decLt}
 use native.Mathlib.Omega.{arith}
 use lib.ListN.{length, getD, take, replicate, length-append, List·getD-append}
-use lib.Seq.{getD-at, length-take-le}
+use lib.Seq.{getD-at, take-length, length-take-le}
 use Rattle.table.specs.Limits.{maxNodes}
 use Rattle.unification.specs.Node.{tabulate}
 use Rattle.unification.specs.Computed.Classes.{gather}
@@ -43,6 +43,18 @@ tabulate-at {A} (suc n) f d i h = go (tabulate-at n f d i) (decLt i n)
     go r (no q) =
         let e : n ≡ i = omega arith in
         getD-at (tabulate n f) (f n) [] d i (tabulate-length n f ∙ e) ∙ ap f e
+
+-- the first apart from the others
+pub tabulate-first : {A : Type 0} (n : ℕ) (f : ℕ → A) → tabulate (suc n) f ≡ f 0 ∷ tabulate n (λ i. f (suc i))
+unfolding tabulate
+tabulate-first zero f = refl
+tabulate-first {A} (suc n) f = ap (λ (xs : List A). xs ++ (f (suc n) ∷ [])) (tabulate-first n f)
+
+-- functions that agree below n make one list
+pub tabulate-same : {A : Type 0} (n : ℕ) (f g : ℕ → A) → ((i : ℕ) → i < n → f i ≡ g i) → tabulate n f ≡ tabulate n g
+unfolding tabulate
+tabulate-same zero f g h = refl
+tabulate-same (suc n) f g h = rw (tabulate-same n f g (λ i q. h i (omega arith)), h n (omega arith)) refl
 
 -- what is in one of the lists is in all of them
 pub gathered : {A : Type 0} (n : ℕ) (f : ℕ → List A) (x : A) (i : ℕ) → i < n → List·Memᴰ x (f i) → List·Memᴰ x (gather n f)
@@ -92,6 +104,10 @@ pub placed : (l : List ℕ) (j : ℕ) → j < length l → List·Memᴰ (getD l 
 placed [] j h = absurd (omega arith)
 placed (x ∷ l) zero h = List·Memᴰ·head refl
 placed (x ∷ l) (suc j) h = List·Memᴰ·tail (placed l j (omega arith))
+
+-- and what is in the list stands at some place
+pub member-place : (l : List ℕ) (a : ℕ) → List·Memᴰ a l → (j : ℕ) × (j < length l) × (a ≡ getD l j 0)
+member-place l a m = taken (length l) l a (rw (take-length l) m)
 
 -- what stands at a place of a list is mapped there
 pub map-at : (f : ℕ → ℕ) (l : List ℕ) (i : ℕ) → i < length l → getD (map f l) i 0 ≡ f (getD l i 0)

@@ -1,9 +1,10 @@
 -- Rising lists, over any relation: they can be put together and mapped, hold nothing twice, and are settled by their members.
 -- By induction on the lists. Assumes nothing.
-use mathlib.Core.List.{List, [], _∷_, _++_, map, List·Memᴰ, List·Memᴰ·head, List·Memᴰ·tail, List·Memᴰ·not-nil, Memᴰ·append-right, List·Memᴰ·append-cases, Memᴰ·of-map}
+use mathlib.Core.List.{List, [], _∷_, _++_, map, flatMap, List·Memᴰ, List·Memᴰ·head, List·Memᴰ·tail, List·Memᴰ·not-nil, Memᴰ·append-right, List·Memᴰ·append-cases, Memᴰ·of-map}
 use mathlib.Core.Logic.{_⊎_, inl, inr, _↔_}
 use mathlib.Core.Path.{_≡_, refl, sym}
 use Rattle.unification.specs.Words.{Rising, end, before}
+use Rattle.unification.proofs.FlatLaws.{in-flat}
 
 module _ {A : Type 0} (Below : A → A → Type 0) where
   -- two rising lists, all of the first below all of the second, are one rising list
@@ -16,14 +17,14 @@ module _ {A : Type 0} (Below : A → A → Type 0) where
       first y (inl m) = b y m
       first y (inr m) = h x y (List·Memᴰ·head refl) m
 
-  -- the images of a rising list rise, where the function keeps the order
-  pub rising-map : {B : Type 0} (Under : B → B → Type 0) (f : A → B) (xs : List A) → ((x y : A) → Below x y → Under (f x) (f y)) → Rising Below xs → Rising Under (map f xs)
+  -- the images of a rising list rise, where the function keeps the order of its elements
+  pub rising-map : {B : Type 0} (Under : B → B → Type 0) (f : A → B) (xs : List A) → ((x y : A) → List·Memᴰ x xs → List·Memᴰ y xs → Below x y → Under (f x) (f y)) → Rising Below xs → Rising Under (map f xs)
   rising-map Under f [] h r = end
   rising-map {B} Under f (x ∷ xs) h (before b r) =
-      before (λ y m. first y (Memᴰ·of-map f xs m)) (rising-map Under f xs h r)
+      before (λ y m. first y (Memᴰ·of-map f xs m)) (rising-map Under f xs (λ y z m n. h y z (List·Memᴰ·tail m) (List·Memᴰ·tail n)) r)
     where
       first : (y : B) → (a : A) × List·Memᴰ a xs × (f a ≡ y) → Under (f x) y
-      first y (a, m, e) = rw (← e) (h x a (b a m))
+      first y (a, m, e) = rw (← e) (h x a (List·Memᴰ·head refl) (List·Memᴰ·tail m) (b a m))
 
   module _ (one-way : (x y : A) → Below x y → Below y x → ⊥) where
     above-first : (x y : A) (ys : List A) → Below y x → List·Memᴰ x (y ∷ ys) → List·Memᴰ x ys
@@ -52,3 +53,15 @@ module _ {A : Type 0} (Below : A → A → Type 0) where
     rising-once (w ∷ xs) x ys (before b r) =
         let s = rising-once xs x ys r in
         ((λ m. s .0 (above-first x w xs (b x (Memᴰ·append-right xs (List·Memᴰ·head refl))) m)), s .1)
+
+-- lists that rise, each below those after it, rise together
+pub rising-flat : {A B : Type 0} (Below : A → A → Type 0) (Under : B → B → Type 0) (f : A → List B) (xs : List A) → Rising Below xs → ((x : A) → List·Memᴰ x xs → Rising Under (f x)) → ((x y : A) → List·Memᴰ x xs → List·Memᴰ y xs → Below x y → (u v : B) → List·Memᴰ u (f x) → List·Memᴰ v (f y) → Under u v) → Rising Under (flatMap f xs)
+unfolding flatMap
+rising-flat Below Under f [] r s h = end
+rising-flat {A} {B} Below Under f (x ∷ xs) (before b r) s h =
+    rising-append Under (f x) (flatMap f xs) (s x (List·Memᴰ·head refl))
+    (rising-flat Below Under f xs r (λ y m. s y (List·Memᴰ·tail m)) (λ y z m n. h y z (List·Memᴰ·tail m) (List·Memᴰ·tail n)))
+    (λ u v m n. further u v m (in-flat f xs v .0 n))
+  where
+    further : (u v : B) → List·Memᴰ u (f x) → (y : A) × List·Memᴰ y xs × List·Memᴰ v (f y) → Under u v
+    further u v m (y, k, n) = h x y (List·Memᴰ·head refl) (List·Memᴰ·tail k) (b y k) u v m n

@@ -26,7 +26,7 @@ use Rattle.unification.proofs.VariableLaws.{variables-rise, variables-present, 
 use Rattle.unification.proofs.FirstLaws.{node-of}
 use Rattle.unification.proofs.SectionLaws.{run, nodes-long, application-from, from-application, sections-well-formed, counted, is-node}
 use Rattle.unification.proofs.ValuedLaws.{names-decide}
-use Rattle.unification.proofs.ListLaws.{placed, map-at, first-long}
+use Rattle.unification.proofs.ListLaws.{placed, member-place, map-at, first-long}
 use Rattle.unify.specs.Code.Stands.{Formed, Leaves}
 use Rattle.unify.specs.Code.Open.{Counts}
 use Rattle.unify.specs.Code.Order.{Ordered}
@@ -39,7 +39,7 @@ use Rattle.unify.proofs.OrderedLaws.{rank, ordered-enough, ordered-solv
 use Rattle.unify.proofs.AlikeLaws.{alike-back, alike-on}
 use Rattle.unify.proofs.NamedLaws.{variable-name, named-valued, head-alike}
 use Rattle.unify.proofs.NotingLaws.{noted-all}
-use Rattle.unify.proofs.LeastLaws.{member-place, rising-places, least-long}
+use Rattle.unify.proofs.LeastLaws.{rising-places, least-long}
 
 module _ (words args list : List ℕ) (e : list ≡ leastNodes (nodesFrom words args)) where
   -- The nodes of the two sections.

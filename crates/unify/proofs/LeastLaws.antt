@@ -11,7 +11,7 @@ use native.Mathlib.Numerals.{add-one}
 use borrow.Author.Tests.{eq-eqb, ne-eqb, lt-ltb, le-ltb, ltb-true}
 use lib.Dec.{eqb, ltb}
 use lib.ListN.{length, set, take, length-set, length-map}
-use lib.Seq.{take-suc-set, take-length, length-take-le}
+use lib.Seq.{take-suc-set, length-take-le}
 use Rattle.table.specs.Layout.{word, kindOf, nameOf, nodeCount}
 use Rattle.unification.specs.Node.{variable, nodeAt, Present}
 use Rattle.unification.specs.Words.{Rising, end, before}
@@ -19,7 +19,7 @@ use Rattle.unification.specs.Computed.Variables.{variablesOf}
 use Rattle.unification.specs.Computed.Classes.{gather}
 use Rattle.unification.specs.Computed.Solution.{nodeOf}
 use Rattle.unification.specs.Code.Sections.{nodesFrom, Sections}
-use Rattle.unification.proofs.ListLaws.{gathered, gathered-from, map-same, taken, placed}
+use Rattle.unification.proofs.ListLaws.{gathered, gathered-from, map-same, placed}
 use Rattle.unification.proofs.RisingLaws.{rising-append}
 use Rattle.unification.proofs.VariableLaws.{variables-one}
 use Rattle.unification.proofs.PresentLaws.{present-or-not}
@@ -232,10 +232,6 @@ present-all least n e x count list o h k l m t =
     let w = o .within in
     let d = t ∙ ap (presentBelow least n) z ∙ present-more least n e variableNames o w (omega arith) in
     record { within = omega arith; counted = sym (length-take-le count list (omega arith)) ∙ ap length d; listed = d }
-
--- what is in a list stands at some place
-pub member-place : (xs : List ℕ) (x : ℕ) → List·Memᴰ x xs → (k : ℕ) × (k < length xs) × (x ≡ word xs k)
-member-place xs x m = taken (length xs) xs x (rw (take-length xs) m)
 
 -- a rising list rises from place to place
 pub rising-places : (xs : List ℕ) → Rising _<_ xs → (j k : ℕ) → j < k → k < length xs → word xs j < word xs k

@@ -26,7 +26,7 @@ use Rattle.unification.specs.Code.Given.{WellFormed, Inside}
 use Rattle.unification.specs.Code.Sections.{nodesFrom, Sections}
 use Rattle.unification.specs.Code.Heads.{Partition}
 use Rattle.unification.specs.Code.Solved.{HeadFits, Closed}
-use Rattle.unification.proofs.ListLaws.{tabulate-member, tabulate-from, zip-left, zip-right, map-at, placed}
+use Rattle.unification.proofs.ListLaws.{tabulate-member, tabulate-from, zip-left, zip-right, map-at, placed, member-place}
 use Rattle.unification.proofs.NodeLaws.{each-long, each-at, value-variable, value-application, value-after}
 use Rattle.unification.proofs.SectionLaws.{counted, is-node, sections-well-formed}
 use Rattle.unification.proofs.SolvedLaws.{solution-first}
@@ -38,7 +38,7 @@ use Rattle.unify.specs.Code.Named.{valueName, Alike}
 use Rattle.unify.specs.Code.Naming.{NamedAlong}
 use Rattle.unify.specs.Code.Start.{Started, HeadsNamed, Together}
 use Rattle.unify.specs.Code.Stands.{OneConstant, Lists, BeginsShared}
-use Rattle.unify.proofs.LeastLaws.{member-place, rising-places, selected, selected-from, selected-member, selected-rises}
+use Rattle.unify.proofs.LeastLaws.{rising-places, selected, selected-from, selected-member, selected-rises}
 use Rattle.unify.proofs.OpenLaws.{looked-at}
 use Rattle.unify.proofs.ClosedLaws.{heads-closed}
 use Rattle.unify.proofs.StartLaws.{below, itself, start-partition, start-solved}

@@ -1,0 +1,20 @@
+-- Laws of the definitions, from the bottom up.
+pub mod ProductLaws
+pub mod InsertedLaws
+pub mod OrderLaws
+pub mod NumberLaws
+pub mod ChooseLaws
+pub mod PermutationLaws
+pub mod PartitionLaws
+pub mod PlacingLaws
+pub mod KeptLaws
+pub mod SizeLaws
+pub mod DistributeLaws
+pub mod ResultLaws
+pub mod GoneOverLaws
+pub mod TagLaws
+pub mod ListingLaws
+pub mod MappedLaws
+pub mod AllowsLaws
+pub mod Theorems
+pub mod PaperExamples

@@ -1,0 +1,168 @@
+-- Theorems 1 and 2 of document 000, of its algorithm, and page 14.
+-- Algorithm 1's results are those of the entries of the complete listing, so page 14 holds of it. A substitution that makes the sides equal is an assignment, with variables for the rests: page 14 gives the unifier that it comes after. Assumes nothing.
+use Prim.Native.Nat.{ℕ, _≤_}
+use mathlib.Core.List.{List, [], _∷_, _++_, map, flatMap, append-nil, map-map, map-id, List·Memᴰ, List·Memᴰ·head, List·Memᴰ·tail, List·Memᴰ·append-cases, Memᴰ·map, Memᴰ·of-map, Permᴰ·symm}
+use mathlib.Core.Logic.{_↔_, _⊎_, inl, inr}
+use mathlib.Core.Path.{_≡_, refl, sym, ap, _∙_}
+use native.Mathlib.Omega.{arith}
+use lib.ListN.{length}
+use Rattle.table.specs.Layout.{leftTermsOf, leftLabelsOf, rightTermsOf, rightLabelsOf}
+use Rattle.table.specs.Refusal.{refusal}
+use Rattle.table.specs.Code.Accepted.{Accepted}
+use Rattle.table.proofs.AcceptedLaws.{accepted}
+use Rattle.terms.specs.Term.{Term, var}
+use Rattle.terms.specs.Substitution.{sub}
+use Rattle.terms.specs.Multiset.{occurrences, Same}
+use Rattle.terms.proofs.SubstitutionLaws.{sub-var}
+use Rattle.terms.proofs.MultisetLaws.{occurrences-append, same-sym}
+use Rattle.unification.specs.Node.{nodesIn, termOf}
+use Rattle.unification.proofs.ListLaws.{map-same}
+use Rattle.unification.proofs.FlatLaws.{flat-none, flat-map}
+use Rattle.multiset_unification.specs.Assignment.{Assignment, side, EqualSides}
+use Rattle.multiset_unification.specs.Computed.Listing.{completeListing}
+use Rattle.multiset_unification.proofs.Page14.{page14}
+use Rattle.algorithms.specs.Mmset.{MultisetVariable, given, fresh, MmsetSubstitution, apply, compose, Entails}
+use Rattle.algorithms.specs.Table.{algorithm1, entryResult}
+use Rattle.algorithms.specs.Unifier.{unifierOf, unifiersOf, leftSide, rightSide, theoryOf, UnifiesSides, SameOn, Allows}
+use Rattle.algorithms.proofs.OrderLaws.{permuted-member}
+use Rattle.algorithms.proofs.ListingLaws.{listing-results}
+use Rattle.algorithms.proofs.MappedLaws.{exact-left, exact-right, rest-left, rest-right, labelIn}
+use Rattle.algorithms.proofs.AllowsLaws.{theory-left, theory-right, instance-allowed}
+
+-- an assignment that makes the sides equal has room in the unifier of some entry
+equal-allowed : (t : List ℕ) → refusal t ≡ 0 → (A : Assignment) → EqualSides t A → (e : List ℕ) × List·Memᴰ e (completeListing t) × Allows t (unifierOf t (entryResult t e)) A
+equal-allowed t r A s =
+    let i = page14 t r A .0 s in
+    (i .0, i .1, instance-allowed t (i .0) (accepted t .0 r) (i .1) A .0 (i .2))
+
+-- that of each entry is one of Algorithm 1's
+entry-unifier : (t e : List ℕ) → List·Memᴰ e (completeListing t) → List·Memᴰ (unifierOf t (entryResult t e)) (unifiersOf t)
+unfolding unifiersOf
+entry-unifier t e m =
+    Memᴰ·map (unifierOf t) (permuted-member (Permᴰ·symm (listing-results t)) (entryResult t e) (Memᴰ·map (entryResult t) m))
+
+-- and each of Algorithm 1's is that of an entry
+unifier-entry : (t : List ℕ) (σ : MmsetSubstitution) → List·Memᴰ σ (unifiersOf t) → (e : List ℕ) × List·Memᴰ e (completeListing t) × (unifierOf t (entryResult t e) ≡ σ)
+unfolding unifiersOf
+unifier-entry t σ m =
+    let r = Memᴰ·of-map (unifierOf t) (algorithm1 t) m in
+    let i = Memᴰ·of-map (entryResult t) (completeListing t) (permuted-member (listing-results t) (r .0) (r .1)) in
+    (i .0, i .1, ap (unifierOf t) (i .2) ∙ r .2)
+
+-- page 14, of Algorithm 1: an assignment makes the sides equal exactly if one of its unifiers leaves room for it
+pub algorithm-page14 : (t : List ℕ) → refusal t ≡ 0 → (A : Assignment) → EqualSides t A ↔ ((σ : MmsetSubstitution) × List·Memᴰ σ (unifiersOf t) × Allows t σ A)
+algorithm-page14 t z A = (
+  (λ s. let i = equal-allowed t z A s in (unifierOf t (entryResult t (i .0)), entry-unifier t (i .0) (i .1), i .2)),
+  (λ s.
+      let i = unifier-entry t (s .0) (s .1) in
+      page14 t z A .1 (i .0, i .1, instance-allowed t (i .0) (accepted t .0 z) (i .1) A .1 (rw (i .2) (s .2)))),
+)
+
+-- The assignment that a substitution gives, with nothing for its multiset variables.
+abbrev assignmentOf : MmsetSubstitution → Assignment
+assignmentOf σ = record { variables = σ .onTerms; labels = λ M. σ .onVariables (given M) .terms }
+
+module _ (t : List ℕ) (σ : MmsetSubstitution) where
+  left-terms : apply σ (leftSide t) .terms ≡ side (nodesIn t) (assignmentOf σ) (leftTermsOf t) (leftLabelsOf t)
+  unfolding apply leftSide side
+  left-terms = rw (map-map (sub (σ .onTerms)) (termOf (nodesIn t)) (leftTermsOf t), flat-map (λ M. σ .onVariables M .terms) given (leftLabelsOf t)) refl
+
+  right-terms : apply σ (rightSide t) .terms ≡ side (nodesIn t) (assignmentOf σ) (rightTermsOf t) (rightLabelsOf t)
+  unfolding apply rightSide side
+  right-terms = rw (map-map (sub (σ .onTerms)) (termOf (nodesIn t)) (rightTermsOf t), flat-map (λ M. σ .onVariables M .terms) given (rightLabelsOf t)) refl
+
+  left-variables : apply σ (leftSide t) .variables ≡ theoryOf t σ .0
+  unfolding apply leftSide theoryOf
+  left-variables = flat-map (λ M. σ .onVariables M .variables) given (leftLabelsOf t)
+
+  right-variables : apply σ (rightSide t) .variables ≡ theoryOf t σ .1
+  unfolding apply rightSide theoryOf
+  right-variables = flat-map (λ M. σ .onVariables M .variables) given (rightLabelsOf t)
+
+  -- a substitution leaves room for that assignment, with no rests
+  own-allowed : Allows t σ (assignmentOf σ)
+  own-allowed =
+      record {
+        after = var;
+        rests = λ M. [];
+        holds = λ u. ap (occurrences u) (flat-none (λ M. []) (theoryOf t σ .0) (λ M. refl) ∙ sym (flat-none (λ M. []) (theoryOf t σ .1) (λ M. refl)));
+        variables = λ x p. sym (sub-var (σ .onTerms x));
+        labels = λ M i u. ap (occurrences u) (sym (same M));
+      }
+    where
+      same : (M : ℕ) → map (sub var) (σ .onVariables (given M) .terms) ++ flatMap (λ N. []) (σ .onVariables (given M) .variables) ≡ σ .onVariables (given M) .terms
+      same M =
+          let ts = σ .onVariables (given M) .terms in
+          rw (flat-none {B = Term} (λ N. []) (σ .onVariables (given M) .variables) (λ N. refl))
+          (append-nil _ ∙ map-same (sub var) (λ u. u) ts (λ u i. sub-var u) ∙ map-id ts)
+
+-- Theorem 1: "Soundness. If unify(M, N) ↦ {σ_1, .., σ_n} then ∀σ_i. M σ_i =_{T_σ_i} N σ_i"
+pub soundness : (t : List ℕ) → refusal t ≡ 0 → (σ : MmsetSubstitution) → List·Memᴰ σ (unifiersOf t) → UnifiesSides t σ
+soundness t z σ m =
+    let s = algorithm-page14 t z (assignmentOf σ) .1 (σ, m, own-allowed t σ) in
+    record {
+      terms = λ u. ap (occurrences u) (left-terms t σ) ∙ s u ∙ sym (ap (occurrences u) (right-terms t σ));
+      variables = λ ρ h. rw (left-variables t σ, right-variables t σ) h;
+    }
+
+-- what one label holds is no more than what all hold together
+in-all : (g : ℕ → List Term) (Ms : List ℕ) (M : ℕ) → List·Memᴰ M Ms → (u : Term) → occurrences u (g M) ≤ occurrences u (flatMap g Ms)
+unfolding flatMap
+in-all g (N ∷ Ms) M (List·Memᴰ·head e) u =
+    let a = occurrences-append u (g N) (flatMap g Ms) in
+    rw e (omega (arith, a))
+in-all g (N ∷ Ms) M (List·Memᴰ·tail m) u =
+    let a = occurrences-append u (g N) (flatMap g Ms) in
+    let r = in-all g Ms M m u in
+    omega (arith, a, r)
+
+module _ (σ : MmsetSubstitution) where
+  -- What the substitution has for the rest of a label.
+  abbrev restsBy : ℕ → List MultisetVariable
+  restsBy M = σ .onVariables (given M) .variables
+
+  -- What it has for such variables, by their labels.
+  abbrev restsFor : List MultisetVariable → List MultisetVariable
+  restsFor vs = flatMap (λ N. restsBy (labelIn N)) vs
+
+  -- where one variable stands for the rest, that is kept
+  one-rest : (M : ℕ) (vs : List MultisetVariable) → (vs ≡ given M ∷ []) ⊎ (vs ≡ fresh M ∷ []) → restsFor vs ≡ restsBy M
+  unfolding flatMap labelIn
+  one-rest M vs (inl e) = rw e (append-nil (restsBy M))
+  one-rest M vs (inr e) = rw e (append-nil (restsBy M))
+
+  -- where none does, as the other side has no label, the rests equal nothing together, and so it does
+  rests-kept : (Ms Ns : List ℕ) (M : ℕ) → List·Memᴰ M Ms → (vs : List MultisetVariable) → (Ns ≡ [] → vs ≡ []) → ((Ns ≡ [] → ⊥) → (vs ≡ given M ∷ []) ⊎ (vs ≡ fresh M ∷ [])) → (ρ : MultisetVariable → List Term) → Same (flatMap (λ N. flatMap ρ (restsBy N)) Ms) (flatMap (λ N. flatMap ρ (restsBy N)) Ns) → Same (flatMap ρ (restsBy M)) (flatMap ρ (restsFor vs))
+  unfolding flatMap occurrences
+  rests-kept Ms [] M i vs e o ρ h u =
+      let a = in-all (λ N. flatMap ρ (restsBy N)) Ms M i u in
+      rw (e refl) (omega (arith, a, h u))
+  rests-kept Ms (N ∷ Ns) M i vs e o ρ h u =
+      ap (λ (ws : List MultisetVariable). occurrences u (flatMap ρ ws)) (sym (one-rest M vs (o (λ q. let l = ap length q in absurd (omega (arith, l))))))
+
+  module _ (t : List ℕ) (ok : Accepted t) (e : List ℕ) where
+    -- modulo its theory, the substitution has for the rest of a label what it has for what stands for it in the unifier of an entry
+    rest-entailed : (M : ℕ) → List·Memᴰ M (leftLabelsOf t) ⊎ List·Memᴰ M (rightLabelsOf t) → Entails (theoryOf t σ) (restsBy M, restsFor (unifierOf t (entryResult t e) .onVariables (given M) .variables))
+    rest-entailed M (inl i) ρ h =
+        rests-kept (leftLabelsOf t) (rightLabelsOf t) M i _ (λ z. exact-left t e ok z M i) (λ z. rest-left t e ok z M i) ρ
+        (rw (theory-left t σ ρ, theory-right t σ ρ) at h)
+    rest-entailed M (inr i) ρ h =
+        rests-kept (rightLabelsOf t) (leftLabelsOf t) M i _ (λ z. exact-right t e ok z M i) (λ z. rest-right t e ok z M i) ρ
+        (same-sym _ _ (rw (theory-left t σ ρ, theory-right t σ ρ) at h))
+
+    -- what comes after the unifier of an entry that leaves room for the assignment
+    follows : (a : Allows t (unifierOf t (entryResult t e)) (assignmentOf σ)) → (σ′ : MmsetSubstitution) × SameOn t (theoryOf t σ) σ (compose (unifierOf t (entryResult t e)) σ′)
+    unfolding compose apply
+    follows a = (
+      record { onTerms = a .after; onVariables = λ N. record { terms = a .rests N; variables = restsBy (labelIn N) } },
+      record {
+        onTerms = a .variables;
+        onLabels = λ M i. record { terms = a .labels M i; variables = rest-entailed M (List·Memᴰ·append-cases (leftLabelsOf t) i) };
+      },
+    )
+
+-- Theorem 2: "Completeness. If ∃σ. M σ =_{T_σ} N σ then unify(M, N) ↦ {σ_1, .., σ_n} and ∃σ_i such that σ = σ_i σ'."
+pub completeness : (t : List ℕ) → refusal t ≡ 0 → (σ : MmsetSubstitution) → UnifiesSides t σ → (σᵢ : MmsetSubstitution) × List·Memᴰ σᵢ (unifiersOf t) × ((σ′ : MmsetSubstitution) × SameOn t (theoryOf t σ) σ (compose σᵢ σ′))
+completeness t z σ s =
+    let i = equal-allowed t z (assignmentOf σ) (λ u. sym (ap (occurrences u) (left-terms t σ)) ∙ s .terms u ∙ ap (occurrences u) (right-terms t σ)) in
+    (unifierOf t (entryResult t (i .0)), entry-unifier t (i .0) (i .1), follows σ t (accepted t .0 z) (i .0) (i .2))

@@ -1,0 +1,2 @@
+-- What laws speak of. Nobody has to believe these.
+pub mod Placing
