@@ -14,7 +14,8 @@ use Rattle.multiset_unification.specs.Choice.{withDigit}
 use Rattle.algorithms.specs.Mmset.{Mmset}
 use Rattle.algorithms.specs.Algorithms.{orderedPartitions, Contexts, context, distribute, unifyDistribute}
 use Rattle.algorithms.specs.Code.Placing.{Distinct, Placing, parts}
-use Rattle.algorithms.proofs.ProductLaws.{map-distinct, in-product, product-distinct, map-product}
+use Rattle.algorithms.proofs.ProductLaws.{in-product, product-distinct, map-product}
+use Rattle.algorithms.proofs.DistinctLaws.{map-distinct}
 use Rattle.algorithms.proofs.PartitionLaws.{partitions-are, partitions-distinct}
 
 -- The substitutions of a partition of the right terms and one of the left terms.

@@ -1,7 +1,7 @@
 -- What Algorithm 1 goes over are document 01's choices, each one time.
 -- A result splits both sides into what is paired and what is left, and puts what is left in labels: so do the digits of a choice (`Arranged`). A result tells all of that, so that none stands twice. Assumes nothing.
 use Prim.Native.Nat.{ℕ, suc, _≤_}
-use mathlib.Core.List.{List, [], _∷_, map, flatMap, zip, zipWith, List·Memᴰ, List·Permᴰ, Memᴰ·map, Memᴰ·of-map}
+use mathlib.Core.List.{List, map, flatMap, zip, List·Memᴰ, List·Permᴰ, Memᴰ·map, Memᴰ·of-map}
 use mathlib.Core.Logic.{_↔_}
 use mathlib.Core.Path.{_≡_, refl, sym, ap, _∙_}
 use native.Mathlib.Omega.{arith}
@@ -16,11 +16,13 @@ use Rattle.multiset_unification.proofs.ChoiceLaws.{choices-are, choices-rise, b
 use Rattle.algorithms.specs.Algorithms.{choose, permutations, Contexts, unifyDistribute, Result, composed, unifyTerms, unifyC, unify}
 use Rattle.algorithms.specs.Table.{goneOverAs}
 use Rattle.algorithms.specs.Code.Placing.{Distinct, SameMembers, Split, none, chosen, left, Apart, Placing, put, parts}
-use Rattle.algorithms.proofs.ProductLaws.{map-distinct}
+use Rattle.algorithms.proofs.DistinctLaws.{map-distinct}
 use Rattle.algorithms.proofs.OrderLaws.{distinct-permuted, permuted-long}
 use Rattle.algorithms.proofs.ChooseLaws.{choose-from, in-choose, choose-apart, chosen-in, chosen-distinct, left-distinct}
 use Rattle.algorithms.proofs.PermutationLaws.{permutations-are, permutations-distinct}
-use Rattle.algorithms.proofs.PlacingLaws.{lefts-split, lefts-placing, lefts-long, lefts-pairs, lefts-put, lefts-rest, split-lefts, rights-split, rights-placing, rights-put, split-rights, Arranged, choice-arranged, arranged-choice}
+use Rattle.algorithms.proofs.PlacingLaws.{lefts-split, lefts-placing, lefts-long, lefts-pairs, lefts-put, lefts-rest, split-lefts, rights-split, rights-placing, rights-put, split-rights}
+use Rattle.algorithms.proofs.ArrangedLaws.{Arranged, choice-arranged, arranged-choice}
+use Rattle.algorithms.proofs.PairingLaws.{zip-long, pairing-tells}
 use Rattle.algorithms.proofs.ResultLaws.{result-tells}
 use Rattle.algorithms.proofs.KeptLaws.{result, composed-flat, terms-all}
 use Rattle.algorithms.proofs.SizeLaws.{Size, Loop, one-loop}
@@ -29,31 +31,6 @@ use Rattle.algorithms.proofs.DistributeLaws.{contextsOf, in-distributio
 -- unify_terms and unify_distribute, where nothing is left out.
 abbrev all : List (ℕ × ℕ) → Outcome
 all ps = unified
-
--- the first terms of pairs, and the second ones
-firsts : (T S : List ℕ) → length T ≡ length S → map (λ (p : ℕ × ℕ). p .0) (zip T S) ≡ T
-unfolding zip zipWith
-firsts [] S e = refl
-firsts (a ∷ T) [] e = absurd (omega (arith, e))
-firsts (a ∷ T) (b ∷ S) e = ap (a ∷_) (firsts T S (omega (arith, e)))
-
-seconds : (T S : List ℕ) → length T ≡ length S → map (λ (p : ℕ × ℕ). p .1) (zip T S) ≡ S
-unfolding zip zipWith
-seconds [] [] e = refl
-seconds [] (b ∷ S) e = absurd (omega (arith, e))
-seconds (a ∷ T) [] e = absurd (omega (arith, e))
-seconds (a ∷ T) (b ∷ S) e = ap (b ∷_) (seconds T S (omega (arith, e)))
-
-zip-long : (T S : List ℕ) → length T ≡ length S → length (zip T S) ≡ length T
-unfolding zip zipWith
-zip-long [] S e = refl
-zip-long (a ∷ T) [] e = absurd (omega (arith, e))
-zip-long (a ∷ T) (b ∷ S) e = ap suc (zip-long T S (omega (arith, e)))
-
--- a pairing tells what is paired
-pairing-tells : (T S T′ S′ : List ℕ) → length T ≡ length S → length T′ ≡ length S′ → zip T S ≡ zip T′ S′ → (T ≡ T′) × (S ≡ S′)
-pairing-tells T S T′ S′ e f q =
-    (sym (firsts T S e) ∙ ap (map (λ (p : ℕ × ℕ). p .0)) q ∙ firsts T′ S′ f, sym (seconds T S e) ∙ ap (map (λ (p : ℕ × ℕ). p .1)) q ∙ seconds T′ S′ f)
 
 -- nothing is left where there is nowhere to put it
 all-paired : {k : ℕ} {F T R qs : List ℕ} → k ≡ 0 → Split F T R → Placing k R qs → length T ≡ length F

@@ -1,4 +1,5 @@
 -- Laws of the definitions, from the bottom up.
+pub mod DistinctLaws
 pub mod ProductLaws
 pub mod InsertedLaws
 pub mod OrderLaws
@@ -7,9 +8,11 @@ pub mod ChooseLaws
 pub mod PermutationLaws
 pub mod PartitionLaws
 pub mod PlacingLaws
+pub mod ArrangedLaws
 pub mod KeptLaws
 pub mod SizeLaws
 pub mod DistributeLaws
+pub mod PairingLaws
 pub mod ResultLaws
 pub mod GoneOverLaws
 pub mod TagLaws

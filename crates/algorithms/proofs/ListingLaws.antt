@@ -1,12 +1,13 @@
 -- The complete listing is Algorithm 1's set of results, in document 01's order.
 -- Both keep what unify_lists unifies: Algorithm 1 of what it goes over, the listing of the choices, which are the same in another order. Assumes nothing.
 use Prim.Native.Nat.{ℕ}
-use mathlib.Core.List.{List, [], _∷_, map, flatMap, List·Memᴰ, List·Memᴰ·not-nil, List·Memᴰ·eq-of-singleton, List·Memᴰ·head, Memᴰ·of-map, List·Permᴰ}
+use mathlib.Core.List.{List, [], _∷_, map, flatMap, List·Memᴰ, Memᴰ·of-map, List·Permᴰ}
 use mathlib.Core.Logic.{_↔_}
 use mathlib.Core.Path.{_≡_, refl, sym, ap, _∙_}
 use lib.ListN.{length}
 use Rattle.table.specs.Layout.{leftLabelsOf, rightLabelsOf}
 use Rattle.table.specs.Code.Accepted.{Accepted}
+use Rattle.table.proofs.AcceptedLaws.{accepted}
 use Rattle.terms.specs.Substitution.{sub}
 use Rattle.unification.specs.Node.{nodesIn}
 use Rattle.unification.specs.Unifier.{MostGeneral}
@@ -14,11 +15,14 @@ use Rattle.unification.specs.Outcome.{Outcome, unified, clash, occurs}
 use Rattle.unification.specs.Computed.Unifying.{outcome, unifier}
 use Rattle.unification.proofs.OutcomeLaws.{unifier-most-general}
 use Rattle.unification.proofs.TableLaws.{well-formed}
-use Rattle.unification.proofs.FlatLaws.{flat-same, flat-map, map-flat, in-flat}
+use Rattle.unification.proofs.FlatLaws.{flat-same, flat-map, map-flat}
 use Rattle.multiset_unification.specs.Choice.{IsChoice}
 use Rattle.multiset_unification.specs.Entry.{pairsOf, Admissible, entryOf}
+use Rattle.multiset_unification.specs.Answer.{listed, lentAfter, entriesIn}
 use Rattle.multiset_unification.specs.Computed.Listing.{kept, choicesOf, completeListing}
-use Rattle.multiset_unification.proofs.EntryLaws.{Choice, is-choice, pairs-inside, choice-decided, entry-digits}
+use Rattle.multiset_unification.proofs.EntryLaws.{Choice, is-choice, pairs-inside, choice-decided, kept-from, in-kept, entry-digits}
+use Rattle.multiset_unification.proofs.AnswerLaws.{finished-exactly}
+use Rattle.multiset_unification.proofs.Page14.{page14-finished, page14-one}
 use Rattle.algorithms.specs.Mmset.{compose}
 use Rattle.algorithms.specs.Algorithms.{Result}
 use Rattle.algorithms.specs.Table.{leftTags, rightTags, nodePairs, algorithm1, goneOver, goneOverAs, choiceResult, entryResult}
@@ -61,12 +65,6 @@ module _ (t : List ℕ) where
   unfolding algorithm1 goneOver
   keeps-unified = algorithm-keeps unifying (leftTags t) (leftLabelsOf t) (rightTags t) (rightLabelsOf t)
 
-  kept-only : (o : Outcome) (r s : Result) → List·Memᴰ r (kept o s) → (o ≡ unified) × (r ≡ s)
-  unfolding kept
-  kept-only unified r s m = (refl, List·Memᴰ·eq-of-singleton m)
-  kept-only clash r s m = absurd (List·Memᴰ·not-nil m)
-  kept-only occurs r s m = absurd (List·Memᴰ·not-nil m)
-
   -- the pairs of a choice, as unify_lists has them
   choice-pairs : (ds : List ℕ) → Choice t ds → nodePairs t (choiceResult t ds .pairing) ≡ pairsOf t ds
   unfolding choiceResult goneOverAs
@@ -82,31 +80,26 @@ module _ (t : List ℕ) where
 
   -- a choice is admissible exactly if unify_terms keeps it
   pub admissible-kept : Accepted t → (ds : List ℕ) → Choice t ds → Admissible t ds ↔ List·Memᴰ (choiceResult t ds) (algorithm1 t)
-  unfolding kept
   admissible-kept g ds c = (there, back)
     where
       there : Admissible t ds → List·Memᴰ (choiceResult t ds) (algorithm1 t)
       there a =
-          let u : unifying (choiceResult t ds .pairing) ≡ unified = choice-unifying ds c ∙ choice-decided t g ds c .1 (a .1) in
           rw keeps-unified
-          (in-flat (λ r. kept (unifying (r .pairing)) r) (goneOver t) (choiceResult t ds) .1 (choiceResult t ds, choice-gone-over ds c, rw u (List·Memᴰ·head refl)))
+          (in-kept (λ r. unifying (r .pairing)) (λ r. r) (goneOver t) (choiceResult t ds) (choice-gone-over ds c) (choice-unifying ds c ∙ choice-decided t g ds c .1 (a .1)))
 
       back : List·Memᴰ (choiceResult t ds) (algorithm1 t) → Admissible t ds
       back m =
-          let s = in-flat (λ r. kept (unifying (r .pairing)) r) (goneOver t) (choiceResult t ds) .0 (rw keeps-unified at m) in
-          let k = kept-only (unifying (s .0 .pairing)) (choiceResult t ds) (s .0) (s .2) in
-          let e : unifying (choiceResult t ds .pairing) ≡ unified = ap (λ (r : Result). unifying (r .pairing)) (k .1) ∙ k .0 in
+          let s = kept-from (λ r. unifying (r .pairing)) (λ r. r) (goneOver t) (choiceResult t ds) (rw keeps-unified at m) in
+          let e : unifying (choiceResult t ds .pairing) ≡ unified = ap (λ (r : Result). unifying (r .pairing)) (s .3) ∙ s .2 in
           (c, choice-decided t g ds c .0 (sym (choice-unifying ds c) ∙ e))
 
   -- what is kept is that of an admissible choice
   kept-admissible : Accepted t → (r : Result) → List·Memᴰ r (algorithm1 t) → (ds : List ℕ) × Admissible t ds × (r ≡ choiceResult t ds)
   kept-admissible g r m =
-      let s = in-flat (λ q. kept (unifying (q .pairing)) q) (goneOver t) r .0 (rw keeps-unified at m) in
-      let k = kept-only (unifying (s .0 .pairing)) r (s .0) (s .2) in
+      let s = kept-from (λ q. unifying (q .pairing)) (λ q. q) (goneOver t) r (rw keeps-unified at m) in
       let c = Memᴰ·of-map (choiceResult t) (choicesOf t) (permuted-member goes-over-choices (s .0) (s .1)) in
-      let d = is-choice t (c .0) .0 (c .1) in
-      let e : r ≡ choiceResult t (c .0) = k .1 ∙ sym (c .2) in
-      (c .0, admissible-kept g (c .0) d .1 (rw e at m), e)
+      let e : r ≡ choiceResult t (c .0) = s .3 ∙ sym (c .2) in
+      (c .0, admissible-kept g (c .0) (is-choice t (c .0) .0 (c .1)) .1 (rw e at m), e)
 
   -- σ_t is a most general unifier of the pairs
   pub kept-most-general : Accepted t → (r : Result) → List·Memᴰ r (algorithm1 t) → MostGeneral (nodesIn t) (nodePairs t (r .pairing)) (unifierOf t r .onTerms)
@@ -136,3 +129,8 @@ module _ (t : List ℕ) where
   -- the complete listing is what Algorithm 1 gives, in document 01's order
   pub listing-results : List·Permᴰ (algorithm1 t) (map (entryResult t) (completeListing t))
   listing-results = rw (keeps-unified, listing-kept) (permuted-flat (λ r. kept (unifying (r .pairing)) r) goes-over-choices)
+
+-- demand 2: the entries that a finished call leaves are what Algorithm 1 gives, in document 01's order
+pub finished-results : (t lent : List ℕ) (k : ℕ) → listed t (length lent) ≡ (0, k) → List·Permᴰ (algorithm1 t) (map (entryResult t) (entriesIn t k (lentAfter t lent)))
+finished-results t lent k e =
+    rw (page14-one t (accepted t .1 (finished-exactly t (length lent) k .0 e .0)) k (lentAfter t lent) (page14-finished t lent k e)) (listing-results t)

@@ -16,7 +16,7 @@ use Rattle.multiset_unification.specs.Choice.{withDigit}
 use Rattle.multiset_unification.proofs.PutLaws.{with-digit, without-digit}
 use Rattle.algorithms.specs.Algorithms.{inEach, orderedPartitions}
 use Rattle.algorithms.specs.Code.Placing.{Distinct, Placing, none, put, parts}
-use Rattle.algorithms.proofs.ProductLaws.{map-distinct}
+use Rattle.algorithms.proofs.DistinctLaws.{map-distinct}
 use Rattle.algorithms.proofs.InsertedLaws.{here, removed, removed-none, removed-inserted}
 
 -- The parts g are the parts f with a put first in part q.

@@ -9,7 +9,7 @@ use Rattle.unification.proofs.FlatLaws.{in-flat}
 use Rattle.unification.proofs.RisingLaws.{rising-flat}
 use Rattle.algorithms.specs.Algorithms.{atEach, permutations}
 use Rattle.algorithms.specs.Code.Placing.{Distinct, SameMembers}
-use Rattle.algorithms.proofs.ProductLaws.{map-distinct}
+use Rattle.algorithms.proofs.DistinctLaws.{map-distinct}
 use Rattle.algorithms.proofs.InsertedLaws.{Inserted, here, after, taken-out, inserted-in, inserted-other, inserted-from, inserted-apart, inserted-distinct, rest-same, removed, removed-inserted}
 
 in-at-each : {a : ℕ} {Q P : List ℕ} → Inserted a Q P → List·Memᴰ P (atEach a Q)

@@ -1,15 +1,12 @@
--- Lists of pairs, and images of lists, without repeats.
--- A product is a list for each first element, one after the other. Assumes nothing.
+-- The pairs of the elements of two lists.
+-- There is a list of pairs for each first element, one after the other. Assumes nothing.
 use mathlib.Core.List.{List, [], _∷_, map, product, List·Memᴰ, Memᴰ·map, Memᴰ·of-map, Memᴰ·cast}
 use mathlib.Core.Logic.{_↔_}
 use mathlib.Core.Path.{_≡_, refl, sym, ap, _∙_}
-use Rattle.unification.proofs.RisingLaws.{rising-map, rising-flat}
+use Rattle.unification.proofs.RisingLaws.{rising-flat}
 use Rattle.unification.proofs.FlatLaws.{flat-same, flat-map, map-flat, in-flat}
 use Rattle.algorithms.specs.Code.Placing.{Distinct}
-
--- the images of distinct elements are distinct, where the function tells them apart
-pub map-distinct : {A B : Type 0} (f : A → B) (xs : List A) → ((x y : A) → List·Memᴰ x xs → List·Memᴰ y xs → f x ≡ f y → x ≡ y) → Distinct xs → Distinct (map f xs)
-map-distinct f xs h r = rising-map (λ x y. x ≡ y → ⊥) (λ x y. x ≡ y → ⊥) f xs (λ x y m n d e. d (h x y m n e)) r
+use Rattle.algorithms.proofs.DistinctLaws.{map-distinct}
 
 -- a pair is in the product exactly if its parts are in the lists
 pub in-product : {A B : Type 0} (xs : List A) (ys : List B) (x : A) (y : B) → List·Memᴰ (x, y) (product xs ys) ↔ (List·Memᴰ x xs × List·Memᴰ y ys)

@@ -15,7 +15,7 @@ use Rattle.multiset_unification.proofs.PlaceLaws.{pairs-mean, with-digit-means}
 use Rattle.algorithms.specs.Algorithms.{Result}
 use Rattle.algorithms.specs.Table.{goneOverAs}
 use Rattle.algorithms.specs.Code.Placing.{Distinct}
-use Rattle.algorithms.proofs.PlacingLaws.{one-place}
+use Rattle.algorithms.proofs.DistinctLaws.{one-place}
 use Rattle.algorithms.proofs.DistributeLaws.{contexts-tell}
 
 -- lists made alike have the same at each place

@@ -21,7 +21,7 @@ use Rattle.unification.proofs.FlatLaws.{flat-none, flat-map}
 use Rattle.multiset_unification.specs.Assignment.{Assignment, side, EqualSides}
 use Rattle.multiset_unification.specs.Computed.Listing.{completeListing}
 use Rattle.multiset_unification.proofs.Page14.{page14}
-use Rattle.algorithms.specs.Mmset.{MultisetVariable, given, fresh, MmsetSubstitution, apply, compose, Entails}
+use Rattle.algorithms.specs.Mmset.{MultisetVariable, given, fresh, MmsetSubstitution, apply, compose, Theory, Entails}
 use Rattle.algorithms.specs.Table.{algorithm1, entryResult}
 use Rattle.algorithms.specs.Unifier.{unifierOf, unifiersOf, leftSide, rightSide, theoryOf, UnifiesSides, SameOn, Allows}
 use Rattle.algorithms.proofs.OrderLaws.{permuted-member}
@@ -132,26 +132,26 @@ module _ (σ : MmsetSubstitution) where
   one-rest M vs (inr e) = rw e (append-nil (restsBy M))
 
   -- where none does, as the other side has no label, the rests equal nothing together, and so it does
-  rests-kept : (Ms Ns : List ℕ) (M : ℕ) → List·Memᴰ M Ms → (vs : List MultisetVariable) → (Ns ≡ [] → vs ≡ []) → ((Ns ≡ [] → ⊥) → (vs ≡ given M ∷ []) ⊎ (vs ≡ fresh M ∷ [])) → (ρ : MultisetVariable → List Term) → Same (flatMap (λ N. flatMap ρ (restsBy N)) Ms) (flatMap (λ N. flatMap ρ (restsBy N)) Ns) → Same (flatMap ρ (restsBy M)) (flatMap ρ (restsFor vs))
+  rests-kept : (Ms Ns : List ℕ) (M : ℕ) → List·Memᴰ M Ms → (vs : List MultisetVariable) → (Ns ≡ [] → vs ≡ []) → ((Ns ≡ [] → ⊥) → (vs ≡ given M ∷ []) ⊎ (vs ≡ fresh M ∷ [])) → (ρ : MultisetVariable → List Term) → (Ns ≡ [] → Same (flatMap (λ N. flatMap ρ (restsBy N)) Ms) (flatMap (λ N. flatMap ρ (restsBy N)) Ns)) → Same (flatMap ρ (restsBy M)) (flatMap ρ (restsFor vs))
   unfolding flatMap occurrences
   rests-kept Ms [] M i vs e o ρ h u =
       let a = in-all (λ N. flatMap ρ (restsBy N)) Ms M i u in
-      rw (e refl) (omega (arith, a, h u))
+      rw (e refl) (omega (arith, a, h refl u))
   rests-kept Ms (N ∷ Ns) M i vs e o ρ h u =
       ap (λ (ws : List MultisetVariable). occurrences u (flatMap ρ ws)) (sym (one-rest M vs (o (λ q. let l = ap length q in absurd (omega (arith, l))))))
 
-  module _ (t : List ℕ) (ok : Accepted t) (e : List ℕ) where
-    -- modulo its theory, the substitution has for the rest of a label what it has for what stands for it in the unifier of an entry
-    rest-entailed : (M : ℕ) → List·Memᴰ M (leftLabelsOf t) ⊎ List·Memᴰ M (rightLabelsOf t) → Entails (theoryOf t σ) (restsBy M, restsFor (unifierOf t (entryResult t e) .onVariables (given M) .variables))
-    rest-entailed M (inl i) ρ h =
+  module _ (t : List ℕ) (T : Theory) (h : (leftLabelsOf t ≡ []) ⊎ (rightLabelsOf t ≡ []) → Entails T (theoryOf t σ)) (ok : Accepted t) (e : List ℕ) where
+    -- the substitution has for the rest of a label what it has for what stands for it in the unifier of an entry: modulo its theory, if a side has no label
+    rest-entailed : (M : ℕ) → List·Memᴰ M (leftLabelsOf t) ⊎ List·Memᴰ M (rightLabelsOf t) → Entails T (restsBy M, restsFor (unifierOf t (entryResult t e) .onVariables (given M) .variables))
+    rest-entailed M (inl i) ρ g =
         rests-kept (leftLabelsOf t) (rightLabelsOf t) M i _ (λ z. exact-left t e ok z M i) (λ z. rest-left t e ok z M i) ρ
-        (rw (theory-left t σ ρ, theory-right t σ ρ) at h)
-    rest-entailed M (inr i) ρ h =
+        (λ z. rw (theory-left t σ ρ, theory-right t σ ρ) at (h (inr z) ρ g))
+    rest-entailed M (inr i) ρ g =
         rests-kept (rightLabelsOf t) (leftLabelsOf t) M i _ (λ z. exact-right t e ok z M i) (λ z. rest-right t e ok z M i) ρ
-        (same-sym _ _ (rw (theory-left t σ ρ, theory-right t σ ρ) at h))
+        (λ z. same-sym _ _ (rw (theory-left t σ ρ, theory-right t σ ρ) at (h (inl z) ρ g)))
 
     -- what comes after the unifier of an entry that leaves room for the assignment
-    follows : (a : Allows t (unifierOf t (entryResult t e)) (assignmentOf σ)) → (σ′ : MmsetSubstitution) × SameOn t (theoryOf t σ) σ (compose (unifierOf t (entryResult t e)) σ′)
+    follows : (a : Allows t (unifierOf t (entryResult t e)) (assignmentOf σ)) → (σ′ : MmsetSubstitution) × SameOn t T σ (compose (unifierOf t (entryResult t e)) σ′)
     unfolding compose apply
     follows a = (
       record { onTerms = a .after; onVariables = λ N. record { terms = a .rests N; variables = restsBy (labelIn N) } },
@@ -161,8 +161,24 @@ module _ (σ : MmsetSubstitution) where
       },
     )
 
+-- One of Algorithm 1's unifiers, and then some substitution, is σ, modulo a theory.
+abbrev Factors : List ℕ → Theory → MmsetSubstitution → Type 0
+Factors t T σ = (σᵢ : MmsetSubstitution) × List·Memᴰ σᵢ (unifiersOf t) × ((σ′ : MmsetSubstitution) × SameOn t T σ (compose σᵢ σ′))
+
+-- a theory is needed only where a side has no label
+factors : (t : List ℕ) → refusal t ≡ 0 → (σ : MmsetSubstitution) → UnifiesSides t σ → (T : Theory) → ((leftLabelsOf t ≡ []) ⊎ (rightLabelsOf t ≡ []) → Entails T (theoryOf t σ)) → Factors t T σ
+factors t z σ s T h =
+    let i = equal-allowed t z (assignmentOf σ) (λ u. sym (ap (occurrences u) (left-terms t σ)) ∙ s .terms u ∙ ap (occurrences u) (right-terms t σ)) in
+    (unifierOf t (entryResult t (i .0)), entry-unifier t (i .0) (i .1), follows σ t T h (accepted t .0 z) (i .0) (i .2))
+
 -- Theorem 2: "Completeness. If ∃σ. M σ =_{T_σ} N σ then unify(M, N) ↦ {σ_1, .., σ_n} and ∃σ_i such that σ = σ_i σ'."
 pub completeness : (t : List ℕ) → refusal t ≡ 0 → (σ : MmsetSubstitution) → UnifiesSides t σ → (σᵢ : MmsetSubstitution) × List·Memᴰ σᵢ (unifiersOf t) × ((σ′ : MmsetSubstitution) × SameOn t (theoryOf t σ) σ (compose σᵢ σ′))
-completeness t z σ s =
-    let i = equal-allowed t z (assignmentOf σ) (λ u. sym (ap (occurrences u) (left-terms t σ)) ∙ s .terms u ∙ ap (occurrences u) (right-terms t σ)) in
-    (unifierOf t (entryResult t (i .0)), entry-unifier t (i .0) (i .1), follows σ t (accepted t .0 z) (i .0) (i .2))
+completeness t z σ s = factors t z σ s (theoryOf t σ) (λ n ρ h. h)
+
+-- where both sides have labels, to the letter: modulo the theory that says nothing
+pub completeness-plain : (t : List ℕ) → refusal t ≡ 0 → (leftLabelsOf t ≡ [] → ⊥) → (rightLabelsOf t ≡ [] → ⊥) → (σ : MmsetSubstitution) → UnifiesSides t σ → (σᵢ : MmsetSubstitution) × List·Memᴰ σᵢ (unifiersOf t) × ((σ′ : MmsetSubstitution) × SameOn t ([], []) σ (compose σᵢ σ′))
+completeness-plain t z l r σ s = factors t z σ s ([], []) neither
+  where
+    neither : (leftLabelsOf t ≡ []) ⊎ (rightLabelsOf t ≡ []) → Entails ([], []) (theoryOf t σ)
+    neither (inl e) = absurd (l e)
+    neither (inr e) = absurd (r e)

@@ -54,14 +54,15 @@ entry-bindings t ds c = drop-at ds (wordsOf (nodesIn t) (pairsOf t ds)) _ (c .lo
 
 module _ {A B : Type 0} (o : A → Outcome) (f : A → B) where
   -- What is kept of a list.
-  abbrev keep : List A → List B
+  abbrev pub keep : List A → List B
   keep xs = flatMap (λ x. kept (o x) (f x)) xs
 
   -- What is kept, by the element it is of.
-  abbrev KeptOf : List A → B → Type 0
+  abbrev pub KeptOf : List A → B → Type 0
   KeptOf xs y = (x : A) × List·Memᴰ x xs × (o x ≡ unified) × (y ≡ f x)
 
-  kept-from : (xs : List A) (y : B) → List·Memᴰ y (keep xs) → KeptOf xs y
+  -- each is of an element that is unified
+  pub kept-from : (xs : List A) (y : B) → List·Memᴰ y (keep xs) → KeptOf xs y
   unfolding flatMap kept
   kept-from [] y m = absurd (List·Memᴰ·not-nil m)
   kept-from (x ∷ xs) y m = pick (o x) refl m (λ n. further (kept-from xs y n))
@@ -75,7 +76,8 @@ module _ {A B : Type 0} (o : A → Outcome) (f : A → B) where
       pick clash e n s = s n
       pick occurs e n s = s n
 
-  in-kept : (xs : List A) (x : A) → List·Memᴰ x xs → o x ≡ unified → List·Memᴰ (f x) (keep xs)
+  -- and each of these is kept
+  pub in-kept : (xs : List A) (x : A) → List·Memᴰ x xs → o x ≡ unified → List·Memᴰ (f x) (keep xs)
   unfolding flatMap kept
   in-kept (y ∷ xs) x (List·Memᴰ·head q) e = rw (← q) (rw e (List·Memᴰ·head refl))
   in-kept (y ∷ xs) x (List·Memᴰ·tail m) e = Memᴰ·append-right (kept (o y) (f y)) (in-kept xs x m e)
