@@ -30,7 +30,7 @@ use Rattle.multiset_unification.proofs.CountLaws.{places-count, total-same, wor
 use Rattle.multiset_unification.proofs.LabelLaws.{heldBy, held-left, held-right}
 use Rattle.algorithms.specs.Mmset.{MultisetVariable, given, MmsetSubstitution, compose}
 use Rattle.algorithms.specs.Table.{goneOverAs, choiceResult, entryResult}
-use Rattle.algorithms.specs.Unifier.{unifierOf, theoryOf, Allows}
+use Rattle.algorithms.specs.Unifier.{unifierOf, restsOf, Allows}
 use Rattle.algorithms.proofs.TagLaws.{pairs-stand}
 use Rattle.algorithms.proofs.MappedLaws.{restsIn, Rests, none, kept, new, unifierIn, mapped, Maps, left-maps, right-maps, labelIn}
 
@@ -41,15 +41,10 @@ rest-stands rest ρ z e none = sym (z refl)
 rest-stands rest ρ z e kept = append-nil _ ∙ e
 rest-stands rest ρ z e new = append-nil _ ∙ e
 
-module _ (t : List ℕ) (σ : MmsetSubstitution) (ρ : MultisetVariable → List Term) where
-  -- the two sides of a theory, label by label
-  pub theory-left : flatMap ρ (theoryOf t σ .0) ≡ flatMap (λ M. flatMap ρ (σ .onVariables (given M) .variables)) (leftLabelsOf t)
-  unfolding theoryOf
-  theory-left = flat-flat ρ (λ M. σ .onVariables (given M) .variables) (leftLabelsOf t)
-
-  pub theory-right : flatMap ρ (theoryOf t σ .1) ≡ flatMap (λ M. flatMap ρ (σ .onVariables (given M) .variables)) (rightLabelsOf t)
-  unfolding theoryOf
-  theory-right = flat-flat ρ (λ M. σ .onVariables (given M) .variables) (rightLabelsOf t)
+-- what the variables of labels stand for, label by label
+pub rests-flat : (σ : MmsetSubstitution) (ρ : MultisetVariable → List Term) (Ms : List ℕ) → flatMap ρ (restsOf σ Ms) ≡ flatMap (λ M. flatMap ρ (σ .onVariables (given M) .variables)) Ms
+unfolding restsOf
+rests-flat σ ρ Ms = flat-flat ρ (λ M. σ .onVariables (given M) .variables) Ms
 
 -- lists for each label, together, are those at each place together
 places-same : (ks : List ℕ) (g rest : ℕ → List Term) → ((p : ℕ) → p < length ks → g (word ks p) ≡ rest p) → Same (flatMap g ks) (flatten (tabulate (length ks) rest))
@@ -87,6 +82,32 @@ module _ (t e : List ℕ) (ok : Accepted t) (m : List·Memᴰ e (completeListing
       (λ j h. ap (sub (n .after)) (g (word (rightTermsOf t) j) (right-node t ok j h)))
       (n .labels)
 
+  -- what has room is an instance: its rests are what the variables stand for
+  allows-instance : Allows t (unifierOf t (entryResult t e)) A → Instance t A e
+  allows-instance a =
+      record {
+        unifier = unifierIn t e;
+        read = unifier-read;
+        after = a .after;
+        variables = λ x p. a .variables x p ∙ ap (sub (a .after)) (on-terms x);
+        labels =
+            filled (leftTermsOf t) (leftLabelsOf t) (rightTermsOf t) (rightLabelsOf t) (digitsOf t e) (valueAfter (a .after)) (A .labels) (λ p. rest (word (leftLabelsOf t) p)) (λ q. rest (word (rightLabelsOf t) q))
+            (λ p h. rw (after-terms _ _ _ (left-maps t e ok) (a .after) p h) at (a .labels (word (leftLabelsOf t) p) (Memᴰ·append-left (rightLabelsOf t) (placed (leftLabelsOf t) p h))))
+            (λ q h. rw (after-terms _ _ _ (right-maps t e ok) (a .after) q h) at (a .labels (word (rightLabelsOf t) q) (Memᴰ·append-right (leftLabelsOf t) (placed (rightLabelsOf t) q h))))
+            balance;
+      }
+    where
+      rest : ℕ → List Term
+      rest M = flatMap (a .rests) (restsIn t e M)
+
+      balance : Same (flatten (tabulate (length (leftLabelsOf t)) (λ p. rest (word (leftLabelsOf t) p)))) (flatten (tabulate (length (rightLabelsOf t)) (λ q. rest (word (rightLabelsOf t) q))))
+      balance u =
+          sym (places-same (leftLabelsOf t) rest (λ p. rest (word (leftLabelsOf t) p)) (λ p h. refl) u)
+          ∙ sym (ap (occurrences u) (rests-flat (unifierOf t (entryResult t e)) (a .rests) (leftLabelsOf t)))
+          ∙ a .holds u
+          ∙ ap (occurrences u) (rests-flat (unifierOf t (entryResult t e)) (a .rests) (rightLabelsOf t))
+          ∙ places-same (rightLabelsOf t) rest (λ q. rest (word (rightLabelsOf t) q)) (λ q h. refl) u
+
   -- an instance has room: each rest is what the variables of its label stand for
   instance-allows : Instance t A e → Allows t (unifierOf t (entryResult t e)) A
   instance-allows n =
@@ -94,11 +115,11 @@ module _ (t e : List ℕ) (ok : Accepted t) (m : List·Memᴰ e (completeListing
         after = n .after;
         rests = rests;
         holds = λ u.
-            ap (occurrences u) (theory-left t (unifierOf t (entryResult t e)) rests)
+            ap (occurrences u) (rests-flat (unifierOf t (entryResult t e)) rests (leftLabelsOf t))
             ∙ places-same (leftLabelsOf t) (λ M. flatMap rests (restsIn t e M)) (f .leftRest) left-rest u
             ∙ f .balance u
             ∙ sym (places-same (rightLabelsOf t) (λ M. flatMap rests (restsIn t e M)) (f .rightRest) right-rest u)
-            ∙ sym (ap (occurrences u) (theory-right t (unifierOf t (entryResult t e)) rests));
+            ∙ sym (ap (occurrences u) (rests-flat (unifierOf t (entryResult t e)) rests (rightLabelsOf t)));
         variables = λ x p. n .variables x p ∙ ap (sub (n .after)) (entry-one-reading t e ok m (n .unifier) (unifierIn t e) (n .read) unifier-read x p ∙ sym (on-terms x));
         labels = λ M i. held M (List·Memᴰ·append-cases (leftLabelsOf t) i);
       }
@@ -136,32 +157,6 @@ module _ (t e : List ℕ) (ok : Accepted t) (m : List·Memᴰ e (completeListing
       held : (M : ℕ) → List·Memᴰ M (leftLabelsOf t) ⊎ List·Memᴰ M (rightLabelsOf t) → Held M
       held M (inl i) = let s = member-place (leftLabelsOf t) M i in rw (s .2) (in-left (s .0) (s .1))
       held M (inr i) = let s = member-place (rightLabelsOf t) M i in rw (s .2) (in-right (s .0) (s .1))
-
-  -- what has room is an instance: its rests are what the variables stand for
-  allows-instance : Allows t (unifierOf t (entryResult t e)) A → Instance t A e
-  allows-instance a =
-      record {
-        unifier = unifierIn t e;
-        read = unifier-read;
-        after = a .after;
-        variables = λ x p. a .variables x p ∙ ap (sub (a .after)) (on-terms x);
-        labels =
-            filled (leftTermsOf t) (leftLabelsOf t) (rightTermsOf t) (rightLabelsOf t) (digitsOf t e) (valueAfter (a .after)) (A .labels) (λ p. rest (word (leftLabelsOf t) p)) (λ q. rest (word (rightLabelsOf t) q))
-            (λ p h. rw (after-terms _ _ _ (left-maps t e ok) (a .after) p h) at (a .labels (word (leftLabelsOf t) p) (Memᴰ·append-left (rightLabelsOf t) (placed (leftLabelsOf t) p h))))
-            (λ q h. rw (after-terms _ _ _ (right-maps t e ok) (a .after) q h) at (a .labels (word (rightLabelsOf t) q) (Memᴰ·append-right (leftLabelsOf t) (placed (rightLabelsOf t) q h))))
-            balance;
-      }
-    where
-      rest : ℕ → List Term
-      rest M = flatMap (a .rests) (restsIn t e M)
-
-      balance : Same (flatten (tabulate (length (leftLabelsOf t)) (λ p. rest (word (leftLabelsOf t) p)))) (flatten (tabulate (length (rightLabelsOf t)) (λ q. rest (word (rightLabelsOf t) q))))
-      balance u =
-          sym (places-same (leftLabelsOf t) rest (λ p. rest (word (leftLabelsOf t) p)) (λ p h. refl) u)
-          ∙ sym (ap (occurrences u) (theory-left t (unifierOf t (entryResult t e)) (a .rests)))
-          ∙ a .holds u
-          ∙ ap (occurrences u) (theory-right t (unifierOf t (entryResult t e)) (a .rests))
-          ∙ places-same (rightLabelsOf t) rest (λ q. rest (word (rightLabelsOf t) q)) (λ q h. refl) u
 
 -- the instances of an entry are the assignments that Algorithm 1's unifier leaves room for: no rest where it gives none, otherwise any that balance
 pub instance-allowed : (t e : List ℕ) → Accepted t → List·Memᴰ e (completeListing t) → (A : Assignment) → Instance t A e ↔ Allows t (unifierOf t (entryResult t e)) A

@@ -14,7 +14,7 @@ use Rattle.multiset_unification.proofs.Starred.{two-and-one, label-and-none}
 use Rattle.algorithms.specs.Mmset.{given, fresh, MmsetSubstitution, itself, apply, compose}
 use Rattle.algorithms.specs.Algorithms.{numbers, choose, atEach, permutations, inEach, orderedPartitions, context, distribute, unifyDistribute, Result, composed, unifyTerms, unifyC, unify}
 use Rattle.algorithms.specs.Table.{leftTags, rightTags, nodePairs, algorithm1}
-use Rattle.algorithms.specs.Unifier.{standing, image, onContexts, unifierOf, unifiersOf, leftSide, rightSide, theoryOf, UnifiesSides}
+use Rattle.algorithms.specs.Unifier.{standing, image, onContexts, unifierOf, unifiersOf, mmsetOf, restsOf, UnifiesSides}
 
 -- "the ordered 2-partitions of the multiset {a, b, c}": eight, where the paper prints {b} with {a, b, c} for {} with {a, b, c}
 pub eight-partitions : orderedPartitions (0 ∷ 1 ∷ 2 ∷ []) 2 ≡ ((0 ∷ 1 ∷ 2 ∷ []) ∷ [] ∷ []) ∷ ((1 ∷ 2 ∷ []) ∷ (0 ∷ []) ∷ []) ∷ ((0 ∷ 2 ∷ []) ∷ (1 ∷ []) ∷ []) ∷ ((2 ∷ []) ∷ (0 ∷ 1 ∷ []) ∷ []) ∷ ((0 ∷ 1 ∷ []) ∷ (2 ∷ []) ∷ []) ∷ ((1 ∷ []) ∷ (0 ∷ 2 ∷ []) ∷ []) ∷ ((0 ∷ []) ∷ (1 ∷ 2 ∷ []) ∷ []) ∷ ([] ∷ (0 ∷ 1 ∷ 2 ∷ []) ∷ []) ∷ []
@@ -44,7 +44,7 @@ toX = record { onTerms = var; onVariables = λ M. itself (fresh 7) }
 
 -- "σ = σ_i σ'" holds modulo T_σ, and not to the letter: M ↦ { | X} unifies { | M} and {}, but whatever comes after M ↦ { | } has no X
 pub not-to-the-letter : UnifiesSides label-and-none toX × ((σᵢ : MmsetSubstitution) → List·Memᴰ σᵢ (unifiersOf label-and-none) → (σ′ : MmsetSubstitution) → compose σᵢ σ′ .onVariables (given 1) .variables ≡ [])
-unfolding flatMap itself apply compose standing image onContexts unifierOf unifiersOf leftSide rightSide theoryOf
+unfolding flatMap itself apply compose standing image onContexts unifierOf unifiersOf mmsetOf restsOf
 not-to-the-letter = (record { terms = λ u. refl; variables = λ ρ h. h }, λ σᵢ m σ′. ap (λ (σ : MmsetSubstitution). compose σ σ′ .onVariables (given 1) .variables) (only σᵢ (Memᴰ·of-map (unifierOf label-and-none) (algorithm1 label-and-none) m)))
   where
     first : Result

@@ -23,11 +23,11 @@ use Rattle.multiset_unification.specs.Computed.Listing.{completeListing}
 use Rattle.multiset_unification.proofs.Page14.{page14}
 use Rattle.algorithms.specs.Mmset.{MultisetVariable, given, fresh, MmsetSubstitution, apply, compose, Theory, Entails}
 use Rattle.algorithms.specs.Table.{algorithm1, entryResult}
-use Rattle.algorithms.specs.Unifier.{unifierOf, unifiersOf, leftSide, rightSide, theoryOf, UnifiesSides, SameOn, Allows}
+use Rattle.algorithms.specs.Unifier.{unifierOf, unifiersOf, mmsetOf, restsOf, theoryOf, UnifiesSides, SameOn, Allows}
 use Rattle.algorithms.proofs.OrderLaws.{permuted-member}
 use Rattle.algorithms.proofs.ListingLaws.{listing-results}
 use Rattle.algorithms.proofs.MappedLaws.{exact-left, exact-right, rest-left, rest-right, labelIn}
-use Rattle.algorithms.proofs.AllowsLaws.{theory-left, theory-right, instance-allowed}
+use Rattle.algorithms.proofs.AllowsLaws.{rests-flat, instance-allowed}
 
 -- an assignment that makes the sides equal has room in the unifier of some entry
 equal-allowed : (t : List ℕ) → refusal t ≡ 0 → (A : Assignment) → EqualSides t A → (e : List ℕ) × List·Memᴰ e (completeListing t) × Allows t (unifierOf t (entryResult t e)) A
@@ -63,21 +63,19 @@ abbrev assignmentOf : MmsetSubstitution → Assignment
 assignmentOf σ = record { variables = σ .onTerms; labels = λ M. σ .onVariables (given M) .terms }
 
 module _ (t : List ℕ) (σ : MmsetSubstitution) where
-  left-terms : apply σ (leftSide t) .terms ≡ side (nodesIn t) (assignmentOf σ) (leftTermsOf t) (leftLabelsOf t)
-  unfolding apply leftSide side
-  left-terms = rw (map-map (sub (σ .onTerms)) (termOf (nodesIn t)) (leftTermsOf t), flat-map (λ M. σ .onVariables M .terms) given (leftLabelsOf t)) refl
+  -- the terms of a side, under a substitution, are those under that assignment
+  side-terms : (ts Ms : List ℕ) → apply σ (mmsetOf t ts Ms) .terms ≡ side (nodesIn t) (assignmentOf σ) ts Ms
+  unfolding apply mmsetOf side
+  side-terms ts Ms = rw (map-map (sub (σ .onTerms)) (termOf (nodesIn t)) ts, flat-map (λ M. σ .onVariables M .terms) given Ms) refl
 
-  right-terms : apply σ (rightSide t) .terms ≡ side (nodesIn t) (assignmentOf σ) (rightTermsOf t) (rightLabelsOf t)
-  unfolding apply rightSide side
-  right-terms = rw (map-map (sub (σ .onTerms)) (termOf (nodesIn t)) (rightTermsOf t), flat-map (λ M. σ .onVariables M .terms) given (rightLabelsOf t)) refl
+  -- and the variables are those that its labels are mapped to
+  side-variables : (ts Ms : List ℕ) → apply σ (mmsetOf t ts Ms) .variables ≡ restsOf σ Ms
+  unfolding apply mmsetOf restsOf
+  side-variables ts Ms = flat-map (λ M. σ .onVariables M .variables) given Ms
 
-  left-variables : apply σ (leftSide t) .variables ≡ theoryOf t σ .0
-  unfolding apply leftSide theoryOf
-  left-variables = flat-map (λ M. σ .onVariables M .variables) given (leftLabelsOf t)
-
-  right-variables : apply σ (rightSide t) .variables ≡ theoryOf t σ .1
-  unfolding apply rightSide theoryOf
-  right-variables = flat-map (λ M. σ .onVariables M .variables) given (rightLabelsOf t)
+  -- so equal terms of the sides under the one are equal sides under the other
+  sides-equal : Same (apply σ (mmsetOf t (leftTermsOf t) (leftLabelsOf t)) .terms) (apply σ (mmsetOf t (rightTermsOf t) (rightLabelsOf t)) .terms) ↔ EqualSides t (assignmentOf σ)
+  sides-equal = let l = side-terms (leftTermsOf t) (leftLabelsOf t) in let r = side-terms (rightTermsOf t) (rightLabelsOf t) in ((λ h. rw (l, r) at h), (λ h. rw (l, r) h))
 
   -- a substitution leaves room for that assignment, with no rests
   own-allowed : Allows t σ (assignmentOf σ)
@@ -101,8 +99,8 @@ pub soundness : (t : List ℕ) → refusal t ≡ 0 → (σ : MmsetSubstitution) 
 soundness t z σ m =
     let s = algorithm-page14 t z (assignmentOf σ) .1 (σ, m, own-allowed t σ) in
     record {
-      terms = λ u. ap (occurrences u) (left-terms t σ) ∙ s u ∙ sym (ap (occurrences u) (right-terms t σ));
-      variables = λ ρ h. rw (left-variables t σ, right-variables t σ) h;
+      terms = sides-equal t σ .1 s;
+      variables = λ ρ h. rw (side-variables t σ (leftTermsOf t) (leftLabelsOf t), side-variables t σ (rightTermsOf t) (rightLabelsOf t)) h;
     }
 
 -- what one label holds is no more than what all hold together
@@ -145,10 +143,10 @@ module _ (σ : MmsetSubstitution) where
     rest-entailed : (M : ℕ) → List·Memᴰ M (leftLabelsOf t) ⊎ List·Memᴰ M (rightLabelsOf t) → Entails T (restsBy M, restsFor (unifierOf t (entryResult t e) .onVariables (given M) .variables))
     rest-entailed M (inl i) ρ g =
         rests-kept (leftLabelsOf t) (rightLabelsOf t) M i _ (λ z. exact-left t e ok z M i) (λ z. rest-left t e ok z M i) ρ
-        (λ z. rw (theory-left t σ ρ, theory-right t σ ρ) at (h (inr z) ρ g))
+        (λ z. rw (rests-flat σ ρ (leftLabelsOf t), rests-flat σ ρ (rightLabelsOf t)) at (h (inr z) ρ g))
     rest-entailed M (inr i) ρ g =
         rests-kept (rightLabelsOf t) (leftLabelsOf t) M i _ (λ z. exact-right t e ok z M i) (λ z. rest-right t e ok z M i) ρ
-        (λ z. same-sym _ _ (rw (theory-left t σ ρ, theory-right t σ ρ) at (h (inl z) ρ g)))
+        (λ z. same-sym _ _ (rw (rests-flat σ ρ (leftLabelsOf t), rests-flat σ ρ (rightLabelsOf t)) at (h (inl z) ρ g)))
 
     -- what comes after the unifier of an entry that leaves room for the assignment
     follows : (a : Allows t (unifierOf t (entryResult t e)) (assignmentOf σ)) → (σ′ : MmsetSubstitution) × SameOn t T σ (compose (unifierOf t (entryResult t e)) σ′)
@@ -168,7 +166,7 @@ Factors t T σ = (σᵢ : MmsetSubstitution) × List·Memᴰ σᵢ (unifiersOf t
 -- a theory is needed only where a side has no label
 factors : (t : List ℕ) → refusal t ≡ 0 → (σ : MmsetSubstitution) → UnifiesSides t σ → (T : Theory) → ((leftLabelsOf t ≡ []) ⊎ (rightLabelsOf t ≡ []) → Entails T (theoryOf t σ)) → Factors t T σ
 factors t z σ s T h =
-    let i = equal-allowed t z (assignmentOf σ) (λ u. sym (ap (occurrences u) (left-terms t σ)) ∙ s .terms u ∙ ap (occurrences u) (right-terms t σ)) in
+    let i = equal-allowed t z (assignmentOf σ) (sides-equal t σ .0 (s .terms)) in
     (unifierOf t (entryResult t (i .0)), entry-unifier t (i .0) (i .1), follows σ t T h (accepted t .0 z) (i .0) (i .2))
 
 -- Theorem 2: "Completeness. If ∃σ. M σ =_{T_σ} N σ then unify(M, N) ↦ {σ_1, .., σ_n} and ∃σ_i such that σ = σ_i σ'."

@@ -38,23 +38,22 @@ unifierOf t r =
 unfoldable pub unifiersOf : List ℕ → List MmsetSubstitution
 unifiersOf t = map (unifierOf t) (algorithm1 t)
 
--- The two sides as mmsets.
-unfoldable pub leftSide : List ℕ → Mmset Term
-leftSide t = record { terms = map (termOf (nodesIn t)) (leftTermsOf t); variables = map given (leftLabelsOf t) }
+-- A side of the table, by its terms and labels, as an mmset.
+unfoldable pub mmsetOf : List ℕ → List ℕ → List ℕ → Mmset Term
+mmsetOf t ts Ms = record { terms = map (termOf (nodesIn t)) ts; variables = map given Ms }
 
-unfoldable pub rightSide : List ℕ → Mmset Term
-rightSide t = record { terms = map (termOf (nodesIn t)) (rightTermsOf t); variables = map given (rightLabelsOf t) }
+-- The multiset variables in what a substitution maps labels to: "∪{M_i' | M_i ↦ {ts | M_i'} ∈ σ}"
+unfoldable pub restsOf : MmsetSubstitution → List ℕ → List MultisetVariable
+restsOf σ Ms = flatMap (λ M. σ .onVariables (given M) .variables) Ms
 
 -- "For a unifier σ, the constraint theory T_σ is defined as ∪{M_i' | M_i ↦ {ts | M_i'} ∈ σ} ≡ ∪{N_i' | N_i ↦ {ts | N_i'} ∈ σ}"
-unfoldable pub theoryOf : List ℕ → MmsetSubstitution → Theory
-theoryOf t σ = (
-  flatMap (λ M. σ .onVariables (given M) .variables) (leftLabelsOf t),
-  flatMap (λ N. σ .onVariables (given N) .variables) (rightLabelsOf t),
-)
+abbrev pub theoryOf : List ℕ → MmsetSubstitution → Theory
+theoryOf t σ = (restsOf σ (leftLabelsOf t), restsOf σ (rightLabelsOf t))
 
--- "M σ =_{T_σ} N σ"
+-- "M σ =_{T_σ} N σ", where M and N are the two sides
 abbrev pub UnifiesSides : List ℕ → MmsetSubstitution → Type 0
-UnifiesSides t σ = EqualModulo (theoryOf t σ) (apply σ (leftSide t)) (apply σ (rightSide t))
+UnifiesSides t σ =
+    EqualModulo (theoryOf t σ) (apply σ (mmsetOf t (leftTermsOf t) (leftLabelsOf t))) (apply σ (mmsetOf t (rightTermsOf t) (rightLabelsOf t)))
 
 -- "σ = τ", for the variables of the problem, modulo a theory
 pub record SameOn (t : List ℕ) (T : Theory) (σ τ : MmsetSubstitution) : Type 0 where
