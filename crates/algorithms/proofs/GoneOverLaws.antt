@@ -28,7 +28,7 @@ use Rattle.algorithms.proofs.KeptLaws.{result, composed-flat, terms-all
 use Rattle.algorithms.proofs.SizeLaws.{Size, Loop, one-loop}
 use Rattle.algorithms.proofs.DistributeLaws.{contextsOf, in-distribution, distribution-from, distribution-distinct}
 
--- unify_terms and unify_distribute, where nothing is left out.
+-- A unify_lists that is never None.
 abbrev all : List (ℕ × ℕ) → Outcome
 all ps = unified
 
@@ -83,6 +83,25 @@ module _ (ls ks rs qs : List ℕ) (dl : Distinct ls) (dr : Distinct rs) where
   abbrev chosenOver : List ℕ × List ℕ → List ℕ × List ℕ → List Result
   chosenOver T P = composed (unifyTerms all (T .0) (P .0)) (unifyDistribute (T .1) ks (P .1) qs)
 
+  -- What it goes over for one way to choose left terms, c of them.
+  abbrev leftOver : ℕ → List ℕ × List ℕ → List Result
+  leftOver c T = flatMap (chosenOver T) (choose rs c)
+
+  -- What it goes over for some two ways to choose.
+  abbrev SomeOver : ℕ → Result → Type 0
+  SomeOver c r = (T : List ℕ × List ℕ) × (P : List ℕ × List ℕ) × List·Memᴰ T (choose ls c) × List·Memᴰ P (choose rs c) × List·Memᴰ r (chosenOver T P)
+
+  -- that is all
+  over-some : (c : ℕ) (r : Result) → List·Memᴰ r (unifyC all c ls ks rs qs) ↔ SomeOver c r
+  unfolding unifyC
+  over-some c r = (there, λ s. in-flat (leftOver c) (choose ls c) r .1 (s .0, s .2, in-flat (chosenOver (s .0)) (choose rs c) r .1 (s .1, s .3, s .4)))
+    where
+      there : List·Memᴰ r (unifyC all c ls ks rs qs) → SomeOver c r
+      there m =
+          let x = in-flat (leftOver c) (choose ls c) r .0 m in
+          let y = in-flat (chosenOver (x .0)) (choose rs c) r .0 (x .2) in
+          (x .0, y .0, x .1, y .1, y .2)
+
   chosen-found : (c : ℕ) (T P : List ℕ × List ℕ) → List·Memᴰ T (choose ls c) → List·Memᴰ P (choose rs c) → (r : Result) → List·Memᴰ r (chosenOver T P) → Found c (T .0) (T .1) (P .0) (P .1) r
   chosen-found c T P a b r m =
       let x = choose-from ls c (T .0) (T .1) a in
@@ -135,26 +154,19 @@ module _ (ls ks rs qs : List ℕ) (dl : Distinct ls) (dr : Distinct rs) where
   abbrev sized : Loop (length ls) (length rs) (length ks) (length qs) (λ c. unifyC all c ls ks rs qs) over
   sized = one-loop all ls ks rs qs
 
-  over-parts : (r : Result) → List·Memᴰ r over → (c : ℕ) × (T : List ℕ × List ℕ) × (P : List ℕ × List ℕ) × List·Memᴰ T (choose ls c) × List·Memᴰ P (choose rs c) × List·Memᴰ r (chosenOver T P)
-  unfolding unifyC
-  over-parts r m =
-      let s = in-flat (λ c. unifyC all c ls ks rs qs) (sized .sizes) r .0 (rw (sized .loop) at m) in
-      let x = in-flat (λ T. flatMap (λ P. chosenOver T P) (choose rs (s .0))) (choose ls (s .0)) r .0 (s .2) in
-      let y = in-flat (λ P. chosenOver (x .0) P) (choose rs (s .0)) r .0 (x .2) in
-      (s .0, x .0, y .0, x .1, y .1, y .2)
-
   -- each result is that of a choice
   pub over-choice : (r : Result) → List·Memᴰ r over → (ds : List ℕ) × IsChoice (length ls) (length rs) (length ks) (length qs) ds × (r ≡ goneOverAs ls ks rs qs ds)
   over-choice r m =
-      let s = over-parts r m in
-      found-choice (chosen-found (s .0) (s .1) (s .2) (s .3) (s .4) r (s .5))
+      let s = in-flat (λ c. unifyC all c ls ks rs qs) (sized .sizes) r .0 (rw (sized .loop) at m) in
+      let x = over-some (s .0) r .0 (s .2) in
+      found-choice (chosen-found (s .0) (x .0) (x .1) (x .2) (x .3) r (x .4))
 
   -- and each choice is gone over
   pub choice-over : (ds : List ℕ) → IsChoice (length ls) (length rs) (length ks) (length qs) ds → List·Memᴰ (goneOverAs ls ks rs qs ds) over
-  unfolding unifyC
   choice-over ds h =
+      let some = over-some (length (a .T)) _ .1 ((a .T, a .R), (a .P, a .Q), in-choose (lefts-split (a .lefts)), rw long (in-choose (rights-split (a .rights))), there) in
       rw (arranged-result ds a, sized .loop)
-      (in-flat (λ c. unifyC all c ls ks rs qs) (sized .sizes) _ .1 (length (a .T), sized .are (length (a .T)) .1 size, in-flat (λ T. flatMap (λ P. chosenOver T P) (choose rs (length (a .T)))) (choose ls (length (a .T))) _ .1 ((a .T, a .R), in-choose (lefts-split (a .lefts)), in-flat (λ P. chosenOver (a .T, a .R) P) (choose rs (length (a .T))) _ .1 ((a .P, a .Q), rw long (in-choose (rights-split (a .rights))), there))))
+      (in-flat (λ c. unifyC all c ls ks rs qs) (sized .sizes) _ .1 (length (a .T), sized .are (length (a .T)) .1 size, some))
     where
       a : Arranged ls rs (length ks) (length qs) ds
       a = choice-arranged ls rs (length ks) (length qs) ds dr h
@@ -184,10 +196,11 @@ module _ (ls ks rs qs : List ℕ) (dl : Distinct ls) (dr : Distinct rs) where
   found-tells {T = T} {T′ = T′} f g e =
       pairing-tells T (f .order) T′ (g .order) (found-long f) (found-long g) (ap (λ (s : Result). s .pairing) (sym (f .is) ∙ e ∙ g .is))
 
+  -- for two ways to choose, nothing is gone over twice
   chosen-once : (c : ℕ) (T P : List ℕ × List ℕ) → List·Memᴰ T (choose ls c) → List·Memᴰ P (choose rs c) → Distinct (chosenOver T P)
   chosen-once c T P a b =
       rw (composed-flat (unifyTerms all (T .0) (P .0)) ΣM, terms-all (T .0) (P .0))
-      (rising-flat (λ x y. x ≡ y → ⊥) (λ x y. x ≡ y → ⊥) (λ ps. map (result ps) ΣM) (map (zip (T .0)) (permutations (P .0))) (map-distinct (zip (T .0)) (permutations (P .0)) tell (permutations-distinct (P .0) paired)) (λ ps m. map-distinct (result ps) ΣM (λ σ τ p q e. ap (λ (s : Result). s .contexts) e) (distribution-distinct (T .1) ks (P .1) qs (left-distinct (x .0) dl) (left-distinct (y .0) dr))) apart)
+      (rising-flat (λ u v. u ≡ v → ⊥) (λ u v. u ≡ v → ⊥) (λ ps. map (result ps) ΣM) (map (zip (T .0)) (permutations (P .0))) pairings (λ ps m. with-each ps) apart)
     where
       ΣM : List Contexts
       ΣM = unifyDistribute (T .1) ks (P .1) qs
@@ -210,24 +223,30 @@ module _ (ls ks rs qs : List ℕ) (dl : Distinct ls) (dr : Distinct rs) where
       tell : (S S′ : List ℕ) → List·Memᴰ S (permutations (P .0)) → List·Memᴰ S′ (permutations (P .0)) → zip (T .0) S ≡ zip (T .0) S′ → S ≡ S′
       tell S S′ m n e = pairing-tells (T .0) S (T .0) S′ (long S m) (long S′ n) e .1
 
+      pairings : Distinct (map (zip (T .0)) (permutations (P .0)))
+      pairings = map-distinct (zip (T .0)) (permutations (P .0)) tell (permutations-distinct (P .0) paired)
+
+      with-each : (ps : List (ℕ × ℕ)) → Distinct (map (result ps) ΣM)
+      with-each ps =
+          map-distinct (result ps) ΣM (λ σ τ p q e. ap (λ (s : Result). s .contexts) e)
+          (distribution-distinct (T .1) ks (P .1) qs (left-distinct (x .0) dl) (left-distinct (y .0) dr))
+
       apart : (ps ps′ : List (ℕ × ℕ)) → List·Memᴰ ps (map (zip (T .0)) (permutations (P .0))) → List·Memᴰ ps′ (map (zip (T .0)) (permutations (P .0))) → (ps ≡ ps′ → ⊥) → (u v : Result) → List·Memᴰ u (map (result ps) ΣM) → List·Memᴰ v (map (result ps′) ΣM) → u ≡ v → ⊥
       apart ps ps′ m m′ h u v p q e =
           let s = Memᴰ·of-map (result ps) ΣM p in
           let r = Memᴰ·of-map (result ps′) ΣM q in
           h (ap (λ (w : Result). w .pairing) (s .2 ∙ e ∙ sym (r .2)))
 
-  -- the ways to choose of the left side that are gone over for c terms
-  abbrev leftOver : ℕ → List ℕ × List ℕ → List Result
-  leftOver c T = flatMap (λ P. chosenOver T P) (choose rs c)
-
+  -- nor for one way to choose left terms
   left-once : (c : ℕ) (T : List ℕ × List ℕ) → List·Memᴰ T (choose ls c) → Distinct (leftOver c T)
   left-once c T a =
-      rising-flat Apart (λ x y. x ≡ y → ⊥) (λ P. chosenOver T P) (choose rs c) (choose-apart rs c dr) (λ P b. chosen-once c T P a b)
+      rising-flat Apart (λ x y. x ≡ y → ⊥) (chosenOver T) (choose rs c) (choose-apart rs c dr) (λ P b. chosen-once c T P a b)
       (λ P P′ b b′ h u v m n e. apart P P′ h (chosen-found c T P a b u m) (chosen-found c T P′ a b′ v n) e)
     where
       apart : (P P′ : List ℕ × List ℕ) → Apart P P′ → {u v : Result} → Found c (T .0) (T .1) (P .0) (P .1) u → Found c (T .0) (T .1) (P′ .0) (P′ .1) v → u ≡ v → ⊥
       apart P P′ (x, i, o) f g e = o (g .same x .0 (rw (found-tells f g e .1) at (f .same x .1 i)))
 
+  -- nor for one size
   size-once : (c : ℕ) → Distinct (unifyC all c ls ks rs qs)
   unfolding unifyC
   size-once c =
@@ -239,27 +258,23 @@ module _ (ls ks rs qs : List ℕ) (dl : Distinct ls) (dr : Distinct rs) where
 
       left-found : (T : List ℕ × List ℕ) → List·Memᴰ T (choose ls c) → (u : Result) → List·Memᴰ u (leftOver c T) → LeftFound T u
       left-found T a u m =
-          let s = in-flat (λ P. chosenOver T P) (choose rs c) u .0 m in
+          let s = in-flat (chosenOver T) (choose rs c) u .0 m in
           (s .0, chosen-found c T (s .0) a (s .1) u (s .2))
 
       apart : (T T′ : List ℕ × List ℕ) → Apart T T′ → {u v : Result} → LeftFound T u → LeftFound T′ v → u ≡ v → ⊥
       apart T T′ (x, i, o) (P, f) (P′, g) e = o (rw (found-tells f g e .0) at i)
 
-  -- none twice
+  -- nor at all
   pub over-distinct : Distinct over
-  unfolding unifyC
   over-distinct =
       rw (sized .loop)
       (rising-flat (λ x y. x ≡ y → ⊥) (λ x y. x ≡ y → ⊥) (λ c. unifyC all c ls ks rs qs) (sized .sizes) (sized .once) (λ c m. size-once c) (λ c c′ a a′ h u v m n e. h (sym (long c u m) ∙ ap (λ (r : Result). length (r .pairing)) e ∙ long c′ v n)))
     where
       long : (c : ℕ) (u : Result) → List·Memᴰ u (unifyC all c ls ks rs qs) → length (u .pairing) ≡ c
       long c u m =
-          let x = in-flat (leftOver c) (choose ls c) u .0 m in
-          let y = in-flat (λ P. chosenOver (x .0) P) (choose rs c) u .0 (x .2) in
-          let f = chosen-found c (x .0) (y .0) (x .1) (y .1) u (y .2) in
-          let e = zip-long (x .0 .0) (f .order) (found-long f) in
-          let l = f .left-long in
-          ap (λ (r : Result). length (r .pairing)) (f .is) ∙ e ∙ l
+          let x = over-some c u .0 m in
+          let f = chosen-found c (x .0) (x .1) (x .2) (x .3) u (x .4) in
+          ap (λ (r : Result). length (r .pairing)) (f .is) ∙ zip-long (x .0 .0) (f .order) (found-long f) ∙ f .left-long
 
   -- Document 01's choices.
   abbrev all-choices : List (List ℕ)
