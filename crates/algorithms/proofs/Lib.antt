@@ -17,6 +17,7 @@ pub mod ResultLaws
 pub mod GoneOverLaws
 pub mod TagLaws
 pub mod ListingLaws
+pub mod MmsetLaws
 pub mod MappedLaws
 pub mod AllowsLaws
 pub mod Theorems

@@ -2,7 +2,7 @@
 -- The labels are all different, so that each is mapped as is said at its place. Assumes nothing.
 use Prim.Native.Nat.{ℕ, zero, suc, _+_, _<_}
 use mathlib.Core.Bool.{Bool, true, false, false≢true}
-use mathlib.Core.List.{List, [], _∷_, _++_, map, flatMap, zipWith, append-nil, map-map, map-id, List·Memᴰ}
+use mathlib.Core.List.{List, [], _∷_, _++_, map, zipWith, append-nil, map-map, List·Memᴰ}
 use mathlib.Core.Logic.{_⊎_, inl, inr}
 use mathlib.Core.Path.{_≡_, refl, sym, ap, _∙_}
 use native.Mathlib.Omega.{arith}
@@ -17,16 +17,16 @@ use Rattle.unification.specs.Node.{tabulate, nodesIn, termOf}
 use Rattle.unification.specs.Unifier.{value}
 use Rattle.unification.specs.Computed.Unifying.{unifier}
 use Rattle.unification.proofs.ListLaws.{tabulate-length, tabulate-at, length-none, member-place}
-use Rattle.unification.proofs.FlatLaws.{flat-none, flat-one}
 use Rattle.multiset_unification.specs.Choice.{pairs, inLeft, inRight}
 use Rattle.multiset_unification.specs.Entry.{digitsOf}
 use Rattle.multiset_unification.proofs.LabelLaws.{Different, left-different, right-different, sides-different}
-use Rattle.algorithms.specs.Mmset.{MultisetVariable, given, fresh, Mmset, itself, apply, compose}
+use Rattle.algorithms.specs.Mmset.{MultisetVariable, given, fresh, Mmset, apply, compose}
 use Rattle.algorithms.specs.Algorithms.{Contexts, context}
 use Rattle.algorithms.specs.Table.{leftTags, rightTags, nodeOf, nodePairs, goneOverAs, choiceResult, entryResult}
 use Rattle.algorithms.specs.Unifier.{standing, image, onContexts, unifierOf}
 use Rattle.algorithms.proofs.TagLaws.{lefts-stand, rights-stand}
 use Rattle.algorithms.proofs.DistributeLaws.{context-terms}
+use Rattle.algorithms.proofs.MmsetLaws.{itself-stays, itself-alone}
 
 -- The variables that stand for what else a label holds, in Algorithm 1's unifier of an entry.
 abbrev pub restsIn : List ℕ → List ℕ → ℕ → List MultisetVariable
@@ -69,16 +69,6 @@ image-after t b (k ∷ ks) (P ∷ ps) cs x h =
     rw (ne-eqb x (context b k P .0) (λ e. h 0 (omega arith) (e ∙ context-label b k P)))
     (image-after t b ks ps cs x (λ p l. h (suc p) (omega arith)))
 
--- where multiset variables are mapped to themselves, they stay
-stays : (vs : List MultisetVariable) → flatMap (λ M. itself M .variables) vs ≡ vs
-unfolding itself
-stays vs = flat-one (λ M. M) vs ∙ map-id vs
-
--- and bring no terms
-no-terms : (vs : List MultisetVariable) → flatMap (λ M. itself M .terms) vs ≡ []
-unfolding itself
-no-terms vs = flat-none (λ M. []) vs (λ M. refl)
-
 module _ (t e : List ℕ) where
   -- The term unifier of Algorithm 1's unifier of an entry.
   abbrev pub unifierIn : Substitution
@@ -92,13 +82,13 @@ module _ (t e : List ℕ) where
   mapped-terms : (M : ℕ) (S : Mmset ℕ) → image t (entryResult t e .contexts) M ≡ standing t S → mapped M .terms ≡ map (value (nodesIn t) unifierIn) (map (nodeOf t) (S .terms))
   unfolding unifierOf compose apply onContexts standing entryResult choiceResult goneOverAs
   mapped-terms M S h =
-      rw (h, no-terms (S .variables))
+      rw (h, itself-alone (S .variables))
       (append-nil _ ∙ map-map (sub unifierIn) (λ a. termOf (nodesIn t) (nodeOf t a)) (S .terms) ∙ sym (map-map (value (nodesIn t) unifierIn) (nodeOf t) (S .terms)))
 
   -- and the variables stay
   mapped-variables : (M : ℕ) (S : Mmset ℕ) → image t (entryResult t e .contexts) M ≡ standing t S → mapped M .variables ≡ S .variables
   unfolding unifierOf compose apply onContexts standing
-  mapped-variables M S h = rw h (stays (S .variables))
+  mapped-variables M S h = rw h (itself-stays (S .variables))
 
   -- Each label of a side is mapped to the terms of its part and what stands for its rest.
   pub record Maps (exact : Bool) (ks : List ℕ) (part : ℕ → List ℕ) : Type 0 where

@@ -6,7 +6,7 @@ use mathlib.Core.Logic.{_↔_, _⊎_, inl, inr}
 use mathlib.Core.Path.{_≡_, refl, sym, ap, _∙_}
 use native.Mathlib.Omega.{arith}
 use lib.ListN.{length}
-use Rattle.table.specs.Layout.{leftTermsOf, leftLabelsOf, rightTermsOf, rightLabelsOf}
+use Rattle.table.specs.Layout.{leftTermsOf, leftLabelsOf, rightTermsOf, rightLabelsOf, labelsOf}
 use Rattle.table.specs.Refusal.{refusal}
 use Rattle.table.specs.Code.Accepted.{Accepted}
 use Rattle.table.proofs.AcceptedLaws.{accepted}
@@ -21,7 +21,7 @@ use Rattle.unification.proofs.FlatLaws.{flat-none, flat-map}
 use Rattle.multiset_unification.specs.Assignment.{Assignment, side, EqualSides}
 use Rattle.multiset_unification.specs.Computed.Listing.{completeListing}
 use Rattle.multiset_unification.proofs.Page14.{page14}
-use Rattle.algorithms.specs.Mmset.{MultisetVariable, given, fresh, MmsetSubstitution, apply, compose, Theory, Entails}
+use Rattle.algorithms.specs.Mmset.{MultisetVariable, given, fresh, MmsetSubstitution, apply, compose, Entails}
 use Rattle.algorithms.specs.Table.{algorithm1, entryResult}
 use Rattle.algorithms.specs.Unifier.{unifierOf, unifiersOf, mmsetOf, restsOf, theoryOf, UnifiesSides, SameOn, Allows}
 use Rattle.algorithms.proofs.OrderLaws.{permuted-member}
@@ -130,53 +130,65 @@ module _ (σ : MmsetSubstitution) where
   one-rest M vs (inr e) = rw e (append-nil (restsBy M))
 
   -- where none does, as the other side has no label, the rests equal nothing together, and so it does
-  rests-kept : (Ms Ns : List ℕ) (M : ℕ) → List·Memᴰ M Ms → (vs : List MultisetVariable) → (Ns ≡ [] → vs ≡ []) → ((Ns ≡ [] → ⊥) → (vs ≡ given M ∷ []) ⊎ (vs ≡ fresh M ∷ [])) → (ρ : MultisetVariable → List Term) → (Ns ≡ [] → Same (flatMap (λ N. flatMap ρ (restsBy N)) Ms) (flatMap (λ N. flatMap ρ (restsBy N)) Ns)) → Same (flatMap ρ (restsBy M)) (flatMap ρ (restsFor vs))
+  rests-kept : (Ms Ns : List ℕ) (M : ℕ) → List·Memᴰ M Ms → (vs : List MultisetVariable) → (Ns ≡ [] → vs ≡ []) → ((Ns ≡ [] → ⊥) → (vs ≡ given M ∷ []) ⊎ (vs ≡ fresh M ∷ [])) → (ρ : MultisetVariable → List Term) → Same (flatMap (λ N. flatMap ρ (restsBy N)) Ms) (flatMap (λ N. flatMap ρ (restsBy N)) Ns) → Same (flatMap ρ (restsBy M)) (flatMap ρ (restsFor vs))
   unfolding flatMap occurrences
   rests-kept Ms [] M i vs e o ρ h u =
       let a = in-all (λ N. flatMap ρ (restsBy N)) Ms M i u in
-      rw (e refl) (omega (arith, a, h refl u))
+      rw (e refl) (omega (arith, a, h u))
   rests-kept Ms (N ∷ Ns) M i vs e o ρ h u =
       ap (λ (ws : List MultisetVariable). occurrences u (flatMap ρ ws)) (sym (one-rest M vs (o (λ q. let l = ap length q in absurd (omega (arith, l))))))
 
-  module _ (t : List ℕ) (T : Theory) (h : (leftLabelsOf t ≡ []) ⊎ (rightLabelsOf t ≡ []) → Entails T (theoryOf t σ)) (ok : Accepted t) (e : List ℕ) where
-    -- the substitution has for the rest of a label what it has for what stands for it in the unifier of an entry: modulo its theory, if a side has no label
-    rest-entailed : (M : ℕ) → List·Memᴰ M (leftLabelsOf t) ⊎ List·Memᴰ M (rightLabelsOf t) → Entails T (restsBy M, restsFor (unifierOf t (entryResult t e) .onVariables (given M) .variables))
-    rest-entailed M (inl i) ρ g =
+  module _ (t : List ℕ) (ok : Accepted t) (e : List ℕ) where
+    -- The variables that stand for the rest of a label in the unifier of an entry.
+    abbrev standFor : ℕ → List MultisetVariable
+    standFor M = unifierOf t (entryResult t e) .onVariables (given M) .variables
+
+    -- the substitution has for the rest of a label what it has for what stands for it, modulo its theory,
+    rest-entailed : (M : ℕ) → List·Memᴰ M (leftLabelsOf t) ⊎ List·Memᴰ M (rightLabelsOf t) → Entails (theoryOf t σ) (restsBy M, restsFor (standFor M))
+    rest-entailed M (inl i) ρ h =
         rests-kept (leftLabelsOf t) (rightLabelsOf t) M i _ (λ z. exact-left t e ok z M i) (λ z. rest-left t e ok z M i) ρ
-        (λ z. rw (rests-flat σ ρ (leftLabelsOf t), rests-flat σ ρ (rightLabelsOf t)) at (h (inr z) ρ g))
-    rest-entailed M (inr i) ρ g =
+        (rw (rests-flat σ ρ (leftLabelsOf t), rests-flat σ ρ (rightLabelsOf t)) at h)
+    rest-entailed M (inr i) ρ h =
         rests-kept (rightLabelsOf t) (leftLabelsOf t) M i _ (λ z. exact-right t e ok z M i) (λ z. rest-right t e ok z M i) ρ
-        (λ z. same-sym _ _ (rw (rests-flat σ ρ (leftLabelsOf t), rests-flat σ ρ (rightLabelsOf t)) at (h (inl z) ρ g)))
+        (same-sym _ _ (rw (rests-flat σ ρ (leftLabelsOf t), rests-flat σ ρ (rightLabelsOf t)) at h))
 
-    -- what comes after the unifier of an entry that leaves room for the assignment
-    follows : (a : Allows t (unifierOf t (entryResult t e)) (assignmentOf σ)) → (σ′ : MmsetSubstitution) × SameOn t T σ (compose (unifierOf t (entryResult t e)) σ′)
-    unfolding compose apply
-    follows a = (
-      record { onTerms = a .after; onVariables = λ N. record { terms = a .rests N; variables = restsBy (labelIn N) } },
-      record {
-        onTerms = a .variables;
-        onLabels = λ M i. record { terms = a .labels M i; variables = rest-entailed M (List·Memᴰ·append-cases (leftLabelsOf t) i) };
-      },
-    )
+    -- and to the letter where both sides have labels
+    rest-plain : (leftLabelsOf t ≡ [] → ⊥) → (rightLabelsOf t ≡ [] → ⊥) → (M : ℕ) → List·Memᴰ M (leftLabelsOf t) ⊎ List·Memᴰ M (rightLabelsOf t) → restsBy M ≡ restsFor (standFor M)
+    rest-plain l r M (inl i) = sym (one-rest M (standFor M) (rest-left t e ok r M i))
+    rest-plain l r M (inr i) = sym (one-rest M (standFor M) (rest-right t e ok l M i))
 
--- One of Algorithm 1's unifiers, and then some substitution, is σ, modulo a theory.
-abbrev Factors : List ℕ → Theory → MmsetSubstitution → Type 0
-Factors t T σ = (σᵢ : MmsetSubstitution) × List·Memᴰ σᵢ (unifiersOf t) × ((σ′ : MmsetSubstitution) × SameOn t T σ (compose σᵢ σ′))
+    module _ (a : Allows t (unifierOf t (entryResult t e)) (assignmentOf σ)) where
+      -- What comes after the unifier of an entry that leaves room for the assignment.
+      abbrev follower : MmsetSubstitution
+      follower = record { onTerms = a .after; onVariables = λ N. record { terms = a .rests N; variables = restsBy (labelIn N) } }
 
--- a theory is needed only where a side has no label
-factors : (t : List ℕ) → refusal t ≡ 0 → (σ : MmsetSubstitution) → UnifiesSides t σ → (T : Theory) → ((leftLabelsOf t ≡ []) ⊎ (rightLabelsOf t ≡ []) → Entails T (theoryOf t σ)) → Factors t T σ
-factors t z σ s T h =
-    let i = equal-allowed t z (assignmentOf σ) (sides-equal t σ .0 (s .terms)) in
-    (unifierOf t (entryResult t (i .0)), entry-unifier t (i .0) (i .1), follows σ t T h (accepted t .0 z) (i .0) (i .2))
+      -- the two are the substitution, modulo its theory,
+      follows : SameOn t (theoryOf t σ) σ (compose (unifierOf t (entryResult t e)) follower)
+      unfolding compose apply
+      follows =
+          record {
+            onTerms = a .variables;
+            onLabels = λ M i. record { terms = a .labels M i; variables = rest-entailed M (List·Memᴰ·append-cases (leftLabelsOf t) i) };
+          }
+
+      -- and have its variables, to the letter, where both sides have labels
+      follows-plain : (leftLabelsOf t ≡ [] → ⊥) → (rightLabelsOf t ≡ [] → ⊥) → (M : ℕ) → List·Memᴰ M (labelsOf t) → restsBy M ≡ compose (unifierOf t (entryResult t e)) follower .onVariables (given M) .variables
+      unfolding compose apply
+      follows-plain l r M i = rest-plain l r M (List·Memᴰ·append-cases (leftLabelsOf t) i)
+
+-- a substitution that unifies the sides is an assignment that some entry's unifier leaves room for
+unifies-allowed : (t : List ℕ) → refusal t ≡ 0 → (σ : MmsetSubstitution) → UnifiesSides t σ → (e : List ℕ) × List·Memᴰ e (completeListing t) × Allows t (unifierOf t (entryResult t e)) (assignmentOf σ)
+unifies-allowed t z σ s = equal-allowed t z (assignmentOf σ) (sides-equal t σ .0 (s .terms))
 
 -- Theorem 2: "Completeness. If ∃σ. M σ =_{T_σ} N σ then unify(M, N) ↦ {σ_1, .., σ_n} and ∃σ_i such that σ = σ_i σ'."
 pub completeness : (t : List ℕ) → refusal t ≡ 0 → (σ : MmsetSubstitution) → UnifiesSides t σ → (σᵢ : MmsetSubstitution) × List·Memᴰ σᵢ (unifiersOf t) × ((σ′ : MmsetSubstitution) × SameOn t (theoryOf t σ) σ (compose σᵢ σ′))
-completeness t z σ s = factors t z σ s (theoryOf t σ) (λ n ρ h. h)
+completeness t z σ s =
+    let i = unifies-allowed t z σ s in
+    (unifierOf t (entryResult t (i .0)), entry-unifier t (i .0) (i .1), (follower σ t (accepted t .0 z) (i .0) (i .2), follows σ t (accepted t .0 z) (i .0) (i .2)))
 
--- where both sides have labels, to the letter: modulo the theory that says nothing
-pub completeness-plain : (t : List ℕ) → refusal t ≡ 0 → (leftLabelsOf t ≡ [] → ⊥) → (rightLabelsOf t ≡ [] → ⊥) → (σ : MmsetSubstitution) → UnifiesSides t σ → (σᵢ : MmsetSubstitution) × List·Memᴰ σᵢ (unifiersOf t) × ((σ′ : MmsetSubstitution) × SameOn t ([], []) σ (compose σᵢ σ′))
-completeness-plain t z l r σ s = factors t z σ s ([], []) neither
-  where
-    neither : (leftLabelsOf t ≡ []) ⊎ (rightLabelsOf t ≡ []) → Entails ([], []) (theoryOf t σ)
-    neither (inl e) = absurd (l e)
-    neither (inr e) = absurd (r e)
+-- where both sides have labels, σ and σ_i σ' also have the same variables, to the letter
+pub completeness-plain : (t : List ℕ) → refusal t ≡ 0 → (leftLabelsOf t ≡ [] → ⊥) → (rightLabelsOf t ≡ [] → ⊥) → (σ : MmsetSubstitution) → UnifiesSides t σ → (σᵢ : MmsetSubstitution) × List·Memᴰ σᵢ (unifiersOf t) × ((σ′ : MmsetSubstitution) × SameOn t (theoryOf t σ) σ (compose σᵢ σ′) × ((M : ℕ) → List·Memᴰ M (labelsOf t) → σ .onVariables (given M) .variables ≡ compose σᵢ σ′ .onVariables (given M) .variables))
+completeness-plain t z l r σ s =
+    let i = unifies-allowed t z σ s in
+    let ok = accepted t .0 z in
+    (unifierOf t (entryResult t (i .0)), entry-unifier t (i .0) (i .1), (follower σ t ok (i .0) (i .2), follows σ t ok (i .0) (i .2), follows-plain σ t ok (i .0) (i .2) l r))
