@@ -33,7 +33,7 @@ three =
 abbrev one : List Result
 one = record { pairing = []; contexts = (1, record { terms = []; variables = [] }) ∷ [] } ∷ []
 
--- "given multiset {a, a | M} and {a | N}, unify computes three unifiers": N ↦ {a | N'} twice, "once for each occurrence of a", and M ↦ {a | M'}, N ↦ {a, a | N'}
+-- "given multiset {a, a | M} and {a | N}, unify computes three unifiers": N ↦ {a | N'} twice, "once for each occurrence of a", and M ↦ {a | M'}, N ↦ {a, a | N'}; { | M} and {} have one
 pub three-unifiers : (algorithm1 two-and-one ≡ three) × (algorithm1 label-and-none ≡ one)
 unfolding flatMap product zip zipWith ℕ-discrete countsBefore someBelow tabulate readNode nodesIn renamed join joinAll sameSymbol asks gather asked round rounds classes differ clashAt clashWith clashes someMarked leads leadsAt leadsFrom walks cyclic outcome kept numbers choose atEach permutations inEach orderedPartitions context distribute unifyDistribute composed unifyTerms unifyC unify leftTags rightTags nodePairs algorithm1
 three-unifiers = (refl, refl)
