@@ -158,7 +158,7 @@ to-rights k (b ∷ G) (d ∷ fs) h g = go d (g 0 (omega arith)) (to-rights k G f
     go zero c (P, Q, ps, r) = (b ∷ P, Q, ps, pair r)
     go (suc p) c (P, Q, ps, r) = (P, b ∷ Q, p ∷ ps, put {p = p} (omega arith) r)
 
--- A choice by what it pairs and puts: left terms T with right terms S, in the order of T, which are the right terms P in some order.
+-- A choice by what it pairs and puts: left terms T with right terms S, in the order of T, which are the right terms P in some order. The left terms R go in right labels qs, the right terms Q in left labels ps; fs are the right digits.
 pub record Arranged (ls rs : List ℕ) (k l : ℕ) (ds : List ℕ) : Type 0 where
   pub T : List ℕ
   pub S : List ℕ

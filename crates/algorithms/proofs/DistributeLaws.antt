@@ -13,14 +13,11 @@ use Rattle.unification.proofs.ListLaws.{tabulate-length}
 use Rattle.multiset_unification.specs.Choice.{withDigit}
 use Rattle.algorithms.specs.Mmset.{Mmset}
 use Rattle.algorithms.specs.Algorithms.{orderedPartitions, Contexts, context, distribute, unifyDistribute}
+use Rattle.algorithms.specs.Table.{contextsOf}
 use Rattle.algorithms.specs.Code.Placing.{Distinct, Placing, parts}
 use Rattle.algorithms.proofs.ProductLaws.{in-product, product-distinct, map-product}
 use Rattle.algorithms.proofs.DistinctLaws.{map-distinct}
 use Rattle.algorithms.proofs.PartitionLaws.{partitions-are, partitions-distinct}
-
--- The substitutions of a partition of the right terms and one of the left terms.
-abbrev pub contextsOf : List ℕ → List ℕ → List (List ℕ) → List (List ℕ) → Contexts
-contextsOf Ms Ns p q = zipWith (context (eqb (length Ns) 0)) Ms p ++ zipWith (context (eqb (length Ms) 0)) Ns q
 
 -- the first case of Algorithm 5 is no exception
 distribute-all : (ts Ms : List ℕ) (exact : Bool) → distribute ts Ms exact ≡ map (λ p. zipWith (context exact) Ms p) (orderedPartitions ts (length Ms))
@@ -67,11 +64,11 @@ contexts-tell Ms Ns p p′ q q′ a b c d e =
 
 module _ (R Ms Q Ns : List ℕ) where
   -- The partitions of the terms of both sides that are left.
-  abbrev lefts : List (List (List ℕ) × List (List ℕ))
-  lefts = product (orderedPartitions Q (length Ms)) (orderedPartitions R (length Ns))
+  abbrev partitions : List (List (List ℕ) × List (List ℕ))
+  partitions = product (orderedPartitions Q (length Ms)) (orderedPartitions R (length Ns))
 
   -- unify_distribute goes over the pairs of partitions
-  distribution : unifyDistribute R Ms Q Ns ≡ map (λ s. contextsOf Ms Ns (s .0) (s .1)) lefts
+  distribution : unifyDistribute R Ms Q Ns ≡ map (λ s. contextsOf Ms Ns (s .0) (s .1)) partitions
   unfolding unifyDistribute
   distribution =
       rw (distribute-all R Ns (eqb (length Ms) 0), distribute-all Q Ms (eqb (length Ns) 0))
@@ -87,7 +84,7 @@ module _ (R Ms Q Ns : List ℕ) where
   -- and nothing else
   pub distribution-from : (σ : Contexts) → List·Memᴰ σ (unifyDistribute R Ms Q Ns) → (ps : List ℕ) × (qs : List ℕ) × Placing (length Ms) Q ps × Placing (length Ns) R qs × (σ ≡ contextsOf Ms Ns (parts (length Ms) Q ps) (parts (length Ns) R qs))
   distribution-from σ m =
-      let s = Memᴰ·of-map (λ s. contextsOf Ms Ns (s .0) (s .1)) lefts (rw distribution at m) in
+      let s = Memᴰ·of-map (λ s. contextsOf Ms Ns (s .0) (s .1)) partitions (rw distribution at m) in
       let b = in-product (orderedPartitions Q (length Ms)) (orderedPartitions R (length Ns)) (s .0 .0) (s .0 .1) .0 (s .1) in
       let x = partitions-are Q (length Ms) (s .0 .0) .0 (b .0) in
       let y = partitions-are R (length Ns) (s .0 .1) .0 (b .1) in
@@ -97,14 +94,14 @@ module _ (R Ms Q Ns : List ℕ) where
   pub distribution-distinct : Distinct R → Distinct Q → Distinct (unifyDistribute R Ms Q Ns)
   distribution-distinct dR dQ =
       rw distribution
-      (map-distinct (λ s. contextsOf Ms Ns (s .0) (s .1)) lefts tell (product-distinct _ _ (partitions-distinct Q (length Ms) dQ) (partitions-distinct R (length Ns) dR)))
+      (map-distinct (λ s. contextsOf Ms Ns (s .0) (s .1)) partitions tell (product-distinct _ _ (partitions-distinct Q (length Ms) dQ) (partitions-distinct R (length Ns) dR)))
     where
-      long : (x : List (List ℕ) × List (List ℕ)) → List·Memᴰ x lefts → (length (x .0) ≡ length Ms) × (length (x .1) ≡ length Ns)
+      long : (x : List (List ℕ) × List (List ℕ)) → List·Memᴰ x partitions → (length (x .0) ≡ length Ms) × (length (x .1) ≡ length Ns)
       long x m =
           let b = in-product (orderedPartitions Q (length Ms)) (orderedPartitions R (length Ns)) (x .0) (x .1) .0 m in
           (partition-long Q (length Ms) (x .0) (b .0), partition-long R (length Ns) (x .1) (b .1))
 
-      tell : (x y : List (List ℕ) × List (List ℕ)) → List·Memᴰ x lefts → List·Memᴰ y lefts → contextsOf Ms Ns (x .0) (x .1) ≡ contextsOf Ms Ns (y .0) (y .1) → x ≡ y
+      tell : (x y : List (List ℕ) × List (List ℕ)) → List·Memᴰ x partitions → List·Memᴰ y partitions → contextsOf Ms Ns (x .0) (x .1) ≡ contextsOf Ms Ns (y .0) (y .1) → x ≡ y
       tell x y m n e =
           let a = long x m in
           let b = long y n in

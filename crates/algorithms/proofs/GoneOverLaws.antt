@@ -14,7 +14,7 @@ use Rattle.multiset_unification.specs.Choice.{IsChoice, withDigit, inLeft, inRi
 use Rattle.multiset_unification.specs.Computed.Choices.{choices}
 use Rattle.multiset_unification.proofs.ChoiceLaws.{choices-are, choices-rise, before-one-way}
 use Rattle.algorithms.specs.Algorithms.{choose, permutations, Contexts, unifyDistribute, Result, composed, unifyTerms, unifyC, unify}
-use Rattle.algorithms.specs.Table.{goneOverAs}
+use Rattle.algorithms.specs.Table.{contextsOf, goneOverAs}
 use Rattle.algorithms.specs.Code.Placing.{Distinct, SameMembers, Split, none, chosen, left, Apart, Placing, put, parts}
 use Rattle.algorithms.proofs.DistinctLaws.{map-distinct}
 use Rattle.algorithms.proofs.OrderLaws.{distinct-permuted, permuted-long}
@@ -26,7 +26,7 @@ use Rattle.algorithms.proofs.PairingLaws.{zip-long, pairing-tells}
 use Rattle.algorithms.proofs.ResultLaws.{result-tells}
 use Rattle.algorithms.proofs.KeptLaws.{result, composed-flat, terms-all}
 use Rattle.algorithms.proofs.SizeLaws.{Size, Loop, one-loop}
-use Rattle.algorithms.proofs.DistributeLaws.{contextsOf, in-distribution, distribution-from, distribution-distinct}
+use Rattle.algorithms.proofs.DistributeLaws.{in-distribution, distribution-from, distribution-distinct}
 
 -- A unify_lists that is never None.
 abbrev all : List (ℕ × ℕ) → Outcome

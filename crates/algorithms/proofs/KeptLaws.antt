@@ -9,6 +9,7 @@ use lib.ListN.{length}
 use Rattle.unification.specs.Outcome.{Outcome, unified, clash, occurs}
 use Rattle.unification.proofs.FlatLaws.{flat-same, flat-none, flat-map, flat-flat, flat-one, map-flat}
 use Rattle.multiset_unification.specs.Computed.Listing.{kept}
+use Rattle.multiset_unification.proofs.EntryLaws.{keep}
 use Rattle.algorithms.specs.Algorithms.{permutations, Contexts, Result, composed, unifyTerms, unifyC, unify}
 
 -- A pairing with a substitution of multiset variables.
@@ -40,11 +41,12 @@ terms-all ts ss =
 
 module _ (o : List (ℕ × ℕ) → Outcome) where
   -- What is kept of some results.
-  abbrev pub keep : List Result → List Result
-  keep rs = flatMap (λ r. kept (o (r .pairing)) r) rs
+  abbrev pub keepResults : List Result → List Result
+  keepResults rs = keep (λ r. o (r .pairing)) (λ r. r) rs
 
-  keep-flat : {A : Type 0} (f g : A → List Result) (xs : List A) → ((x : A) → f x ≡ keep (g x)) → flatMap f xs ≡ keep (flatMap g xs)
-  keep-flat f g xs h = flat-same f (λ x. keep (g x)) xs (λ x m. h x) ∙ sym (flat-flat (λ r. kept (o (r .pairing)) r) g xs)
+  -- what is kept of lists one after the other is what is kept of each
+  keep-flat : {A : Type 0} (f g : A → List Result) (xs : List A) → ((x : A) → f x ≡ keepResults (g x)) → flatMap f xs ≡ keepResults (flatMap g xs)
+  keep-flat f g xs h = flat-same f (λ x. keepResults (g x)) xs (λ x m. h x) ∙ sym (flat-flat (λ r. kept (o (r .pairing)) r) g xs)
 
   keep-terms : (ts ss : List ℕ) → unifyTerms o ts ss ≡ flatMap (λ ps. kept (o ps) ps) (unifyTerms (λ ps. unified) ts ss)
   unfolding unifyTerms kept flatMap
@@ -53,7 +55,7 @@ module _ (o : List (ℕ × ℕ) → Outcome) where
       ∙ sym (flat-flat (λ ps. kept (o ps) ps) (λ p. zip (p .0) (p .1) ∷ []) (product (ts ∷ []) (permutations ss)))
 
   -- a pairing is kept with all its substitutions, or with none
-  keep-one : (ps : List (ℕ × ℕ)) (ΣM : List Contexts) (w : Outcome) → o ps ≡ w → flatMap (λ qs. map (result qs) ΣM) (kept w ps) ≡ keep (map (result ps) ΣM)
+  keep-one : (ps : List (ℕ × ℕ)) (ΣM : List Contexts) (w : Outcome) → o ps ≡ w → flatMap (λ qs. map (result qs) ΣM) (kept w ps) ≡ keepResults (map (result ps) ΣM)
   unfolding flatMap kept
   keep-one ps ΣM w e = go w e ∙ sym (flat-map (λ r. kept (o (r .pairing)) r) (result ps) ΣM)
     where
@@ -62,30 +64,30 @@ module _ (o : List (ℕ × ℕ) → Outcome) where
       go clash e = rw e (sym (flat-none (λ σ. []) ΣM (λ σ. refl)))
       go occurs e = rw e (sym (flat-none (λ σ. []) ΣM (λ σ. refl)))
 
-  keep-composed : (ts ss : List ℕ) (ΣM : List Contexts) → composed (unifyTerms o ts ss) ΣM ≡ keep (composed (unifyTerms (λ ps. unified) ts ss) ΣM)
+  keep-composed : (ts ss : List ℕ) (ΣM : List Contexts) → composed (unifyTerms o ts ss) ΣM ≡ keepResults (composed (unifyTerms (λ ps. unified) ts ss) ΣM)
   keep-composed ts ss ΣM =
       let Σ = unifyTerms (λ ps. unified) ts ss in
       ap (λ (Σt : List (List (ℕ × ℕ))). composed Σt ΣM) (keep-terms ts ss)
       ∙ composed-flat (flatMap (λ ps. kept (o ps) ps) Σ) ΣM
       ∙ flat-flat (λ ps. map (result ps) ΣM) (λ ps. kept (o ps) ps) Σ
       ∙ keep-flat _ _ Σ (λ ps. keep-one ps ΣM (o ps) refl)
-      ∙ ap keep (sym (composed-flat Σ ΣM))
+      ∙ ap keepResults (sym (composed-flat Σ ΣM))
 
   module _ (ts Ms ss Ns : List ℕ) where
-    keep-c : (c : ℕ) → unifyC o c ts Ms ss Ns ≡ keep (unifyC (λ ps. unified) c ts Ms ss Ns)
+    keep-c : (c : ℕ) → unifyC o c ts Ms ss Ns ≡ keepResults (unifyC (λ ps. unified) c ts Ms ss Ns)
     unfolding unifyC
     keep-c c = keep-flat _ _ _ (λ T. keep-flat _ _ _ (λ S. keep-composed _ _ _))
 
-    keep-if : (b : Bool) (rs rs′ qs qs′ : List Result) → rs ≡ keep rs′ → qs ≡ keep qs′ → cond b rs qs ≡ keep (cond b rs′ qs′)
+    keep-if : (b : Bool) (rs rs′ qs qs′ : List Result) → rs ≡ keepResults rs′ → qs ≡ keepResults qs′ → cond b rs qs ≡ keepResults (cond b rs′ qs′)
     keep-if true rs rs′ qs qs′ e f = e
     keep-if false rs rs′ qs qs′ e f = f
 
-    keep-none : [] ≡ keep []
+    keep-none : [] ≡ keepResults []
     unfolding flatMap
     keep-none = refl
 
     -- Algorithm 1 is what it goes over, without what unify_lists does not unify
-    pub algorithm-keeps : unify o ts Ms ss Ns ≡ keep (unify (λ ps. unified) ts Ms ss Ns)
+    pub algorithm-keeps : unify o ts Ms ss Ns ≡ keepResults (unify (λ ps. unified) ts Ms ss Ns)
     unfolding unify
     algorithm-keeps =
         keep-if (eqb (length Ms) 0 && eqb (length Ns) 0) _ _ _ _ (keep-if (eqb (length ts) (length ss)) _ _ _ _ (keep-composed _ _ _) keep-none)

@@ -1,7 +1,7 @@
 -- The complete listing is Algorithm 1's set of results, in document 01's order.
 -- Both keep what unify_lists unifies: Algorithm 1 of what it goes over, the listing of the choices, which are the same in another order. Assumes nothing.
 use Prim.Native.Nat.{ℕ}
-use mathlib.Core.List.{List, [], _∷_, map, flatMap, List·Memᴰ, Memᴰ·of-map, List·Permᴰ}
+use mathlib.Core.List.{List, [], _∷_, map, List·Memᴰ, Memᴰ·of-map, List·Permᴰ}
 use mathlib.Core.Logic.{_↔_}
 use mathlib.Core.Path.{_≡_, refl, sym, ap, _∙_}
 use lib.ListN.{length}
@@ -30,7 +30,7 @@ use Rattle.algorithms.specs.Unifier.{unifierOf}
 use Rattle.algorithms.specs.Code.Placing.{Distinct}
 use Rattle.algorithms.proofs.OrderLaws.{permuted-member, permuted-flat}
 use Rattle.algorithms.proofs.TagLaws.{left-tags-long, right-tags-long, left-tags-distinct, right-tags-distinct, pairs-stand}
-use Rattle.algorithms.proofs.KeptLaws.{algorithm-keeps}
+use Rattle.algorithms.proofs.KeptLaws.{keepResults, algorithm-keeps}
 use Rattle.algorithms.proofs.ResultLaws.{result-tells}
 use Rattle.algorithms.proofs.GoneOverLaws.{choice-over, over-distinct, goes-over}
 
@@ -61,7 +61,7 @@ module _ (t : List ℕ) where
       result-tells (leftTags t) (leftLabelsOf t) (rightTags t) (rightLabelsOf t) (left-tags-distinct t) (right-tags-distinct t) ds es (by-tags ds c) (by-tags es d)
 
   -- Algorithm 1 keeps of what it goes over just what unify_lists unifies
-  pub keeps-unified : algorithm1 t ≡ flatMap (λ r. kept (unifying (r .pairing)) r) (goneOver t)
+  pub keeps-unified : algorithm1 t ≡ keepResults unifying (goneOver t)
   unfolding algorithm1 goneOver
   keeps-unified = algorithm-keeps unifying (leftTags t) (leftLabelsOf t) (rightTags t) (rightLabelsOf t)
 
@@ -119,7 +119,7 @@ module _ (t : List ℕ) where
   entry-kept ds c occurs = refl
 
   -- the entries of the complete listing, read as results, are what is kept of the choices
-  listing-kept : map (entryResult t) (completeListing t) ≡ flatMap (λ r. kept (unifying (r .pairing)) r) (map (choiceResult t) (choicesOf t))
+  listing-kept : map (entryResult t) (completeListing t) ≡ keepResults unifying (map (choiceResult t) (choicesOf t))
   unfolding completeListing choicesOf
   listing-kept =
       map-flat (entryResult t) (λ ds. kept (outcome (nodesIn t) (pairsOf t ds)) (entryOf t ds)) (choicesOf t)

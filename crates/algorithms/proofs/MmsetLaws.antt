@@ -22,6 +22,10 @@ pub itself-alone : (vs : List MultisetVariable) → flatMap (λ M. itself M .ter
 unfolding itself
 itself-alone vs = flat-none (λ M. []) vs (λ M. refl)
 
+-- terms whose variables are mapped to themselves stay
+pub terms-unchanged : (ts : List Term) → map (sub var) ts ≡ ts
+terms-unchanged ts = map-same (sub var) (λ u. u) ts (λ u m. sub-var u) ∙ map-id ts
+
 -- The substitution that maps everything to itself.
 abbrev unchanged : MmsetSubstitution
 unchanged = record { onTerms = var; onVariables = itself }
@@ -30,7 +34,7 @@ unchanged = record { onTerms = var; onVariables = itself }
 pub apply-unchanged : (S : Mmset Term) → apply unchanged S ≡ S
 unfolding apply
 apply-unchanged S =
-    let t : map (sub var) (S .terms) ++ flatMap (λ M. itself M .terms) (S .variables) ≡ S .terms = rw (itself-alone (S .variables)) (append-nil _ ∙ map-same (sub var) (λ u. u) (S .terms) (λ u m. sub-var u) ∙ map-id (S .terms)) in
+    let t : map (sub var) (S .terms) ++ flatMap (λ M. itself M .terms) (S .variables) ≡ S .terms = rw (itself-alone (S .variables)) (append-nil _ ∙ terms-unchanged (S .terms)) in
     rw (t, itself-stays (S .variables)) refl
 
 -- two lists for each element, or one after the other

@@ -1,7 +1,7 @@
 -- Theorems 1 and 2 of document 000, of its algorithm, and page 14.
 -- Algorithm 1's results are those of the entries of the complete listing, so page 14 holds of it. A substitution that makes the sides equal is an assignment, with variables for the rests: page 14 gives the unifier that it comes after. Assumes nothing.
 use Prim.Native.Nat.{ℕ, _≤_}
-use mathlib.Core.List.{List, [], _∷_, _++_, map, flatMap, append-nil, map-map, map-id, List·Memᴰ, List·Memᴰ·head, List·Memᴰ·tail, List·Memᴰ·append-cases, Memᴰ·map, Memᴰ·of-map, Permᴰ·symm}
+use mathlib.Core.List.{List, [], _∷_, _++_, map, flatMap, append-nil, map-map, List·Memᴰ, List·Memᴰ·head, List·Memᴰ·tail, List·Memᴰ·append-cases, Memᴰ·map, Memᴰ·of-map, Permᴰ·symm}
 use mathlib.Core.Logic.{_↔_, _⊎_, inl, inr}
 use mathlib.Core.Path.{_≡_, refl, sym, ap, _∙_}
 use native.Mathlib.Omega.{arith}
@@ -15,18 +15,19 @@ use Rattle.terms.specs.Substitution.{sub}
 use Rattle.terms.specs.Multiset.{occurrences, Same}
 use Rattle.terms.proofs.SubstitutionLaws.{sub-var}
 use Rattle.terms.proofs.MultisetLaws.{occurrences-append, same-sym}
-use Rattle.unification.specs.Node.{nodesIn, termOf}
-use Rattle.unification.proofs.ListLaws.{map-same}
+use Rattle.unification.specs.Node.{nodesIn, Present, termOf}
 use Rattle.unification.proofs.FlatLaws.{flat-none, flat-map}
 use Rattle.multiset_unification.specs.Assignment.{Assignment, side, EqualSides}
 use Rattle.multiset_unification.specs.Computed.Listing.{completeListing}
 use Rattle.multiset_unification.proofs.Page14.{page14}
-use Rattle.algorithms.specs.Mmset.{MultisetVariable, given, fresh, MmsetSubstitution, apply, compose, Entails}
+use Rattle.multiset_unification.proofs.AssignmentLaws.{Agree, equal-agree}
+use Rattle.algorithms.specs.Mmset.{MultisetVariable, given, fresh, Mmset, MmsetSubstitution, apply, compose, Entails}
 use Rattle.algorithms.specs.Table.{algorithm1, entryResult}
 use Rattle.algorithms.specs.Unifier.{unifierOf, unifiersOf, mmsetOf, restsOf, theoryOf, UnifiesSides, SameOn, Allows}
 use Rattle.algorithms.proofs.OrderLaws.{permuted-member}
 use Rattle.algorithms.proofs.ListingLaws.{listing-results}
-use Rattle.algorithms.proofs.MappedLaws.{exact-left, exact-right, rest-left, rest-right, labelIn}
+use Rattle.algorithms.proofs.MmsetLaws.{terms-unchanged}
+use Rattle.algorithms.proofs.MappedLaws.{restsIn, exact-left, exact-right, rest-left, rest-right, labelIn}
 use Rattle.algorithms.proofs.AllowsLaws.{rests-flat, instance-allowed}
 
 -- an assignment that makes the sides equal has room in the unifier of some entry
@@ -77,6 +78,14 @@ module _ (t : List ℕ) (σ : MmsetSubstitution) where
   sides-equal : Same (apply σ (mmsetOf t (leftTermsOf t) (leftLabelsOf t)) .terms) (apply σ (mmsetOf t (rightTermsOf t) (rightLabelsOf t)) .terms) ↔ EqualSides t (assignmentOf σ)
   sides-equal = let l = side-terms (leftTermsOf t) (leftLabelsOf t) in let r = side-terms (rightTermsOf t) (rightLabelsOf t) in ((λ h. rw (l, r) at h), (λ h. rw (l, r) h))
 
+  -- what makes the terms equal unifies the sides: the theory is that the variables are
+  unifies : EqualSides t (assignmentOf σ) → UnifiesSides t σ
+  unifies s =
+      record {
+        terms = sides-equal .1 s;
+        variables = λ ρ h. rw (side-variables (leftTermsOf t) (leftLabelsOf t), side-variables (rightTermsOf t) (rightLabelsOf t)) h;
+      }
+
   -- a substitution leaves room for that assignment, with no rests
   own-allowed : Allows t σ (assignmentOf σ)
   own-allowed =
@@ -92,16 +101,17 @@ module _ (t : List ℕ) (σ : MmsetSubstitution) where
       same M =
           let ts = σ .onVariables (given M) .terms in
           rw (flat-none {B = Term} (λ N. []) (σ .onVariables (given M) .variables) (λ N. refl))
-          (append-nil _ ∙ map-same (sub var) (λ u. u) ts (λ u i. sub-var u) ∙ map-id ts)
+          (append-nil _ ∙ terms-unchanged ts)
+
+-- only what a substitution gives to the variables present and to the labels of the table matters
+pub unifies-agree : (t : List ℕ) → Accepted t → (σ τ : MmsetSubstitution) → ((x : ℕ) → Present (nodesIn t) x → σ .onTerms x ≡ τ .onTerms x) → ((M : ℕ) → List·Memᴰ M (labelsOf t) → σ .onVariables (given M) ≡ τ .onVariables (given M)) → UnifiesSides t σ → UnifiesSides t τ
+unifies-agree t ok σ τ x l s =
+    let g : Agree t (assignmentOf σ) (assignmentOf τ) = record { variables = x; labels = λ M i u. ap (λ (S : Mmset Term). occurrences u (S .terms)) (l M i) } in
+    unifies t τ (equal-agree t ok (assignmentOf σ) (assignmentOf τ) g .0 (sides-equal t σ .0 (s .terms)))
 
 -- Theorem 1: "Soundness. If unify(M, N) ↦ {σ_1, .., σ_n} then ∀σ_i. M σ_i =_{T_σ_i} N σ_i"
 pub soundness : (t : List ℕ) → refusal t ≡ 0 → (σ : MmsetSubstitution) → List·Memᴰ σ (unifiersOf t) → UnifiesSides t σ
-soundness t z σ m =
-    let s = algorithm-page14 t z (assignmentOf σ) .1 (σ, m, own-allowed t σ) in
-    record {
-      terms = sides-equal t σ .1 s;
-      variables = λ ρ h. rw (side-variables t σ (leftTermsOf t) (leftLabelsOf t), side-variables t σ (rightTermsOf t) (rightLabelsOf t)) h;
-    }
+soundness t z σ m = unifies t σ (algorithm-page14 t z (assignmentOf σ) .1 (σ, m, own-allowed t σ))
 
 -- what one label holds is no more than what all hold together
 in-all : (g : ℕ → List Term) (Ms : List ℕ) (M : ℕ) → List·Memᴰ M Ms → (u : Term) → occurrences u (g M) ≤ occurrences u (flatMap g Ms)
@@ -139,12 +149,8 @@ module _ (σ : MmsetSubstitution) where
       ap (λ (ws : List MultisetVariable). occurrences u (flatMap ρ ws)) (sym (one-rest M vs (o (λ q. let l = ap length q in absurd (omega (arith, l))))))
 
   module _ (t : List ℕ) (ok : Accepted t) (e : List ℕ) where
-    -- The variables that stand for the rest of a label in the unifier of an entry.
-    abbrev standFor : ℕ → List MultisetVariable
-    standFor M = unifierOf t (entryResult t e) .onVariables (given M) .variables
-
     -- the substitution has for the rest of a label what it has for what stands for it, modulo its theory,
-    rest-entailed : (M : ℕ) → List·Memᴰ M (leftLabelsOf t) ⊎ List·Memᴰ M (rightLabelsOf t) → Entails (theoryOf t σ) (restsBy M, restsFor (standFor M))
+    rest-entailed : (M : ℕ) → List·Memᴰ M (leftLabelsOf t) ⊎ List·Memᴰ M (rightLabelsOf t) → Entails (theoryOf t σ) (restsBy M, restsFor (restsIn t e M))
     rest-entailed M (inl i) ρ h =
         rests-kept (leftLabelsOf t) (rightLabelsOf t) M i _ (λ z. exact-left t e ok z M i) (λ z. rest-left t e ok z M i) ρ
         (rw (rests-flat σ ρ (leftLabelsOf t), rests-flat σ ρ (rightLabelsOf t)) at h)
@@ -153,9 +159,9 @@ module _ (σ : MmsetSubstitution) where
         (same-sym _ _ (rw (rests-flat σ ρ (leftLabelsOf t), rests-flat σ ρ (rightLabelsOf t)) at h))
 
     -- and to the letter where both sides have labels
-    rest-plain : (leftLabelsOf t ≡ [] → ⊥) → (rightLabelsOf t ≡ [] → ⊥) → (M : ℕ) → List·Memᴰ M (leftLabelsOf t) ⊎ List·Memᴰ M (rightLabelsOf t) → restsBy M ≡ restsFor (standFor M)
-    rest-plain l r M (inl i) = sym (one-rest M (standFor M) (rest-left t e ok r M i))
-    rest-plain l r M (inr i) = sym (one-rest M (standFor M) (rest-right t e ok l M i))
+    rest-plain : (leftLabelsOf t ≡ [] → ⊥) → (rightLabelsOf t ≡ [] → ⊥) → (M : ℕ) → List·Memᴰ M (leftLabelsOf t) ⊎ List·Memᴰ M (rightLabelsOf t) → restsBy M ≡ restsFor (restsIn t e M)
+    rest-plain l r M (inl i) = sym (one-rest M (restsIn t e M) (rest-left t e ok r M i))
+    rest-plain l r M (inr i) = sym (one-rest M (restsIn t e M) (rest-right t e ok l M i))
 
     module _ (a : Allows t (unifierOf t (entryResult t e)) (assignmentOf σ)) where
       -- What comes after the unifier of an entry that leaves room for the assignment.

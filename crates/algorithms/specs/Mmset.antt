@@ -15,7 +15,7 @@ pub record Mmset (A : Type 0) : Type 0 where
   pub terms : List A
   pub variables : List MultisetVariable
 
--- Definition 1: an mmset substitution is "a finite mapping of term variables to terms, and of multiset variables to mmsets"
+-- Definition 1: an mmset substitution is "a finite mapping of term variables to terms, and of multiset variables to mmsets". Variables that are not in the problem do not matter (`unifies-agree`).
 pub record MmsetSubstitution : Type 0 where
   pub onTerms : Substitution
   pub onVariables : MultisetVariable → Mmset Term

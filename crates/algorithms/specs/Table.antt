@@ -9,7 +9,7 @@ use Rattle.unification.specs.Outcome.{unified}
 use Rattle.unification.specs.Computed.Unifying.{outcome}
 use Rattle.multiset_unification.specs.Choice.{pairs, inLeft, inRight}
 use Rattle.multiset_unification.specs.Entry.{digitsOf}
-use Rattle.algorithms.specs.Algorithms.{numbers, context, Result, unify}
+use Rattle.algorithms.specs.Algorithms.{numbers, Contexts, context, Result, unify}
 
 -- The tag of a term is the place of its digit in a choice: the left terms are numbered from 0, and then the right terms.
 unfoldable pub leftTags : List ℕ → List ℕ
@@ -35,12 +35,16 @@ algorithm1 t =
 unfoldable pub goneOver : List ℕ → List Result
 goneOver t = unify (λ ps. unified) (leftTags t) (leftLabelsOf t) (rightTags t) (rightLabelsOf t)
 
--- A choice as it is gone over, of terms ls and rs and labels ks and qs: its pairs, and M ↦ {ts | ..} with the terms ts that it puts in each label M.
+-- What Algorithm 4 makes of parts p for the left labels and q for the right ones: M ↦ {ts | ..} for each part ts, with no rest where the other side has no label.
+abbrev pub contextsOf : List ℕ → List ℕ → List (List ℕ) → List (List ℕ) → Contexts
+contextsOf ks qs p q = zipWith (context (eqb (length qs) 0)) ks p ++ zipWith (context (eqb (length ks) 0)) qs q
+
+-- A choice as it is gone over, of terms ls and rs and labels ks and qs: its pairs, and as the part of each label the terms that it puts there.
 unfoldable pub goneOverAs : List ℕ → List ℕ → List ℕ → List ℕ → List ℕ → Result
 goneOverAs ls ks rs qs ds =
     record {
       pairing = pairs ls rs ds;
-      contexts = zipWith (context (eqb (length qs) 0)) ks (tabulate (length ks) (inLeft ls rs ds)) ++ zipWith (context (eqb (length ks) 0)) qs (tabulate (length qs) (inRight ls rs ds));
+      contexts = contextsOf ks qs (tabulate (length ks) (inLeft ls rs ds)) (tabulate (length qs) (inRight ls rs ds));
     }
 
 -- A choice of the table, and an entry by its digits, as they are gone over.

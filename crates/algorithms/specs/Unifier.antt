@@ -19,11 +19,12 @@ use Rattle.algorithms.specs.Table.{nodeOf, nodePairs, algorithm1}
 unfoldable pub standing : List ℕ → Mmset ℕ → Mmset Term
 standing t S = record { terms = map (λ a. termOf (nodesIn t) (nodeOf t a)) (S .terms); variables = S .variables }
 
--- What σ_M maps the label x to: what is said of it, or itself.
+-- What σ_M maps the label x to: as it says, or to itself.
 unfoldable pub image : List ℕ → Contexts → ℕ → Mmset Term
 image t [] x = itself (given x)
 image t (c ∷ σ) x = cond (eqb x (c .0)) (standing t (c .1)) (image t σ x)
 
+-- It maps labels alone.
 unfoldable pub onContexts : List ℕ → Contexts → MultisetVariable → Mmset Term
 onContexts t σ (given x) = image t σ x
 onContexts t σ (fresh x) = itself (fresh x)
