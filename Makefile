@@ -32,6 +32,7 @@ compare:
 bench:
 	@tools/bench $(if $(TABLES),--tables "$(TABLES)") $(if $(BASELINE),--baseline "$(BASELINE)") $(if $(GROWTH),--growth) $(if $(LENT),--lent "$(LENT)")
 
-# The files that a reader has to believe, with their lines of definitions.
+# What a reader has to believe: the definitions that promises are made of, and the contracts of the public operations. It is kept in
+# docs/BELIEVED.txt.
 believed:
 	@tools/believed
