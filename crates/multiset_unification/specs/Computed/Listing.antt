@@ -1,4 +1,4 @@
--- The complete listing (`listing-complete`, `listing-one`).
+-- The complete listing.
 use Prim.Native.Nat.{ℕ}
 use mathlib.Core.List.{List, [], _∷_, flatMap}
 use lib.ListN.{length}
@@ -19,6 +19,6 @@ kept occurs e = []
 unfoldable pub choicesOf : List ℕ → List (List ℕ)
 choicesOf t = choices (length (leftTermsOf t)) (length (rightTermsOf t)) (length (leftLabelsOf t)) (length (rightLabelsOf t))
 
--- The entries of those whose pairs have a unifier.
+-- The entries of those whose pairs have a unifier (`listing-complete`, `listing-one`).
 unfoldable pub completeListing : List ℕ → List (List ℕ)
 completeListing t = flatMap (λ ds. kept (outcome (nodesIn t) (pairsOf t ds)) (entryOf t ds)) (choicesOf t)

@@ -1,5 +1,5 @@
--- All that acceptance means, in document 01's words. It is tied both ways to the refusal (`accepted`), so nobody has to
--- believe it. Functions that are called after the check can ask for it.
+-- All that acceptance means, in document 01's words. It is tied both ways to the refusal, so nobody has to believe it.
+-- Functions that are called after the check can ask for it.
 use Prim.Native.Nat.{ℕ, _+_, _*_, _≤_, _<_}
 use mathlib.Core.Path.{_≡_}
 use mathlib.Core.List.{List}
@@ -22,6 +22,7 @@ pub data RightNode (kind name first count earlier : ℕ) : Type 0 where
 abbrev pub NodeIsRight : List ℕ → ℕ → Type 0
 NodeIsRight ns i = RightNode (kindOf ns i) (nameOf ns i) (firstOf ns i) (countOf ns i) (countsBefore ns i)
 
+-- A table that meets no refusal (`accepted`).
 pub record Accepted (t : List ℕ) : Type 0 where
   -- "Words 0 to 11 are six pairs of offset and length"
   pub header : headerWords ≤ length t

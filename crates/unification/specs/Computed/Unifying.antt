@@ -1,4 +1,4 @@
--- What unifying a list of pairs of nodes comes to (`outcome-clash`, `outcome-occurs`, `outcome-unified`), with its unifier and words.
+-- What unifying a list of pairs of nodes comes to, with its unifier and words.
 use Prim.Native.Nat.{ℕ, suc}
 use mathlib.Core.Bool.{cond}
 use mathlib.Core.List.{List}
@@ -11,7 +11,7 @@ use Rattle.unification.specs.Computed.Walks.{cyclic}
 use Rattle.unification.specs.Computed.Solution.{solution, headIn}
 use Rattle.unification.specs.Computed.Binding.{bindingWords}
 
--- "Here clash goes first."
+-- "Here clash goes first." (`outcome-clash`, `outcome-occurs`, `outcome-unified`)
 unfoldable pub outcome : List Node → List (ℕ × ℕ) → Outcome
 outcome ns ps = cond (clashes ns (classes ns ps)) clash (cond (cyclic ns (classes ns ps)) occurs unified)
 
@@ -19,6 +19,6 @@ outcome ns ps = cond (clashes ns (classes ns ps)) clash (cond (cyclic ns (classe
 unfoldable pub unifier : List Node → List (ℕ × ℕ) → Substitution
 unifier ns ps = solution (suc (length ns)) ns (headIn ns (classes ns ps))
 
--- Its binding words (`words-least`).
+-- Its binding words (`words-least`, `words-decided`).
 unfoldable pub wordsOf : List Node → List (ℕ × ℕ) → List ℕ
 wordsOf ns ps = bindingWords ns (unifier ns ps)

@@ -1,4 +1,4 @@
--- The list of the variables present (`variables-are`, `variables-one`).
+-- The list of the variables present.
 use Prim.Native.Nat.{ℕ}
 use mathlib.Core.Bool.{cond}
 use mathlib.Core.List.{List, [], _∷_}
@@ -10,7 +10,7 @@ unfoldable pub insert : ℕ → List ℕ → List ℕ
 insert x [] = x ∷ []
 insert x (y ∷ ys) = cond (ltb x y) (x ∷ y ∷ ys) (cond (eqb x y) (y ∷ ys) (y ∷ insert x ys))
 
--- The variables present, in rising order.
+-- The variables present, in rising order (`variables-are`, `variables-one`).
 unfoldable pub variablesOf : List Node → List ℕ
 variablesOf [] = []
 variablesOf (variable x ∷ ns) = insert x (variablesOf ns)
