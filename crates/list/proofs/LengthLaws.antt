@@ -10,12 +10,11 @@ use native.Mathlib.Omega.{arith}
 use lib.ListN.{length, getD, take, drop, length-append, length-drop}
 use lib.Seq.{length-take-le}
 use Rattle.unification.specs.Node.{tabulate}
-use Rattle.list.specs.Line.{decimal, afterWord, line, lines}
-use Rattle.list.specs.Printed.{titled}
-use Rattle.list.specs.Code.Writing.{Wrote, parts}
+use Rattle.text.specs.Line.{decimal, afterWord, line, lines, titled}
+use Rattle.text.specs.Code.Writing.{Wrote, parts}
 use Rattle.list.specs.Code.Printing.{mostPrinted, Printable}
-use Rattle.list.proofs.DecimalLaws.{lastDigit, decimal-one, decimal-more}
-use Rattle.list.proofs.LineLaws.{titled-long, part, part-long}
+use Rattle.text.proofs.DecimalLaws.{lastDigit, decimal-one, decimal-more}
+use Rattle.text.proofs.LineLaws.{titled-long, part, part-long}
 
 -- a number below a power of ten has no more digits than its exponent
 decimal-short : (k n : ℕ) → n < 10 ^ suc k → length (decimal n) ≤ suc k

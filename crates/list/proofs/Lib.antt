@@ -1,10 +1,4 @@
 -- Laws of the definitions, and of what the code writes.
-pub mod InputLaws
-pub mod ByteLaws
-pub mod DecimalLaws
-pub mod NumeralLaws
-pub mod WritingLaws
-pub mod LineLaws
 pub mod LengthLaws
 pub mod PrintLaws
 pub mod PrintedExamples

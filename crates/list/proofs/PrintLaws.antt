@@ -28,10 +28,10 @@ use Rattle.multiset_unification.specs.Computed.Listing.{kept, choicesOf, comple
 use Rattle.multiset_unification.proofs.AnswerLaws.{finished-exactly, full-exactly, entries-left, lent-long}
 use Rattle.multiset_unification.proofs.EntryLaws.{entry-long}
 use Rattle.multiset_unification.proofs.LentLaws.{entries-lie}
-use Rattle.list.specs.Line.{lines}
-use Rattle.list.specs.Printed.{entriesText, fullText, refusedText, titled, title, printedTable, printed}
-use Rattle.list.specs.Input.{wrongBytes, wordsOfBytes}
-use Rattle.list.specs.Code.Writing.{Wrote, parts}
+use Rattle.text.specs.Line.{lines, titled}
+use Rattle.list.specs.Printed.{entriesText, fullText, refusedText, title, printedTable, printed}
+use Rattle.text.specs.Input.{wrongBytes, wordsOfBytes}
+use Rattle.text.specs.Code.Writing.{Wrote, parts}
 use Rattle.list.specs.Code.Printing.{Printable}
 
 -- lists of one length, one after the other

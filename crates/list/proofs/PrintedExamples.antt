@@ -24,10 +24,10 @@ use Rattle.multiset_unification.specs.Computed.Choices.{among, branch, rights, 
 use Rattle.multiset_unification.specs.Computed.Listing.{kept, choicesOf, completeListing}
 use Rattle.multiset_unification.specs.Answer.{listConditions, fitting, entriesLeft, listed}
 use Rattle.multiset_unification.proofs.Starred.{two-and-one, nothing, one-and-none}
-use Rattle.list.specs.Input.{wordsOfBytes}
-use Rattle.list.specs.Line.{decimalWithin, decimal, afterWord, line, lines}
-use Rattle.list.specs.Printed.{titled, title, printedTable, printed}
-use Rattle.list.proofs.ByteLaws.{bytesOfWords}
+use Rattle.text.specs.Input.{wordsOfBytes}
+use Rattle.text.specs.Line.{decimalWithin, decimal, afterWord, line, lines, titled}
+use Rattle.list.specs.Printed.{title, printedTable, printed}
+use Rattle.text.proofs.ByteLaws.{bytesOfWords}
 
 -- 1, 3 and 4; three bytes; no bytes
 pub inputs : List (List ℕ)

@@ -1,3 +1,2 @@
 -- What contracts of inner functions and laws speak of. No reader has to believe these.
-pub mod Writing
 pub mod Printing

@@ -5,8 +5,8 @@ use mathlib.Core.List.{List, [], _∷_, _++_}
 use lib.Dec.{eqb}
 use lib.ListN.{length}
 use Rattle.multiset_unification.specs.Answer.{entriesLeft, listed}
-use Rattle.list.specs.Input.{wrongBytes, wordsOfBytes}
-use Rattle.list.specs.Line.{decimal, lines}
+use Rattle.text.specs.Input.{wrongBytes, wordsOfBytes}
+use Rattle.text.specs.Line.{lines, titled}
 
 -- "entries ", "full " and "refused ".
 abbrev pub entriesText : List ℕ
@@ -17,10 +17,6 @@ fullText = 102 ∷ 117 ∷ 108 ∷ 108 ∷ 32 ∷ []
 
 abbrev pub refusedText : List ℕ
 refusedText = 114 ∷ 101 ∷ 102 ∷ 117 ∷ 115 ∷ 101 ∷ 100 ∷ 32 ∷ []
-
--- A text and a number, as a line.
-unfoldable pub titled : List ℕ → ℕ → List ℕ
-titled text n = text ++ decimal n ++ (10 ∷ [])
 
 -- "It prints `entries K`, `full K` or `refused N`": the line for an answer of `listing::list`.
 unfoldable pub title : ℕ × ℕ → List ℕ

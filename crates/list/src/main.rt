@@ -1,15 +1,9 @@
 // The program `list`: lists the unifiers of the two sides of the table on its standard input.
-use input::MAX_BYTES;
 use libc::STDIN_FILENO;
 use libc::STDOUT_FILENO;
 use print::MAX_PRINTED;
 use print::print;
-
-// The bytes of the input, and the words that they stand for.
-mod input;
-
-// Numbers, titles and lines as bytes.
-mod lines;
+use text::input::MAX_BYTES;
 
 // What is printed for an input: `print`.
 mod print;

@@ -2,7 +2,7 @@
 use native.Mathlib.Omega.{arith}
 use borrow.Author.Needs.{needs}
 use Rattle.list.proofs.LengthLaws.{few-entries, title-fits, lines-fit}
-use Rattle.list.proofs.WritingLaws.{wrote-both}
+use Rattle.text.proofs.WritingLaws.{wrote-both}
 use Rattle.list.proofs.print.write_entries.Statement.{statement}
 use Rattle.list.proofs.print.write_entries.Tie as tie
 
