@@ -7,12 +7,12 @@ ghost use Rattle.text.specs.Line.{lines, titled};
 ghost use Rattle.list.specs.Printed.{printedTable, printed};
 ghost use Rattle.text.specs.Code.Writing.{Wrote, parts};
 ghost use Rattle.list.specs.Code.Printing.{mostPrinted, Printable};
+use listing::entry_words;
+use multiset_unification::Listing;
 use text::input::read_words;
 use text::input::wrong_bytes;
 use text::lines::write_lines;
 use text::lines::write_title;
-use listing::entry_words;
-use multiset_unification::Listing;
 
 // "lends 16,384 words"
 pub const LENT: usize = 16384;
