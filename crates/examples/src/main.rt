@@ -256,7 +256,7 @@ fn answer(name: &[u8], table: &[u32]) {
         run_unification(name, table);
         return;
     }
-    print_checked(table::check(table));
+    print_checked(checking::check(table));
 }
 
 // Prints the name of one line and the answer to it.

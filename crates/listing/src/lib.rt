@@ -49,7 +49,7 @@ pub fn list(table: &[u32], out: &mut [u32]) -> Listing
     ensures { λ r. ⌜ now (out .exit) ≡ lentAfter (now (table .entry)) (now (out .entry)) ⌝ }
     ensures page14 { λ r. ⌜ ((k : ℕ) → r ≡ Listing.Finished k → Page14 (now (table .entry)) k (now (out .exit))) ⌝ }
 {
-    match table::check(table) {
+    match checking::check(table) {
         Checked::Refused(refusal) => Listing::Refused(refusal),
         Checked::Accepted => call::list_accepted(table, out),
     }
@@ -59,7 +59,7 @@ pub fn list(table: &[u32], out: &mut [u32]) -> Listing
 pub fn entry_words(table: &[u32]) -> usize
     ensures { λ r. ⌜ r ≡ cond (eqb (refusal (now (table .entry))) 0) (entryWords (now (table .entry))) 0 ⌝ }
 {
-    match table::check(table) {
+    match checking::check(table) {
         Checked::Refused(_) => 0,
         Checked::Accepted => width::accepted_words(table),
     }

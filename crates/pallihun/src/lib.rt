@@ -32,7 +32,7 @@ pub struct PallihunListing {
 pub extern "C" fn pallihun_check(table: &[u32]) -> u32
     ensures { λ r. ⌜ r ≡ refusal (now (table .entry)) ⌝ }
 {
-    numbers::of_checked(table::check(table))
+    numbers::of_checked(checking::check(table))
 }
 
 // Unifies two nodes of a table: 0 for unified, 1000 for a clash, 1001 for occurs, or the number of the refusal. Unified leaves the

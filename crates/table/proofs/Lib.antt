@@ -1,4 +1,4 @@
--- Laws of the definitions, and the steps that the proofs of several functions share.
+-- Laws of the definitions.
 pub mod BoolLaws
 pub mod SomeLaws
 pub mod LayoutLaws
@@ -8,4 +8,3 @@ pub mod SectionLaws
 pub mod RefusalLaws
 pub mod AcceptedLaws
 pub mod AnswerLaws
-pub mod LoopLaws

@@ -1,19 +1,12 @@
-// The problem table of document 01: its limits, how it is read, and its check.
+// The problem table of document 01: its limits, how it is read, and why it is refused.
 ghost use mathlib.Core.Path.{_≡_};
-ghost use Rattle.table.specs.Refusal.{refusal};
-ghost use Rattle.table.specs.Answer.{told, numberOf};
-use limits::HEADER_WORDS;
+ghost use Rattle.table.specs.Answer.{numberOf};
 
 // The numbers that document 01 fixes for a table.
 pub mod limits;
 
 // How sections, nodes and arguments are read.
 pub mod layout;
-
-// The conditions of the refusals, and the tests of the sections that they are made of.
-mod conditions;
-mod nodes;
-mod sides;
 
 // The number of a node.
 pub struct Node(pub u32);
@@ -60,32 +53,4 @@ impl Refusal {
             Refusal::TooFewLent => 9,
         }
     }
-}
-
-// Checks a table: accepted, or the first refusal whose condition holds.
-pub fn check(table: &[u32]) -> Checked
-    ensures { λ r. ⌜ told r ≡ refusal (now (table .entry)) ⌝ }
-{
-    if table.len() < HEADER_WORDS {
-        return Checked::Refused(Refusal::TooFewWords);
-    }
-    if conditions::broken_pair(table) {
-        return Checked::Refused(Refusal::BrokenPair);
-    }
-    if conditions::over_limit(table) {
-        return Checked::Refused(Refusal::OverLimit);
-    }
-    if conditions::wrong_node(table) {
-        return Checked::Refused(Refusal::WrongNode);
-    }
-    if conditions::wrong_argument(table) {
-        return Checked::Refused(Refusal::WrongArgument);
-    }
-    if conditions::wrong_term(table) {
-        return Checked::Refused(Refusal::WrongTerm);
-    }
-    if conditions::wrong_label(table) {
-        return Checked::Refused(Refusal::WrongLabel);
-    }
-    Checked::Accepted
 }

@@ -73,7 +73,7 @@ pub fn unify(table: &[u32], a: Node, b: Node, out: &mut [u32]) -> Unification
     ensures { λ r. ⌜ (r ≡ Unification.Unified → (σ : Substitution) → Reads (nodesIn (now (table .entry))) (take (variableCount (now (table .entry))) (now (out .exit))) σ → MostGeneral (nodesIn (now (table .entry))) ((a .0, b .0) ∷ []) σ) ⌝ }
     ensures { λ r. ⌜ ((r ≡ Unification.Clash) ⊎ (r ≡ Unification.Occurs) → (σ : Substitution) → value (nodesIn (now (table .entry))) σ (a .0) ≡ value (nodesIn (now (table .entry))) σ (b .0) → ⊥) ⌝ }
 {
-    match table::check(table) {
+    match checking::check(table) {
         Checked::Refused(refusal) => Unification::Refused(refusal),
         Checked::Accepted => call::unify_accepted(table, a, b, out),
     }

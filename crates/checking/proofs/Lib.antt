@@ -1,0 +1,2 @@
+-- The steps that the proofs of several functions share.
+pub mod LoopLaws
