@@ -27,12 +27,13 @@ use Rattle.unification.specs.Code.Sections.{nodesFrom}
 use Rattle.unification.proofs.ListLaws.{length-none, part-long}
 use Rattle.unification.proofs.TableLaws.{sections-of, nodes-of-sections}
 use Rattle.unification.proofs.AnswerLaws.{words-counted}
-use Rattle.unify.specs.declared.Variables.{Variables}
-use Rattle.unify.specs.Code.Present.{leastNodes}
-use Rattle.unify.specs.Code.Open.{Counts}
-use Rattle.unify.specs.Code.Trail.{Trailed}
-use Rattle.unify.specs.Code.Prepared.{Prepared}
-use Rattle.unify.specs.Code.Stands.{Formed, StandsAlways, Lists, BeginsShared}
+use Rattle.values.specs.declared.Variables.{Variables}
+use Rattle.values.specs.Code.Present.{leastNodes}
+use Rattle.nodes.specs.Code.Open.{Counts}
+use Rattle.classes.specs.Code.Trail.{Trailed}
+use Rattle.values.specs.Code.Prepared.{Prepared}
+use Rattle.classes.specs.Code.Stands.{Formed, StandsAlways}
+use Rattle.values.specs.Code.Begins.{Lists, BeginsShared}
 use Rattle.multiset_unification.specs.declared.Listing.{Listing}
 use Rattle.multiset_unification.specs.declared.Listing.the-variants.{Finished, Full, Refused}
 use Rattle.multiset_unification.specs.Answer.{told, fitting, listed, lentAfter}
@@ -41,20 +42,20 @@ use Rattle.multiset_unification.specs.Page14.{Page14}
 use Rattle.multiset_unification.proofs.AnswerLaws.{fitting-all, fitting-first, fitting-left, answered-refused, answered-finished, answered-full, refused-nothing}
 use Rattle.multiset_unification.proofs.LentLaws.{taken-in}
 use Rattle.multiset_unification.proofs.Page14.{page14-finished}
-use Rattle.listing.specs.declared.Labels.{Labels}
-use Rattle.listing.specs.declared.Written.{Written}
-use Rattle.listing.specs.Code.Writing.{put, Writes, marked}
-use Rattle.listing.specs.Code.Branch.{Listable, marksIn, widthOf}
-use Rattle.listing.specs.Code.Memory.{keyOf}
-use Rattle.listing.specs.Code.Partners.{Trying, MayPair}
-use Rattle.listing.specs.Code.Known.{knownBytes, mayIn, PairsKnown, KnownOf}
-use Rattle.listing.specs.Code.Walk.{below, unpairedIn, Walking, Walked, allEntries}
+use Rattle.branches.specs.declared.Labels.{Labels}
+use Rattle.entries.specs.declared.Written.{Written}
+use Rattle.entries.specs.Code.Writing.{put, Writes, marked}
+use Rattle.branches.specs.Code.Branch.{Listable, marksIn, widthOf}
+use Rattle.branches.specs.Code.Memory.{keyOf}
+use Rattle.branches.specs.Code.Partners.{Trying, MayPair}
+use Rattle.branches.specs.Code.Known.{knownBytes, mayIn, PairsKnown, KnownOf}
+use Rattle.branches.specs.Code.Walk.{below, unpairedIn, Walking, Walked, allEntries}
 use Rattle.listing.specs.Code.Calling.{Answers}
-use Rattle.listing.proofs.MemoryLaws.{remembers-none}
-use Rattle.listing.proofs.KnownLaws.{variables-few}
-use Rattle.listing.proofs.HopelessLaws.{unpaired-ones}
-use Rattle.listing.proofs.BelowLaws.{below-listing, below-long, flatten-long}
-use Rattle.listing.proofs.BranchLaws.{paired-none}
+use Rattle.branches.proofs.MemoryLaws.{remembers-none}
+use Rattle.branches.proofs.KnownLaws.{variables-few}
+use Rattle.branches.proofs.HopelessLaws.{unpaired-ones}
+use Rattle.branches.proofs.BelowLaws.{below-listing, below-long, flatten-long}
+use Rattle.branches.proofs.BranchLaws.{paired-none}
 
 -- of entries that have one length as many fit as that length goes into their words
 fitting-counted : (width lent : ℕ) (es : List (List ℕ)) → 0 < width → ((e : List ℕ) → List·Memᴰ e es → length e ≡ width) → length (flatten (fitting lent es)) / width ≡ length (fitting lent es)

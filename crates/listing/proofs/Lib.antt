@@ -1,14 +1,3 @@
 -- Laws that the proofs of the code need, from the bottom up.
 pub mod WidthLaws
-pub mod WritingLaws
-pub mod RightLaws
-pub mod LabelLaws
-pub mod HopelessLaws
-pub mod BelowLaws
-pub mod BranchLaws
-pub mod PartnerLaws
-pub mod MemoryLaws
-pub mod KnownLaws
-pub mod StringLaws
-pub mod WalkLaws
 pub mod CallingLaws

@@ -15,8 +15,8 @@ use Rattle.table.specs.Refusal.{refusal}
 use Rattle.table.proofs.AnswerLaws.{number-within}
 use Rattle.unification.specs.Answer.{variableCount}
 use Rattle.unification.proofs.TableLaws.{nodes-of-sections}
-use Rattle.unify.specs.declared.Variables.{Variables}
-use Rattle.unify.specs.Code.Stands.{Lists}
+use Rattle.values.specs.declared.Variables.{Variables}
+use Rattle.values.specs.Code.Begins.{Lists}
 use Rattle.multiset_unification.specs.Answer.{entryWords}
 
 -- the terms of both sides and the variables present, counted

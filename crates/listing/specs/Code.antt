@@ -1,8 +1,2 @@
--- What contracts of inner functions and laws speak of. No reader has to believe these.
-pub mod Writing
-pub mod Branch
-pub mod Memory
-pub mod Partners
-pub mod Known
-pub mod Walk
+-- What contracts of inner functions and laws speak of.
 pub mod Calling

@@ -1,2 +1,2 @@
--- What nobody has to believe: what contracts of inner functions and laws speak of.
+-- Nothing here has to be believed.
 pub mod Code

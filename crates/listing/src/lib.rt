@@ -10,38 +10,11 @@ ghost use Rattle.multiset_unification.specs.Page14.{Page14};
 use multiset_unification::Listing;
 use table::Checked;
 
-// Entries, written into the lent words.
-mod writing;
-
-// What is known of nodes and of pairs of terms.
-mod known;
-
-// Binding words, kept for pairs that come again.
-mod memory;
-
-// The pairs of terms that may be paired at all.
-mod partners;
-
-// The walk over the choices, depth first over left digits.
-mod walk;
-
 // Listing an accepted table.
 mod call;
 
 // The words of an entry: `entry_words`.
 mod width;
-
-// How many labels the two sides have.
-struct Labels {
-    left: usize,
-    right: usize,
-}
-
-// How many lent words are used, and whether an entry did not fit: 1, otherwise 0.
-struct Written {
-    used: usize,
-    missed: usize,
-}
 
 // Lists the unifiers of a table's two sides, each as an entry in the lent words.
 pub fn list(table: &[u32], out: &mut [u32]) -> Listing

@@ -3,7 +3,7 @@ ghost use mathlib.Core.Path.{_≡_};
 ghost use Rattle.table.specs.Code.Accepted.{Accepted};
 ghost use Rattle.multiset_unification.specs.Answer.{entryWords};
 use table::layout;
-use unify::beginning::variables;
+use values::beginning::variables;
 
 // How many words an entry of an accepted table has.
 pub fn accepted_words(table: &[u32]) -> usize

@@ -27,19 +27,20 @@ use Rattle.unification.proofs.FirstLaws.{node-of}
 use Rattle.unification.proofs.SectionLaws.{run, nodes-long, application-from, from-application, sections-well-formed, counted, is-node}
 use Rattle.unification.proofs.ValuedLaws.{names-decide}
 use Rattle.unification.proofs.ListLaws.{placed, member-place, map-at, first-long}
-use Rattle.unify.specs.Code.Stands.{Formed, Leaves}
-use Rattle.unify.specs.Code.Open.{Counts}
-use Rattle.unify.specs.Code.Order.{Ordered}
-use Rattle.unify.specs.Code.Ordering.{Starting, OpenListed}
-use Rattle.unify.specs.Code.Kept.{Writes}
-use Rattle.unify.specs.Code.Present.{leastNodes}
-use Rattle.unify.specs.Code.Named.{valueName, Applied, Named}
+use Rattle.classes.specs.Code.Stands.{Formed}
+use Rattle.values.specs.Code.Begins.{Leaves}
+use Rattle.nodes.specs.Code.Open.{Counts}
+use Rattle.classes.specs.Code.Order.{Ordered}
+use Rattle.classes.specs.Code.Ordering.{Starting, OpenListed}
+use Rattle.values.specs.Code.Kept.{Writes}
+use Rattle.values.specs.Code.Present.{leastNodes}
+use Rattle.nodes.specs.Code.Named.{valueName, Applied, Named}
 use Rattle.unify.specs.Code.Binding.{HeadNames, NamesLeast, IsFree, nameAt, ApplicationsNoted, FreeFrom, readAt, AreNodes, WordsFound}
-use Rattle.unify.proofs.OrderedLaws.{rank, ordered-enough, ordered-solved}
-use Rattle.unify.proofs.AlikeLaws.{alike-back, alike-on}
-use Rattle.unify.proofs.NamedLaws.{variable-name, named-valued, head-alike}
+use Rattle.classes.proofs.OrderedLaws.{rank, ordered-enough, ordered-solved}
+use Rattle.values.proofs.AlikeLaws.{alike-back, alike-on}
+use Rattle.values.proofs.NamedLaws.{variable-name, named-valued, head-alike}
 use Rattle.unify.proofs.NotingLaws.{noted-all}
-use Rattle.unify.proofs.LeastLaws.{rising-places, least-long}
+use Rattle.values.proofs.LeastLaws.{rising-places, least-long}
 
 module _ (words args list : List ℕ) (e : list ≡ leastNodes (nodesFrom words args)) where
   -- The nodes of the two sections.

@@ -36,14 +36,15 @@ use Rattle.unification.proofs.SectionLaws.{nodes-long, is-node, sections-well-f
 use Rattle.unification.proofs.OutcomeLaws.{outcome-unified}
 use Rattle.unification.proofs.PairLaws.{same-unifiers}
 use Rattle.unification.proofs.AnswerLaws.{words-counted, refused-exactly, answered-exactly, unified-readable, unified-reading, clash-fails, occurs-fails}
-use Rattle.unify.specs.declared.Variables.{Variables}
-use Rattle.unify.specs.declared.Extended.{Extended}
-use Rattle.unify.specs.Code.Circle.{HeadsFirst}
-use Rattle.unify.specs.Code.Present.{leastNodes}
-use Rattle.unify.specs.Code.Trail.{links}
-use Rattle.unify.specs.Code.Stands.{Stands, extended, Extends, Lists, Leaves, BeginsShared}
+use Rattle.values.specs.declared.Variables.{Variables}
+use Rattle.classes.specs.declared.Extended.{Extended}
+use Rattle.classes.specs.Code.Circle.{HeadsFirst}
+use Rattle.values.specs.Code.Present.{leastNodes}
+use Rattle.classes.specs.Code.Trail.{links}
+use Rattle.classes.specs.Code.Stands.{Stands, extended, Extends}
+use Rattle.values.specs.Code.Begins.{Lists, Leaves, BeginsShared}
 use Rattle.unify.specs.Code.Calling.{called, Answers}
-use Rattle.unify.proofs.LeastLaws.{least-long}
+use Rattle.values.proofs.LeastLaws.{least-long}
 use Rattle.unification.proofs.TogetherLaws.{outcome-together}
 
 module _ (t : List ℕ) (a b : ℕ) where

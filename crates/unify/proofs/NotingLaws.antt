@@ -14,10 +14,10 @@ use lib.ListN.{length, set, take, drop, length-set, length-map}
 use lib.Seq.{getD-set-same, getD-set-other, take-suc, drop-cons, set-at, take-length, length-take-le, append-snoc}
 use Rattle.table.specs.Layout.{word, kindOf, nodeCount}
 use Rattle.unification.specs.Computed.Classes.{classOf}
-use Rattle.unify.specs.Code.Named.{valueName, Applied, Themselves}
-use Rattle.unify.specs.Code.Ordering.{OpenListed}
+use Rattle.nodes.specs.Code.Named.{valueName, Applied, Themselves}
+use Rattle.classes.specs.Code.Ordering.{OpenListed}
 use Rattle.unify.specs.Code.Binding.{HeadNames, AreApplied, NamesLeast, applicationNoted, freeNoted, IsApplied, IsFree, nameAt, OpenNoted, ApplicationsNoted, FreeFrom, readAt, AreNodes}
-use Rattle.unify.proofs.KeptLaws.{kept-none, kept-skip, kept-set}
+use Rattle.values.proofs.KeptLaws.{kept-none, kept-skip, kept-set}
 
 -- an application is noted at its name, where a greater node stands there
 pub application-noted : (cs names by : List ℕ) (i s m : ℕ) → s ≡ valueName cs names i → m ≡ word by s → i < m → set by s i ≡ applicationNoted cs names by i

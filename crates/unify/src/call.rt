@@ -6,23 +6,23 @@ ghost use Rattle.table.specs.Layout.{nodeCount};
 ghost use Rattle.table.specs.Code.Accepted.{Accepted};
 ghost use Rattle.unification.specs.Node.{nodesIn};
 ghost use Rattle.unification.specs.Code.Sections.{Sections, nodesFrom};
-ghost use Rattle.unify.specs.Code.Trail.{links};
-ghost use Rattle.unify.specs.Code.Prepared.{preparedWords};
+ghost use Rattle.classes.specs.Code.Trail.{links};
+ghost use Rattle.values.specs.Code.Prepared.{preparedWords};
 ghost use Rattle.unify.specs.Code.Calling.{Answers};
-use crate::Extended;
-use crate::beginning::begin_shared;
-use crate::beginning::make_circles;
-use crate::prepared::PREPARED;
-use crate::prepared::count_open;
-use crate::prepared::prepare;
-use crate::settle::extend;
-use crate::trail::LINKS;
 use crate::words::bind;
+use classes::Extended;
+use classes::settle::extend;
+use classes::trail::LINKS;
 use table::Node;
 use table::Refusal;
 use table::layout;
 use table::limits::MAX_NODES;
 use unification::Unification;
+use values::beginning::begin_shared;
+use values::beginning::make_circles;
+use values::prepared::PREPARED;
+use values::prepared::count_open;
+use values::prepared::prepare;
 
 // Unifies two nodes of the sections of an accepted table, with room for what is known of the nodes, and words that are all 0.
 fn unify_with_room(

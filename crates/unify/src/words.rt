@@ -6,25 +6,27 @@ ghost use lib.ListN.{length, take, drop};
 ghost use Rattle.table.specs.Limits.{maxNodes};
 ghost use Rattle.table.specs.Layout.{word, nodeCount};
 ghost use Rattle.unification.specs.Code.Sections.{Sections, nodesFrom};
-ghost use Rattle.unify.specs.Code.Open.{Counts};
-ghost use Rattle.unify.specs.Code.Order.{Ordered};
-ghost use Rattle.unify.specs.Code.Ordering.{OpenListed};
-ghost use Rattle.unify.specs.Code.Present.{leastNodes};
-ghost use Rattle.unify.specs.Code.Named.{valueName, Named, Themselves};
+ghost use Rattle.nodes.specs.Code.Open.{Counts};
+ghost use Rattle.classes.specs.Code.Order.{Ordered};
+ghost use Rattle.classes.specs.Code.Ordering.{OpenListed};
+ghost use Rattle.values.specs.Code.Present.{leastNodes};
+ghost use Rattle.nodes.specs.Code.Named.{valueName, Named, Themselves};
 ghost use Rattle.unify.specs.Code.Binding.{HeadNames, NamesLeast, AreApplied, applicationNoted, OpenNoted, freeNoted, FreeFrom, readAt, AreNodes, AllBelow, WordsFound};
-ghost use Rattle.unify.specs.Code.Prepared.{ClosedListed, ClosedTable, Prepared};
-ghost use Rattle.unify.specs.Code.Stands.{Formed, Leaves};
-use crate::bytes::put_bytes;
-use crate::names;
-use crate::nodes;
-use crate::order;
-use crate::prepared::CLOSED;
-use crate::prepared::CLOSED_COUNT;
-use crate::prepared::EARLIER;
-use crate::prepared::OPEN;
-use crate::prepared::OPEN_COUNT;
+ghost use Rattle.values.specs.Code.Prepared.{ClosedListed, ClosedTable, Prepared};
+ghost use Rattle.classes.specs.Code.Stands.{Formed};
+ghost use Rattle.values.specs.Code.Begins.{Leaves};
+use classes::order;
+use nodes::lists;
+use nodes::sections;
 use table::Node;
 use table::limits::MAX_NODES;
+use values::bytes::put_bytes;
+use values::names;
+use values::prepared::CLOSED;
+use values::prepared::CLOSED_COUNT;
+use values::prepared::EARLIER;
+use values::prepared::OPEN;
+use values::prepared::OPEN_COUNT;
 
 // Notes an application at its name, if no smaller node stands there.
 fn note_application(
@@ -39,8 +41,8 @@ fn note_application(
     requires { ⌜ (i < nodeCount (now nodes)) × (length (now by) ≡ nodeCount (now nodes)) ⌝ }
     ensures { λ r. ⌜ now (by .exit) ≡ applicationNoted (now (of .entry)) (now (names .entry)) (now (by .entry)) i ⌝ }
 {
-    let name = nodes::value_name(of, names, Node(i as u32));
-    let least = nodes::node_in(by, name.0 as usize);
+    let name = lists::value_name(of, names, Node(i as u32));
+    let least = lists::node_in(by, name.0 as usize);
     if i < least.0 as usize {
         by[name.0 as usize] = i as u8;
     }
@@ -62,7 +64,7 @@ fn note_applications(
 {
     let mut p: usize = 0;
     while p < opens.len() {
-        let i = nodes::entry(opens, p);
+        let i = lists::entry(opens, p);
         note_application(nodes, arguments, of, names, by, i);
         p += 1;
     }
@@ -82,10 +84,10 @@ fn note_free_variable(
     requires { ⌜ (k < length (now list)) × AreNodes (now nodes) (now list) × (length (now by) ≡ nodeCount (now nodes)) ⌝ }
     ensures { λ r. ⌜ now (by .exit) ≡ freeNoted (now (nodes .entry)) (now (of .entry)) (now (names .entry)) (now (list .entry)) (now (by .entry)) k ⌝ }
 {
-    let v = nodes::node_in(list, k);
-    let head = nodes::node_in(of, v.0 as usize);
-    if nodes::is_variable(nodes, head) {
-        let name = nodes::value_name(of, names, v);
+    let v = lists::node_in(list, k);
+    let head = lists::node_in(of, v.0 as usize);
+    if sections::is_variable(nodes, head) {
+        let name = lists::value_name(of, names, v);
         by[name.0 as usize] = v.0 as u8;
     }
 }
@@ -124,9 +126,9 @@ fn word_at(
     requires { ⌜ (k < length (now list)) × AreNodes (now nodes) (now list) × (length (now by) ≡ nodeCount (now nodes)) ⌝ }
     ensures { λ r. ⌜ r ≡ word (now (by .entry)) (valueName (now (of .entry)) (now (names .entry)) (word (now (list .entry)) k)) ⌝ }
 {
-    let v = nodes::node_in(list, k);
-    let name = nodes::value_name(of, names, v);
-    nodes::node_in(by, name.0 as usize).0
+    let v = lists::node_in(list, k);
+    let name = lists::value_name(of, names, v);
+    lists::node_in(by, name.0 as usize).0
 }
 
 // Writes the words of a list of nodes, by their names.
@@ -245,7 +247,7 @@ fn bind_open(
     ensures { λ r. ⌜ Leaves (now (nodes .entry)) (now (arguments .entry)) (now (of .entry)) (now (out .entry)) (now (out .exit)) ⌝ }
 {
     names::name_themselves(names);
-    let n = nodes::node_count(nodes, arguments);
+    let n = sections::node_count(nodes, arguments);
     let mut marks = [0u8; MAX_NODES];
     let mut placed = [0u8; MAX_NODES];
     let count = order::put_in_order(
@@ -322,8 +324,8 @@ fn bind_prepared(
         bind_closed(nodes, arguments, counts, prepared, list, of, names, by, out);
         return;
     }
-    let open_end = OPEN + nodes::entry(prepared, OPEN_COUNT);
-    let closed_end = CLOSED + nodes::entry(prepared, CLOSED_COUNT);
+    let open_end = OPEN + lists::entry(prepared, OPEN_COUNT);
+    let closed_end = CLOSED + lists::entry(prepared, CLOSED_COUNT);
     bind_open(
         nodes,
         arguments,
@@ -359,7 +361,7 @@ pub fn bind(
     if list.len() == 0 {
         return;
     }
-    let n = nodes::node_count(nodes, arguments);
+    let n = sections::node_count(nodes, arguments);
     let mut names = [0u8; MAX_NODES];
     let mut by = [0u8; MAX_NODES];
     bind_prepared(

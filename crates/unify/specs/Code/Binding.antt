@@ -8,9 +8,9 @@ use lib.ListN.{length, set, drop}
 use Rattle.table.specs.Layout.{word, kindOf, nodeCount}
 use Rattle.unification.specs.Words.{Least}
 use Rattle.unification.specs.Computed.Classes.{classOf}
-use Rattle.unify.specs.Code.Kept.{Kept}
-use Rattle.unify.specs.Code.Open.{Marked}
-use Rattle.unify.specs.Code.Named.{valueName, Readable, Alike, Applied, Named}
+use Rattle.values.specs.Code.Kept.{Kept}
+use Rattle.nodes.specs.Code.Open.{Marked}
+use Rattle.nodes.specs.Code.Named.{valueName, Readable, Alike, Applied, Named}
 
 -- The sections, the heads of the nodes, and the names of the heads.
 pub record HeadNames (words args cs names : List ℕ) : Type 0 where

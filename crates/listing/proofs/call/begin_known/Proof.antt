@@ -3,7 +3,7 @@ use mathlib.Core.Path.{_∙_}
 use native.Mathlib.Omega.{arith}
 use borrow.Author.Needs.{needs}
 use lib.Seq.{length-take-le}
-use Rattle.listing.proofs.KnownLaws.{begun-counts, begun-noughts, begun-marks}
+use Rattle.branches.proofs.KnownLaws.{begun-counts, begun-noughts, begun-marks}
 use Rattle.listing.proofs.call.begin_known.Statement.{statement}
 use Rattle.listing.proofs.call.begin_known.Tie as tie
 

@@ -1,6 +1,6 @@
 -- `listing::call::list_open` meets its contract: what is prepared is all that is asked for beside what it is given. Assumes nothing.
 use borrow.Author.Needs.{needs}
-use Rattle.unify.specs.Code.Prepared.{filled}
+use Rattle.values.specs.Code.Prepared.{filled}
 use Rattle.listing.proofs.call.list_open.Statement.{statement}
 use Rattle.listing.proofs.call.list_open.Tie as tie
 

@@ -4,7 +4,7 @@ use mathlib.Core.Path.{refl, ap, _∙_}
 use native.Mathlib.Omega.{arith}
 use borrow.Author.Needs.{needs}
 use lib.ListN.{length}
-use Rattle.unify.specs.Code.Prepared.{nothing}
+use Rattle.values.specs.Code.Prepared.{nothing}
 use Rattle.listing.proofs.CallingLaws.{written-empty, all-empty, variables-inside, begun-width, begun-list, begun-few, pairs-begun, begun-trying, begun-classes}
 use Rattle.listing.proofs.call.list_with_room.Statement.{statement}
 use Rattle.listing.proofs.call.list_with_room.Tie as tie

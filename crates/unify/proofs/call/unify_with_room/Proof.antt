@@ -3,9 +3,9 @@ use mathlib.Core.Path.{_≡_, _∙_}
 use native.Mathlib.Omega.{arith}
 use borrow.Author.Needs.{needs}
 use lib.ListN.{length}
-use Rattle.unify.specs.Code.Prepared.{filled}
-use Rattle.unify.specs.Code.Present.{variableNames}
-use Rattle.unify.proofs.PreparedLaws.{prepared-kept}
+use Rattle.values.specs.Code.Prepared.{filled}
+use Rattle.values.specs.Code.Present.{variableNames}
+use Rattle.values.proofs.PreparedLaws.{prepared-kept}
 use Rattle.unify.proofs.CallingLaws.{answers-few, answers-clash, answers-occurs, answers-unified, circles-ready, list-given}
 use Rattle.unify.proofs.call.unify_with_room.Statement.{statement}
 use Rattle.unify.proofs.call.unify_with_room.Tie as tie

@@ -1,7 +1,7 @@
 -- `unify::words::note_application` meets its contract. Assumes nothing.
 use native.Mathlib.Omega.{arith}
 use borrow.Author.Needs.{needs}
-use Rattle.unify.proofs.NamedLaws.{name-inside}
+use Rattle.values.proofs.NamedLaws.{name-inside}
 use Rattle.unify.proofs.NotingLaws.{application-other, application-noted, name-node}
 use Rattle.unify.proofs.words.note_application.Statement.{statement}
 use Rattle.unify.proofs.words.note_application.Tie as tie

@@ -5,7 +5,7 @@ use borrow.Author.Needs.{needs}
 use Rattle.unify.proofs.NotingLaws.{listed, head-node, name-node, free-noted, free-other}
 use Rattle.unify.proofs.words.note_free_variable.Statement.{statement}
 use Rattle.unify.proofs.words.note_free_variable.Tie as tie
-use Rattle.unify.proofs.NamedLaws.{name-inside}
+use Rattle.values.proofs.NamedLaws.{name-inside}
 
 node-in-requires : tie.Need-node-in-requires
 node-in-requires c κs = search needs

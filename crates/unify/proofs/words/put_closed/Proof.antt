@@ -4,7 +4,7 @@ use mathlib.Core.Path.{_≡_, refl, _∙_}
 use native.Mathlib.Omega.{arith}
 use borrow.Author.Needs.{needs}
 use lib.ListN.{length}
-use Rattle.unify.proofs.CopyLaws.{front, front-next, front-all}
+use Rattle.values.proofs.CopyLaws.{front, front-next, front-all}
 use Rattle.unify.proofs.words.put_closed.Statement.{statement}
 use Rattle.unify.proofs.words.put_closed.Tie as tie
 

@@ -4,7 +4,7 @@ use borrow.Author.Needs.{needs}
 use Rattle.unify.proofs.NotingLaws.{listed, name-node}
 use Rattle.unify.proofs.words.word_at.Statement.{statement}
 use Rattle.unify.proofs.words.word_at.Tie as tie
-use Rattle.unify.proofs.NamedLaws.{name-inside}
+use Rattle.values.proofs.NamedLaws.{name-inside}
 
 node-in-requires : tie.Need-node-in-requires
 node-in-requires c κs = search needs

@@ -1,0 +1,49 @@
+-- A branch of the walk, as it stands in an entry: digits of left terms, and marks of right terms.
+use Prim.Native.Nat.{ℕ, _+_, _-_, _≤_, _<_}
+use mathlib.Core.Bool.{cond}
+use mathlib.Core.List.{List, [], _∷_}
+use mathlib.Core.Logic.{_↔_}
+use lib.Dec.{leb}
+use lib.ListN.{length, take, drop}
+use Rattle.table.specs.Limits.{maxTerms, maxLabels}
+use Rattle.table.specs.Layout.{word, nodeCount}
+use Rattle.terms.specs.Substitution.{Substitution}
+use Rattle.unification.specs.Unifier.{Unifies}
+use Rattle.unification.specs.Computed.Variables.{variablesOf}
+use Rattle.unification.specs.Code.Sections.{Sections, nodesFrom}
+use Rattle.classes.specs.Code.Stands.{Stands}
+use Rattle.branches.specs.declared.Labels.{Labels}
+
+-- What is known of the sections of an accepted table and of its numbers of labels.
+pub record Listable (words args left right : List ℕ) (labels : Labels) : Type 0 where
+  pub sections : Sections words args
+  pub left-few : length left ≤ maxTerms
+  pub right-few : length right ≤ maxTerms
+  pub left-nodes : (j : ℕ) → j < length left → word left j < nodeCount words
+  pub right-nodes : (j : ℕ) → j < length right → word right j < nodeCount words
+  pub left-labels : labels .left ≤ maxLabels
+  pub right-labels : labels .right ≤ maxLabels
+
+-- The pairs of left digits ds, on top of the pairs ps; the last digit's comes first.
+unfoldable pub pairedBy : List ℕ → List ℕ → List ℕ → List (ℕ × ℕ) → List (ℕ × ℕ)
+pairedBy [] rs ds ps = ps
+pairedBy (a ∷ ls) rs [] ps = ps
+pairedBy (a ∷ ls) rs (d ∷ ds) ps = pairedBy ls rs ds (cond (leb d (length rs)) ((a, word rs (d - 1)) ∷ ps) ps)
+
+-- The pairs of the first i digits of an entry.
+abbrev pub pairsIn : List ℕ → List ℕ → List ℕ → ℕ → List (ℕ × ℕ)
+pairsIn left right entry i = pairedBy left right (take i entry) []
+
+-- Classes cs stand for pairs with the same unifiers as those of the first i digits of an entry.
+pub record Standing (words args left right cs entry : List ℕ) (i : ℕ) : Type 0 where
+  pub pairs : List (ℕ × ℕ)
+  pub stands : Stands words args cs pairs
+  pub unifiers : (σ : Substitution) → Unifies (nodesFrom words args) pairs σ ↔ Unifies (nodesFrom words args) (pairsIn left right entry i) σ
+
+-- The marks of the right terms in an entry: 0 where paired.
+abbrev pub marksIn : List ℕ → List ℕ → List ℕ → List ℕ
+marksIn left right entry = take (length right) (drop (length left) entry)
+
+-- How many words an entry has.
+abbrev pub widthOf : List ℕ → List ℕ → List ℕ → List ℕ → ℕ
+widthOf words args left right = length left + length right + length (variablesOf (nodesFrom words args))

@@ -1,0 +1,38 @@
+-- What is known of nodes and of pairs of terms, in bytes: counts of arguments, marks of pairs, least nodes of variables.
+use Prim.Native.Nat.{ℕ, _<_}
+use mathlib.Core.List.{List}
+use mathlib.Core.Path.{_≡_}
+use lib.ListN.{length, take, drop}
+use Rattle.table.specs.Layout.{word, nodeCount}
+use Rattle.unification.specs.Code.Sections.{nodesFrom}
+use Rattle.nodes.specs.Code.Open.{Counts}
+use Rattle.values.specs.Code.Present.{leastNodes}
+use Rattle.branches.specs.Code.Partners.{MayPair}
+
+-- How many bytes there are.
+abbrev pub knownBytes : ℕ
+knownBytes = 384
+
+-- The marks of the pairs of terms.
+abbrev pub mayIn : List ℕ → List ℕ
+mayIn known = take 64 (drop 256 known)
+
+-- The first v of the least nodes of variables.
+abbrev pub listIn : List ℕ → ℕ → List ℕ
+listIn known v = take v (drop 320 known)
+
+-- The counts of arguments and the marks of pairs are right.
+pub record PairsKnown (words args left right known : List ℕ) : Type 0 where
+  pub size : length known ≡ knownBytes
+  pub counts : Counts words args known (nodeCount words)
+  pub partners : MayPair words args left right (mayIn known)
+
+-- The counts of arguments and the least nodes of the variables are right.
+pub record KnownOf (words args known : List ℕ) : Type 0 where
+  pub size : length known ≡ knownBytes
+  pub counts : Counts words args known (nodeCount words)
+  pub lists : listIn known (length (leastNodes (nodesFrom words args))) ≡ leastNodes (nodesFrom words args)
+
+-- The counts of arguments stay.
+abbrev pub KeepsCounts : List ℕ → List ℕ → List ℕ → Type 0
+KeepsCounts words known known′ = (i : ℕ) → i < nodeCount words → word known′ i ≡ word known i

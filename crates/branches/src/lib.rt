@@ -1,0 +1,16 @@
+// Branches of the walk over the choices: what is known of them before it, and what is remembered on the way.
+
+// What is known of nodes and of pairs of terms, in bytes.
+pub mod known;
+
+// Binding words by a key of the pairs: `is_kept`, `put_words`, `note_place`.
+pub mod memory;
+
+// Pairs of terms by themselves: `find_partners`, `stuck`.
+pub mod partners;
+
+// How many labels the two sides have.
+pub struct Labels {
+    pub left: usize,
+    pub right: usize,
+}

@@ -1,0 +1,53 @@
+-- Pairs that the heads of the two nodes decide at once: one head, or applications of different symbols. Assumes nothing.
+use Prim.Native.Nat.{ℕ, _<_}
+use mathlib.Core.Bool.{Bool, true, false, not, _&&_, false≢true}
+use mathlib.Core.List.{List, [], _∷_}
+use mathlib.Core.Path.{_≡_, refl}
+use borrow.Author.Tests.{eqb-false}
+use lib.Dec.{eqb}
+use Rattle.table.specs.Layout.{kindOf, nodeCount}
+use Rattle.unification.specs.Closure.{Clash}
+use Rattle.unification.specs.Outcome.{unified}
+use Rattle.unification.specs.Computed.Classes.{classOf}
+use Rattle.unification.specs.Computed.Unifying.{outcome}
+use Rattle.unification.specs.Code.Sections.{nodesFrom, Sections, symbolTest, differTest}
+use Rattle.unification.proofs.CountLaws.{in-list}
+use Rattle.unification.proofs.SectionLaws.{is-node, application-from, symbols-differ}
+use Rattle.nodes.specs.Code.Open.{Counts}
+use Rattle.classes.specs.Code.Stands.{Formed, Stands}
+use Rattle.classes.proofs.ClosingLaws.{already, heads-clash, closed-at-last}
+use Rattle.classes.proofs.OrderedLaws.{ordered-unified}
+use Rattle.classes.proofs.ExtensionLaws.{longer, waiting}
+
+-- what the test for applications of different symbols tells
+differ-means : (words : List ℕ) (g h : ℕ) → differTest words g h ≡ true → (kindOf words g ≡ 0 → ⊥) × (kindOf words h ≡ 0 → ⊥) × (symbolTest words g h ≡ false)
+differ-means words g h = pick (eqb (kindOf words g) 0) refl (eqb (kindOf words h) 0) refl (symbolTest words g h) refl
+  where
+    pick : (x : Bool) → eqb (kindOf words g) 0 ≡ x → (y : Bool) → eqb (kindOf words h) 0 ≡ y → (z : Bool) → symbolTest words g h ≡ z → (not x && not y && not z) ≡ true → (kindOf words g ≡ 0 → ⊥) × (kindOf words h ≡ 0 → ⊥) × (symbolTest words g h ≡ false)
+    pick true d y e z t q = absurd (false≢true q)
+    pick false d true e z t q = absurd (false≢true q)
+    pick false d false e true t q = absurd (false≢true q)
+    pick false d false e false t q = (eqb-false _ _ d, eqb-false _ _ e, t)
+
+module _ (words args counts cs : List ℕ) (s : Sections words args) (f : Formed words args counts cs) where
+  module _ (a b : ℕ) (p : a < nodeCount words) (q : b < nodeCount words) where
+    -- one head: the classes stand for the longer list too
+    pub together : classOf cs a ≡ classOf cs b → (ps : List (ℕ × ℕ)) → Stands words args cs ps → Stands words args cs ((a, b) ∷ ps)
+    together e ps d =
+        record {
+          inside = longer words args counts s cs f a b p q ps d;
+          closed = closed-at-last (nodesFrom words args) ((a, b) ∷ ps) cs (already (nodesFrom words args) ((a, b) ∷ ps) cs a b [] (in-list (f .partition) a p) (in-list (f .partition) b q) e (waiting words args counts s cs f a b p q ps d));
+        }
+
+    -- applications of different symbols: a clash
+    pub differ-clash : differTest words (classOf cs a) (classOf cs b) ≡ true → (ps : List (ℕ × ℕ)) → Stands words args cs ps → Clash (nodesFrom words args) ((a, b) ∷ ps)
+    differ-clash t ps d =
+        let k = differ-means words (classOf cs a) (classOf cs b) t in
+        let g = f .partition .below a p in
+        let h = f .partition .below b q in
+        heads-clash (nodesFrom words args) ((a, b) ∷ ps) cs a b [] (is-node words args a p) (is-node words args b q) _ _ _ _ (application-from words args (classOf cs a) g (k .0)) (application-from words args (classOf cs b) h (k .1)) (symbols-differ words args s (classOf cs a) (classOf cs b) g h (k .2)) (waiting words args counts s cs f a b p q ps d)
+
+  -- classes stand for pairs that have a unifier
+  pub formed-unified : Counts words args counts (nodeCount words) → (ps : List (ℕ × ℕ)) → Stands words args cs ps → outcome (nodesFrom words args) ps ≡ unified
+  formed-unified k ps d =
+      ordered-unified words args s counts k cs (f .partition) (f .closed) ps (d .inside) (d .closed) (f .order) (f .ordered)

@@ -1,0 +1,163 @@
+-- How classes come nearer to being closed: a pair of one class is done, and joining two classes trades a pair for the pairs of their
+-- heads' arguments. Assumes nothing.
+use Prim.Native.Nat.{ℕ, _<_}
+use mathlib.Core.List.{List, [], _∷_, List·Memᴰ, List·Memᴰ·head, List·Memᴰ·tail, List·Memᴰ·not-nil, zip}
+use mathlib.Core.Path.{_≡_, refl, sym, ap, _∙_}
+use native.Mathlib.Decide.{ℕ-discrete}
+use native.Mathlib.Omega.{arith}
+use lib.ListN.{length}
+use Rattle.unification.specs.Node.{Node, variable, application, nodeAt}
+use Rattle.unification.specs.Closure.{OneSymbol, Joined, given, back, on, Clash, different}
+use Rattle.unification.specs.Computed.Classes.{classOf, join}
+use Rattle.unification.specs.Code.Given.{WellFormed, Inside}
+use Rattle.unification.specs.Code.Heads.{Partition, Unites}
+use Rattle.unification.specs.Code.Solved.{HeadFits, Closed}
+use Rattle.unification.proofs.ListLaws.{zip-left, zip-right, zip-through}
+use Rattle.unification.proofs.JoinedLaws.{more-joined, classes-stay}
+use Rattle.unification.proofs.CountLaws.{join-length, join-second, join-other, join-first, join-stays, unites-front}
+use Rattle.classes.specs.Code.Closing.{Coarser, Linked, HeadLinks, Closing}
+
+-- Where the pairs of todo′ are joined, those of todo are.
+abbrev Covers : List ℕ → List (ℕ × ℕ) → List (ℕ × ℕ) → Type 0
+Covers cs todo todo′ = (ds : List ℕ) → Coarser cs ds → Unites ds todo′ → Unites ds todo
+
+-- The nodes of each pair are joined.
+abbrev pub Wanted : List Node → List (ℕ × ℕ) → List (ℕ × ℕ) → Type 0
+Wanted ns ps todo = (a b : ℕ) → List·Memᴰ (a, b) todo → Joined ns ps a b
+
+-- what is linked stays so in coarser classes
+linked-on : (cs cs′ : List ℕ) (todo todo′ : List (ℕ × ℕ)) → length cs′ ≡ length cs → Coarser cs cs′ → Covers cs′ todo todo′ → (a b : ℕ) → Linked cs todo a b → Linked cs′ todo′ a b
+linked-on cs cs′ todo todo′ l h k a b s ds c u = s ds (λ i j p q e. c i j (rw l p) (rw l q) (h i j p q e)) (k ds c u)
+
+-- other pairs may stand for those that are still to be joined
+pub retold : (ns : List Node) (ps : List (ℕ × ℕ)) (cs : List ℕ) (todo todo′ : List (ℕ × ℕ)) → Covers cs todo todo′ → Wanted ns ps todo′ → Closing ns ps cs todo → Closing ns ps cs todo′
+retold ns ps cs todo todo′ k w c =
+    record {
+      joined = c .joined;
+      wanted = w;
+      given = λ a b m. linked-on cs cs todo todo′ refl (λ i j p q e. e) k a b (c .given a b m);
+      one-variable = c .one-variable;
+      applications = λ i f us p d.
+          let x = c .applications i f us p d in
+          record { arguments = x .arguments; applied = x .applied; as-long = x .as-long; linked = λ a b m. linked-on cs cs todo todo′ refl (λ i j p q e. e) k a b (x .linked a b m) };
+    }
+
+-- a pair of one class is done
+pub already : (ns : List Node) (ps : List (ℕ × ℕ)) (cs : List ℕ) (a b : ℕ) (todo : List (ℕ × ℕ)) → a < length cs → b < length cs → classOf cs a ≡ classOf cs b → Closing ns ps cs ((a, b) ∷ todo) → Closing ns ps cs todo
+already ns ps cs a b todo p q e c =
+    retold ns ps cs ((a, b) ∷ todo) todo (λ ds h u. unites-front ds a b todo (h a b p q e) u) (λ x y m. c .wanted x y (List·Memᴰ·tail m)) c
+
+-- two applications of different symbols in the classes of a pair clash
+pub heads-clash : (ns : List Node) (ps : List (ℕ × ℕ)) (cs : List ℕ) (a b : ℕ) (todo : List (ℕ × ℕ)) → a < length ns → b < length ns → (f g : ℕ) (us vs : List ℕ) → nodeAt ns (classOf cs a) ≡ application f us → nodeAt ns (classOf cs b) ≡ application g vs → (OneSymbol f us g vs → ⊥) → Closing ns ps cs ((a, b) ∷ todo) → Clash ns ps
+heads-clash ns ps cs a b todo p q f g us vs d e n c =
+    different (on (on (back (c .joined a p)) (c .wanted a b (List·Memᴰ·head refl))) (c .joined b q)) d e n
+
+-- The class of node y becomes a part of the class of node x: what their heads have to be.
+abbrev pub HeadsMeet : List Node → List ℕ → ℕ → ℕ → List (ℕ × ℕ) → Type 0
+HeadsMeet ns cs x y todo = (f : ℕ) (us : List ℕ) → nodeAt ns (classOf cs y) ≡ application f us → (vs : List ℕ) × (nodeAt ns (classOf cs x) ≡ application f vs) × (length us ≡ length vs) × ((a b : ℕ) → List·Memᴰ (a, b) (zip us vs) → Linked (join cs (x, y)) todo a b)
+
+-- nodes that are joined have one class
+pub united : (cs : List ℕ) (x y : ℕ) → x < length cs → y < length cs → classOf (join cs (x, y)) x ≡ classOf (join cs (x, y)) y
+united cs x y p q = join-first cs x y x p refl ∙ sym (join-second cs x y y q refl)
+
+module _ (ns : List Node) (ps : List (ℕ × ℕ)) (cs : List ℕ) (x y : ℕ) (todo todo′ : List (ℕ × ℕ)) (l : length cs ≡ length ns) (hx : x < length ns) (hy : y < length ns) (link : Joined ns ps x y) (meet : HeadsMeet ns cs x y todo′) (k : Covers (join cs (x, y)) todo todo′) (w : Wanted ns ps todo′) (c : Closing ns ps cs todo) where
+  in-list : (i : ℕ) → i < length ns → i < length cs
+  in-list i p = rw l p
+
+  linked-still : (a b : ℕ) → Linked cs todo a b → Linked (join cs (x, y)) todo′ a b
+  linked-still = linked-on cs (join cs (x, y)) todo todo′ (join-length cs (x, y)) (λ i j p q e. join-stays cs x y i j p q e) k
+
+  applications-after : (i f : ℕ) (us : List ℕ) → i < length ns → nodeAt ns i ≡ application f us → HeadLinks ns (join cs (x, y)) todo′ i f us
+  applications-after i f us p d = go (c .applications i f us p d) (ℕ-discrete (classOf cs i) (classOf cs y))
+    where
+      go : HeadLinks ns cs todo i f us → Dec (classOf cs i ≡ classOf cs y) → HeadLinks ns (join cs (x, y)) todo′ i f us
+      go h (yes z) = through (meet f (h .arguments) (ap (nodeAt ns) (sym z) ∙ h .applied))
+        where
+          through : ((vs : List ℕ) × (nodeAt ns (classOf cs x) ≡ application f vs) × (length (h .arguments) ≡ length vs) × ((a b : ℕ) → List·Memᴰ (a, b) (zip (h .arguments) vs) → Linked (join cs (x, y)) todo′ a b)) → HeadLinks ns (join cs (x, y)) todo′ i f us
+          through (vs, e, n, r) =
+              record {
+                arguments = vs;
+                applied = ap (nodeAt ns) (join-second cs x y i (in-list i p) z) ∙ e;
+                as-long = h .as-long ∙ n;
+                linked = λ a b m.
+                    let t = zip-through us (h .arguments) vs (h .as-long) n a b m in
+                    λ ds v u. linked-still a (t .0) (h .linked a (t .0) (t .1)) ds v u ∙ r (t .0) b (t .2) ds v u;
+              }
+      go h (no z) =
+          record {
+            arguments = h .arguments;
+            applied = ap (nodeAt ns) (join-other cs x y i (in-list i p) z) ∙ h .applied;
+            as-long = h .as-long;
+            linked = λ a b m. linked-still a b (h .linked a b m);
+          }
+
+  -- joining two classes
+  pub classes-joined : Closing ns ps (join cs (x, y)) todo′
+  classes-joined =
+      record {
+        joined = classes-stay ns ps cs x y l hx hy link (c .joined);
+        wanted = w;
+        given = λ a b m. linked-still a b (c .given a b m);
+        one-variable = λ i j v p q d e. join-stays cs x y i j (in-list i p) (in-list j q) (c .one-variable i j v p q d e);
+        applications = applications-after;
+      }
+
+-- a class whose head is a variable has no application in it
+pub variable-meets : (ns : List Node) (cs : List ℕ) (x y v : ℕ) (todo : List (ℕ × ℕ)) → nodeAt ns (classOf cs y) ≡ variable v → HeadsMeet ns cs x y todo
+variable-meets ns cs x y v todo e f us d =
+    let q : variable v ≡ application f us = sym e ∙ d in
+    let z : _≡_ {A = ℕ} 0 1 = cc in
+    absurd (omega arith)
+
+-- classes that are closed but for one pair more
+pub opened : (ns : List Node) → WellFormed ns → (ps : List (ℕ × ℕ)) → Inside ns ps → (cs : List ℕ) → Partition (length ns) cs → (a b : ℕ) → Closed ns ps (classOf cs) → Closing ns ((a, b) ∷ ps) cs ((a, b) ∷ [])
+opened ns w ps inside cs p a b s =
+    record {
+      joined = λ i h. more i (classOf cs i) (s .joined i h);
+      wanted = λ c d m. given (front c d m);
+      given = λ c d m. of-given c d m;
+      one-variable = s .one-variable;
+      applications = λ i f us h e. fits i f us h e (s .applications i f us h e);
+    }
+  where
+    more : (i j : ℕ) → Joined ns ps i j → Joined ns ((a, b) ∷ ps) i j
+    more i j q = more-joined ((a, b) ∷ ps) (λ r m. List·Memᴰ·tail m) q
+
+    front : (c d : ℕ) → List·Memᴰ {A = ℕ × ℕ} (c, d) ((a, b) ∷ []) → List·Memᴰ {A = ℕ × ℕ} (c, d) ((a, b) ∷ ps)
+    front c d (List·Memᴰ·head z) = List·Memᴰ·head z
+    front c d (List·Memᴰ·tail m) = absurd (List·Memᴰ·not-nil m)
+
+    linked-now : (c d : ℕ) → c < length ns → d < length ns → classOf cs c ≡ classOf cs d → Linked cs ((a, b) ∷ []) c d
+    linked-now c d h k e ds v u = v c d (rw (p .size) h) (rw (p .size) k) e
+
+    of-given : (c d : ℕ) → List·Memᴰ {A = ℕ × ℕ} (c, d) ((a, b) ∷ ps) → Linked cs ((a, b) ∷ []) c d
+    of-given c d (List·Memᴰ·head z) = λ ds v u. u c d (List·Memᴰ·head z)
+    of-given c d (List·Memᴰ·tail m) = linked-now c d (inside c d m .0) (inside c d m .1) (s .given c d m)
+
+    fits : (i f : ℕ) (us : List ℕ) → i < length ns → nodeAt ns i ≡ application f us → HeadFits ns (classOf cs) i f us → HeadLinks ns cs ((a, b) ∷ []) i f us
+    fits i f us h e x =
+        record {
+          arguments = x .arguments;
+          applied = x .applied;
+          as-long = x .as-long;
+          linked = λ c d m.
+              let g : classOf cs i < length ns = p .below i h in
+              let k : c < i = w .smaller i f us h e c (zip-left us (x .arguments) c d m) in
+              let n : d < classOf cs i = w .smaller (classOf cs i) f (x .arguments) g (x .applied) d (zip-right us (x .arguments) c d m) in
+              linked-now c d (omega arith) (omega arith) (x .one-head c d m);
+        }
+
+-- with no pair left they are closed
+pub closed-at-last : (ns : List Node) (ps : List (ℕ × ℕ)) (cs : List ℕ) → Closing ns ps cs [] → Closed ns ps (classOf cs)
+closed-at-last ns ps cs c =
+    record {
+      joined = c .joined;
+      given = λ a b m. now-linked a b (c .given a b m);
+      one-variable = c .one-variable;
+      applications = λ i f us p d.
+          let x = c .applications i f us p d in
+          record { arguments = x .arguments; applied = x .applied; as-long = x .as-long; one-head = λ a b m. now-linked a b (x .linked a b m) };
+    }
+  where
+    now-linked : (a b : ℕ) → Linked cs [] a b → classOf cs a ≡ classOf cs b
+    now-linked a b l = l cs (λ i j p q e. e) (λ x y m. absurd (List·Memᴰ·not-nil m))

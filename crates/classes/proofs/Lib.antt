@@ -1,0 +1,14 @@
+-- Laws that the proofs of the code need, from the bottom up.
+pub mod OpenLaws
+pub mod CircleLaws
+pub mod RelabelLaws
+pub mod TrailLaws
+pub mod ClosedClashLaws
+pub mod ClosingLaws
+pub mod ClosingStepLaws
+pub mod OrderedLaws
+pub mod OrderLaws
+pub mod MendLaws
+pub mod ExtensionLaws
+pub mod AtOnceLaws
+pub mod AloneLaws

@@ -1,0 +1,176 @@
+-- Classes in an order in which those of arguments come first are a solved form: the rank of a node is its own number where none of
+-- its arguments is looked at, and otherwise past all nodes, by its first place. A class that leads to itself reaches itself, and
+-- there is none where there is an order. Assumes nothing.
+use Prim.Native.Nat.{ℕ, zero, suc, _+_, _<_, _≤_}
+use mathlib.Core.Bool.{Bool, true, false, cond}
+use mathlib.Core.List.{List, [], _∷_}
+use mathlib.Core.Logic.{_⊎_, inl, inr}
+use mathlib.Core.Path.{_≡_, refl}
+use native.Mathlib.Decide.{ℕ-discrete}
+use native.Mathlib.Omega.{arith}
+use borrow.Author.Tests.{eqb-true, eqb-false, eq-eqb, ne-eqb}
+use lib.Dec.{eqb}
+use lib.ListN.{length}
+use Rattle.table.specs.Layout.{word, countOf, nodeCount, argumentOf}
+use Rattle.unification.specs.Closure.{same, Reaches, step, steps}
+use Rattle.unification.specs.Outcome.{unified}
+use Rattle.unification.specs.Computed.Classes.{classOf}
+use Rattle.unification.specs.Computed.Unifying.{outcome}
+use Rattle.unification.specs.Code.Given.{Inside}
+use Rattle.unification.specs.Code.Heads.{Partition}
+use Rattle.unification.specs.Code.Sections.{nodesFrom, Sections}
+use Rattle.unification.specs.Code.Solved.{Closed, Solved}
+use Rattle.unification.proofs.OutcomeLaws.{solved-decides}
+use Rattle.unification.proofs.SectionLaws.{nodes-long, counted, application-from, argument-place, place-argument, counted-application, sections-well-formed}
+use Rattle.nodes.specs.Code.Open.{Marked, Counts, ClosedHeads}
+use Rattle.classes.specs.Code.Order.{Leads, next, further, Looped, Met, leaf, before, Listed, Ordered}
+use Rattle.classes.proofs.OpenLaws.{looked-at}
+
+-- The first place of a number in a list; past its end where it has none.
+placeIn : List ℕ → ℕ → ℕ
+placeIn [] x = 0
+placeIn (y ∷ ys) x = cond (eqb y x) 0 (suc (placeIn ys x))
+
+-- what stands at a place has a first place
+place-of : (ys : List ℕ) (x q : ℕ) → q < length ys → word ys q ≡ x → (placeIn ys x ≤ q) × (word ys (placeIn ys x) ≡ x)
+unfolding placeIn
+place-of [] x q h e = absurd (omega arith)
+place-of (y ∷ ys) x zero h e = pick (eqb y x) refl
+  where
+    pick : (b : Bool) → eqb y x ≡ b → (cond b 0 (suc (placeIn ys x)) ≤ 0) × (word (y ∷ ys) (cond b 0 (suc (placeIn ys x))) ≡ x)
+    pick true z = (omega arith, e)
+    pick false z = absurd (eqb-false y x z e)
+place-of (y ∷ ys) x (suc q) h e = pick (eqb y x) refl (place-of ys x q (omega arith) e)
+  where
+    pick : (b : Bool) → eqb y x ≡ b → (placeIn ys x ≤ q) × (word ys (placeIn ys x) ≡ x) → (cond b 0 (suc (placeIn ys x)) ≤ suc q) × (word (y ∷ ys) (cond b 0 (suc (placeIn ys x))) ≡ x)
+    pick true z r = (omega arith, eqb-true y x z)
+    pick false z r = (omega (arith, r .0), r .1)
+
+-- The rank of a node: its own number where none of its arguments is looked at, and otherwise past all nodes, by its first place.
+pub rank : List ℕ → List ℕ → List ℕ → ℕ → ℕ
+rank words counts order h = cond (eqb (word counts h) 0) h (nodeCount words + suc (placeIn order h))
+
+-- that of a node none of whose arguments is looked at
+rank-leaf : (words counts order : List ℕ) (h : ℕ) → word counts h ≡ 0 → rank words counts order h ≡ h
+unfolding rank
+rank-leaf words counts order h e = rw (eq-eqb (word counts h) 0 e)
+
+-- that of any other
+rank-compound : (words counts order : List ℕ) (h : ℕ) → (word counts h ≡ 0 → ⊥) → rank words counts order h ≡ nodeCount words + suc (placeIn order h)
+unfolding rank
+rank-compound words counts order h n = rw (ne-eqb (word counts h) 0 n)
+
+-- what is met has a small rank
+rank-met : (words counts order : List ℕ) (p h : ℕ) → p ≤ length order → h < nodeCount words → Met (word counts) order p h → rank words counts order h ≤ nodeCount words + p
+rank-met words counts order p h l n (leaf e) = let r = rank-leaf words counts order h e in omega arith
+rank-met words counts order p h l n (before q k e) = go (ℕ-discrete (word counts h) 0)
+  where
+    go : Dec (word counts h ≡ 0) → rank words counts order h ≤ nodeCount words + p
+    go (yes z) = let r = rank-leaf words counts order h z in omega arith
+    go (no z) =
+        let r = rank-compound words counts order h z in
+        let t = place-of order h q (omega arith) e .0 in
+        omega arith
+
+-- the head of an argument that is looked at has a smaller rank
+rank-falls : (words args counts cs order : List ℕ) → Listed words args (word counts) cs order → (h : ℕ) → Met (word counts) order (length order) h → (j : ℕ) → j < word counts h → classOf cs (argumentOf words args h j) < nodeCount words → rank words counts order (classOf cs (argumentOf words args h j)) < rank words counts order h
+rank-falls words args counts cs order l h (leaf e) j k n = absurd (omega arith)
+rank-falls words args counts cs order l h (before q b e) j k n =
+    let t = place-of order h q b e in
+    let p : placeIn order h < length order = omega (arith, t .0) in
+    let m : Met (word counts) order (placeIn order h) (classOf cs (argumentOf words args h j)) = rw (t .1) at (l .first (placeIn order h) p) j k in
+    let r = rank-compound words counts order h (λ z. omega arith) in
+    let s = rank-met words counts order (placeIn order h) (classOf cs (argumentOf words args h j)) (omega arith) n m in
+    omega arith
+
+module _ (words args : List ℕ) (s : Sections words args) (counts : List ℕ) (k : Counts words args counts (nodeCount words)) where
+  -- it is a node
+  pub looked-node : (i j : ℕ) → i < nodeCount words → j < word counts i → argumentOf words args i j < nodeCount words
+  looked-node i j b l = omega (arith, s .smaller i j b (looked-at k i j b l))
+
+  -- an argument of a node none of whose arguments is looked at is a closed application
+  pub closed-argument : (i j : ℕ) → i < nodeCount words → j < countOf words i → word counts i ≡ 0 → Marked words counts (argumentOf words args i j)
+  closed-argument i j b l e =
+      k .below i b (record { node = b; applied = counted-application words args s i j b l; none = e }) j l
+
+  -- what a node leads to is a head
+  leads-head : (cs : List ℕ) {h g : ℕ} → Leads words args (word counts) cs h g → (i : ℕ) × (i < nodeCount words) × (classOf cs i ≡ g)
+  leads-head cs (next {h = h} {g = g} j b l e) = (argumentOf words args h j, looked-node h j b l, e)
+  leads-head cs (further p q) = leads-head cs q
+
+  module _ (cs : List ℕ) (partition : Partition (nodeCount words) cs) where
+    -- what a head leads to has a smaller rank
+    leads-falls : (order : List ℕ) → Ordered words args (word counts) cs order → {h g : ℕ} → Leads words args (word counts) cs h g → (i : ℕ) → i < nodeCount words → classOf cs i ≡ h → rank words counts order g < rank words counts order h
+    leads-falls order o (next {h = h} {g = g} j b l e) i q d =
+        rw (← e) (rank-falls words args counts cs order (o .listed) h (rw d at (o .whole i q)) j l (partition .below _ (looked-node h j b l)))
+    leads-falls order o (further {h} {g} {k = f} p q) i b d =
+        let m = leads-head cs p in
+        let x : rank words counts order g < rank words counts order h = leads-falls order o p i b d in
+        let y : rank words counts order f < rank words counts order g = leads-falls order o q (m .0) (m .1) (m .2) in
+        omega arith
+
+    -- where there is an order, no node leads to itself
+    pub ordered-unlooped : (order : List ℕ) → Ordered words args (word counts) cs order → Looped words args (word counts) cs → ⊥
+    ordered-unlooped order o (h, b, l) =
+        let m = leads-head cs l in
+        let x = leads-falls order o l (m .0) (m .1) (m .2) in
+        omega arith
+
+-- what leads reaches
+pub leads-reaches : (words args : List ℕ) (s : Sections words args) (cs : List ℕ) (ps : List (ℕ × ℕ)) (h : Inside (nodesFrom words args) ps) (c : Closed (nodesFrom words args) ps (classOf cs)) (counts : List ℕ) (k : Counts words args counts (nodeCount words)) {i j : ℕ} → Leads words args (word counts) cs i j → Reaches (nodesFrom words args) ps i j
+leads-reaches words args s cs ps h c counts k (next {h = i} {g = g} j b l e) =
+    let n : j < countOf words i = looked-at k i j b l in
+    let a : argumentOf words args i j < length (nodesFrom words args) = rw (nodes-long words args) (looked-node words args s counts k i j b l) in
+    let d : i < length (nodesFrom words args) = rw (nodes-long words args) b in
+    step (same {i = i} d) (application-from words args i b (counted-application words args s i j b n)) (place-argument words args s i j b n)
+    (rw e at (c .joined (argumentOf words args i j) a))
+leads-reaches words args s cs ps h c counts k (further p q) =
+    steps (leads-reaches words args s cs ps h c counts k p) (leads-reaches words args s cs ps h c counts k q)
+
+module _ (words args : List ℕ) (s : Sections words args) (counts : List ℕ) (k : Counts words args counts (nodeCount words)) (cs : List ℕ) (partition : Partition (nodeCount words) cs) (heads : ClosedHeads words args counts cs) (ps : List (ℕ × ℕ)) (h : Inside (nodesFrom words args) ps) (c : Closed (nodesFrom words args) ps (classOf cs)) (order : List ℕ) (o : Ordered words args (word counts) cs order) where
+  -- the ranks of heads are small
+  pub ordered-enough : (i : ℕ) → i < length (nodesFrom words args) → rank words counts order (classOf cs i) < suc (nodeCount words + suc (length order))
+  ordered-enough i b =
+      let q : i < nodeCount words = counted words args i b in
+      let r = rank-met words counts order (length order) (classOf cs i) (omega arith) (partition .below i q) (o .whole i q) in
+      omega arith
+
+  -- the head of an argument of a head has a smaller rank
+  argument-falls : (i : ℕ) → i < nodeCount words → (j : ℕ) → j < countOf words (classOf cs i) → rank words counts order (classOf cs (argumentOf words args (classOf cs i) j)) < rank words counts order (classOf cs i)
+  argument-falls i b j l = go (k .some (classOf cs i) g)
+    where
+      g : classOf cs i < nodeCount words
+      g = partition .below i b
+
+      a : argumentOf words args (classOf cs i) j < classOf cs i
+      a = s .smaller (classOf cs i) j g l
+
+      -- the head is a closed application, and so is that of its argument
+      shut : word counts (classOf cs i) ≡ 0 → rank words counts order (classOf cs (argumentOf words args (classOf cs i) j)) < rank words counts order (classOf cs i)
+      shut e =
+          let m = closed-argument words args s counts k (classOf cs i) j g l e in
+          let x = rank-leaf words counts order (classOf cs i) e in
+          let y = rank-leaf words counts order (classOf cs (argumentOf words args (classOf cs i) j)) (heads .closed _ m .none) in
+          let z = heads .least _ m in
+          omega (arith, a, x, y, z)
+
+      go : (word counts (classOf cs i) ≡ 0) ⊎ (word counts (classOf cs i) ≡ countOf words (classOf cs i)) → rank words counts order (classOf cs (argumentOf words args (classOf cs i) j)) < rank words counts order (classOf cs i)
+      go (inl e) = shut e
+      go (inr e) =
+          rank-falls words args counts cs order (o .listed) (classOf cs i) (o .whole i b) j (omega (arith, e, l)) (partition .below _ (omega (arith, a, g)))
+
+  -- classes in order are a solved form
+  pub ordered-solved : Solved (nodesFrom words args) ps (classOf cs) (rank words counts order)
+  ordered-solved =
+      record {
+        closed = c;
+        falls = λ i f us b e a m.
+            let q : i < nodeCount words = counted words args i b in
+            let r = argument-place words args s (classOf cs i) (partition .below i q) f us e a m in
+            rw (r .2) (argument-falls i q (r .0) (r .1));
+      }
+
+  -- so they decide: unified
+  pub ordered-unified : outcome (nodesFrom words args) ps ≡ unified
+  ordered-unified =
+      solved-decides (nodesFrom words args) (sections-well-formed words args s) ps h (classOf cs) (rank words counts order) ordered-solved (suc (nodeCount words + suc (length order))) ordered-enough .0

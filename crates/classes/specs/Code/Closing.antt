@@ -1,0 +1,64 @@
+-- Classes on the way to being closed under pairs of nodes, and what the functions that close them come to.
+use Prim.Native.Nat.{ℕ, _<_, _≤_}
+use mathlib.Core.Bool.{Bool, true, false}
+use mathlib.Core.List.{List, _∷_, List·Memᴰ, zip}
+use mathlib.Core.Path.{_≡_}
+use lib.ListN.{length}
+use Rattle.table.specs.Layout.{countOf, nodeCount, argumentOf}
+use Rattle.unification.specs.Node.{Node, variable, application, nodeAt, tabulate}
+use Rattle.unification.specs.Closure.{Joined, Clash}
+use Rattle.unification.specs.Computed.Classes.{classOf}
+use Rattle.unification.specs.Code.Heads.{Partition, roots, Unites}
+use Rattle.unification.specs.Code.Sections.{Sections, nodesFrom}
+use Rattle.nodes.specs.Code.Open.{Counts, ClosedHeads, KeepsClosed}
+use Rattle.classes.specs.Code.Trail.{Trailed, Merges}
+
+-- Nodes of one class of cs are of one class of ds.
+abbrev pub Coarser : List ℕ → List ℕ → Type 0
+Coarser cs ds = (i j : ℕ) → i < length cs → j < length cs → classOf cs i ≡ classOf cs j → classOf ds i ≡ classOf ds j
+
+-- Nodes a and b are of one class of cs, or will be when the pairs of todo are joined.
+abbrev pub Linked : List ℕ → List (ℕ × ℕ) → ℕ → ℕ → Type 0
+Linked cs todo a b = (ds : List ℕ) → Coarser cs ds → Unites ds todo → classOf ds a ≡ classOf ds b
+
+-- The head of node i has its symbol, and their arguments are linked.
+pub record HeadLinks (ns : List Node) (cs : List ℕ) (todo : List (ℕ × ℕ)) (i f : ℕ) (us : List ℕ) : Type 0 where
+  pub arguments : List ℕ
+  pub applied : nodeAt ns (classOf cs i) ≡ application f arguments
+  pub as-long : length us ≡ length arguments
+  pub linked : (a b : ℕ) → List·Memᴰ (a, b) (zip us arguments) → Linked cs todo a b
+
+-- Classes that are `Closed` but for the pairs of todo, which are still to be joined.
+pub record Closing (ns : List Node) (ps : List (ℕ × ℕ)) (cs : List ℕ) (todo : List (ℕ × ℕ)) : Type 0 where
+  pub joined : (i : ℕ) → i < length ns → Joined ns ps i (classOf cs i)
+  pub wanted : (a b : ℕ) → List·Memᴰ (a, b) todo → Joined ns ps a b
+  pub given : (a b : ℕ) → List·Memᴰ (a, b) ps → Linked cs todo a b
+  pub one-variable : (i j x : ℕ) → i < length ns → j < length ns → nodeAt ns i ≡ variable x → nodeAt ns j ≡ variable x → classOf cs i ≡ classOf cs j
+  pub applications : (i f : ℕ) (us : List ℕ) → i < length ns → nodeAt ns i ≡ application f us → HeadLinks ns cs todo i f us
+
+-- Arguments j of nodes g and h.
+unfoldable pub argumentPair : List ℕ → List ℕ → ℕ → ℕ → ℕ → ℕ × ℕ
+argumentPair words args g h j = (argumentOf words args g j, argumentOf words args h j)
+
+-- The pairs of arguments of nodes g and h.
+unfoldable pub argumentPairs : List ℕ → List ℕ → ℕ → ℕ → List (ℕ × ℕ)
+argumentPairs words args g h = tabulate (countOf words g) (argumentPair words args g h)
+
+-- What joining needs to know: of the sections, of open and closed applications, and of the classes.
+pub record Joinable (words args counts cs next : List ℕ) : Type 0 where
+  pub sections : Sections words args
+  pub counts-right : Counts words args counts (nodeCount words)
+  pub partition : Partition (nodeCount words) cs
+  pub closed : ClosedHeads words args counts cs
+  pub trailed : Trailed (nodeCount words) cs next
+
+-- What joining nodes a and b comes to: the pair is done, and whatever the closure then joins, or there is a clash. Heads that are left were
+-- heads before, and closed applications keep theirs.
+pub record Joins (words args counts cs next : List ℕ) (a b : ℕ) (fine : Bool) (cs′ next′ : List ℕ) : Type 0 where
+  pub partition : Partition (nodeCount words) cs′
+  pub merges : Merges (nodeCount words) cs next cs′ next′
+  pub fewer : roots (nodeCount words) cs′ ≤ roots (nodeCount words) cs
+  pub heads : (i : ℕ) → i < nodeCount words → classOf cs (classOf cs′ i) ≡ classOf cs′ i
+  pub kept : KeepsClosed words counts cs cs′
+  pub closes : fine ≡ true → (ps todo : List (ℕ × ℕ)) → Closing (nodesFrom words args) ps cs ((a, b) ∷ todo) → Closing (nodesFrom words args) ps cs′ todo
+  pub clashes : fine ≡ false → (ps todo : List (ℕ × ℕ)) → Closing (nodesFrom words args) ps cs ((a, b) ∷ todo) → Clash (nodesFrom words args) ps

@@ -1,0 +1,89 @@
+-- Putting the heads that have arguments in order by depth-first search: what is marked and listed, and what a visit leaves.
+use Prim.Native.Nat.{ℕ, _<_, _≤_}
+use mathlib.Core.Bool.{Bool}
+use mathlib.Core.List.{List}
+use mathlib.Core.Path.{_≡_}
+use lib.Dec.{eqb}
+use lib.ListN.{length}
+use Rattle.table.specs.Layout.{word, kindOf, nodeCount, argumentOf}
+use Rattle.unification.specs.Computed.Classes.{classOf}
+use Rattle.unification.specs.Code.Heads.{Partition, countBelow}
+use Rattle.unification.specs.Code.Sections.{Sections}
+use Rattle.classes.specs.declared.order.Placed.{Placed}
+use Rattle.classes.specs.declared.order.Placed.the-variants.{Cycle, Count}
+use Rattle.nodes.specs.Code.Open.{Counts}
+use Rattle.classes.specs.Code.Order.{Leads, Looped, Met}
+
+-- Node k is not visited yet.
+unfoldable pub isNew : List ℕ → ℕ → Bool
+isNew marks k = eqb (word marks k) 0
+
+-- Node k stands in the order.
+unfoldable pub isDone : List ℕ → ℕ → Bool
+isDone marks k = eqb (word marks k) 2
+
+-- The first places of the order hold the nodes that are done, which have arguments, those of arguments first. A mark is 0 for a new node, 1 for an open one, 2 for one that is done.
+pub record Ordering (words args : List ℕ) (due : ℕ → ℕ) (cs marks order : List ℕ) (count : ℕ) : Type 0 where
+  pub marks-size : length marks ≡ nodeCount words
+  pub order-size : length order ≡ nodeCount words
+  pub range : (k : ℕ) → k < nodeCount words → word marks k ≤ 2
+  pub listed : (p : ℕ) → p < count → (word order p < nodeCount words) × (word marks (word order p) ≡ 2)
+  pub compound : (p : ℕ) → p < count → 0 < due (word order p)
+  pub once : (p q : ℕ) → p < q → q < count → word order p ≡ word order q → ⊥
+  pub first : (p : ℕ) → p < count → (j : ℕ) → j < due (word order p) → Met due order p (classOf cs (argumentOf words args (word order p) j))
+  pub done : (k : ℕ) → k < nodeCount words → word marks k ≡ 2 → (p : ℕ) × (p < count) × (word order p ≡ k)
+  pub room : count ≤ countBelow (nodeCount words) (isDone marks)
+
+-- What a visit of node h asks: it has arguments, and every open node leads to it.
+pub record Visiting (words args counts cs marks order : List ℕ) (count h : ℕ) : Type 0 where
+  pub sections : Sections words args
+  pub counts-right : Counts words args counts (nodeCount words)
+  pub partition : Partition (nodeCount words) cs
+  pub ordering : Ordering words args (word counts) cs marks order count
+  pub node : h < nodeCount words
+  pub compound : 0 < word counts h
+  pub leads : (k : ℕ) → k < nodeCount words → word marks k ≡ 1 → Leads words args (word counts) cs k h
+
+-- The marks of nodes that were not new stay, and no node is open that was not.
+pub record Later (n : ℕ) (marks later : List ℕ) : Type 0 where
+  pub kept : (k : ℕ) → k < n → (word marks k ≡ 0 → ⊥) → word later k ≡ word marks k
+  pub none-opened : (k : ℕ) → k < n → word later k ≡ 1 → word marks k ≡ 1
+
+-- What a visit of node h leaves where it finds no cycle: h is done.
+pub record Passed (words args : List ℕ) (due : ℕ → ℕ) (cs marks : List ℕ) (h : ℕ) (after order : List ℕ) (count : ℕ) : Type 0 where
+  pub ordering : Ordering words args due cs after order count
+  pub passed : word after h ≡ 2
+  pub later : Later (nodeCount words) marks after
+
+-- Node g is done, if it has arguments.
+abbrev pub Settled : (ℕ → ℕ) → List ℕ → ℕ → Type 0
+Settled due marks g = 0 < due g → word marks g ≡ 2
+
+-- Before argument j of node h is visited, where h is open among these marks: the heads of the arguments before it are done, if they have arguments.
+pub record Turn (words args : List ℕ) (due : ℕ → ℕ) (cs marks : List ℕ) (h : ℕ) (after order : List ℕ) (count j : ℕ) : Type 0 where
+  pub ordering : Ordering words args due cs after order count
+  pub later : Later (nodeCount words) marks after
+  pub arguments : (i : ℕ) → i < j → Settled due after (classOf cs (argumentOf words args h i))
+
+-- What a visit of node h answers and leaves.
+pub record Visited (words args : List ℕ) (due : ℕ → ℕ) (cs marks : List ℕ) (h : ℕ) (r : Placed) (after order : List ℕ) : Type 0 where
+  pub cycle : r ≡ Cycle → Looped words args due cs
+  pub counted : (c : ℕ) → r ≡ Count c → Passed words args due cs marks h after order c
+
+-- What the search starts with: every one of n nodes is new.
+pub record Starting (n : ℕ) (marks order : List ℕ) : Type 0 where
+  pub marks-size : length marks ≡ n
+  pub order-size : length order ≡ n
+  pub new : (k : ℕ) → k < n → word marks k ≡ 0
+
+-- Open applications: every node with arguments that are looked at stands in the list.
+pub record OpenListed (words counts opens : List ℕ) : Type 0 where
+  pub node : (p : ℕ) → p < length opens → word opens p < nodeCount words
+  pub applied : (p : ℕ) → p < length opens → kindOf words (word opens p) ≡ 0 → ⊥
+  pub whole : (i : ℕ) → i < nodeCount words → 0 < word counts i → (p : ℕ) × (p < length opens) × (word opens p ≡ i)
+
+-- Before place i of a list of nodes is looked at: the heads of the nodes before it are done, if arguments of theirs are looked at, and no node is open.
+pub record Sweep (words args : List ℕ) (due : ℕ → ℕ) (cs list marks order : List ℕ) (count i : ℕ) : Type 0 where
+  pub ordering : Ordering words args due cs marks order count
+  pub none-open : (k : ℕ) → k < nodeCount words → word marks k ≡ 1 → ⊥
+  pub heads : (k : ℕ) → k < i → Settled due marks (classOf cs (word list k))

@@ -1,0 +1,69 @@
+-- Joins that can be undone: behind the circles stands how many heads have gone, and behind that which ones, in their order.
+use Prim.Native.Nat.{ℕ, suc, _+_, _<_, _≤_}
+use mathlib.Core.List.{List, map}
+use mathlib.Core.Path.{_≡_}
+use lib.ListN.{length, set}
+use Rattle.table.specs.Limits.{maxNodes}
+use Rattle.table.specs.Layout.{word}
+use Rattle.unification.specs.Computed.Classes.{renamed}
+use Rattle.unification.specs.Code.Heads.{roots}
+use Rattle.classes.specs.Code.Circle.{Circles}
+use Rattle.classes.specs.Code.Uniting.{strengthOf, TwoHeads, exchanged}
+
+-- How many words the circles have, with what stands behind them.
+abbrev pub links : ℕ
+links = 512
+
+-- How many heads have gone.
+abbrev pub gone : List ℕ → ℕ
+gone next = word next 256
+
+-- Head g has gone as well.
+unfoldable pub notedGone : List ℕ → ℕ → List ℕ
+notedGone next g = set (set next 256 (suc (gone next))) (256 + suc (gone next)) g
+
+-- The members of each class stand in a circle, there is room to note each head that can still go, and nothing stands behind those noted.
+pub record Trailed (n : ℕ) (cs next : List ℕ) : Type 0 where
+  pub circles : Circles n cs next
+  pub few : n ≤ maxNodes
+  pub size : length next ≡ links
+  pub room : gone next + roots n cs ≤ 256
+  pub clear : (k : ℕ) → 256 + gone next < k → word next k ≡ 0
+
+-- The class of head g has become a part of that of head h, and g is noted.
+pub record Merged (n : ℕ) (cs next : List ℕ) (g h : ℕ) (cs′ next′ : List ℕ) : Type 0 where
+  pub heads : TwoHeads n cs next g h
+  pub trailed : Trailed n cs next
+  pub renames : cs′ ≡ map (renamed g h) cs
+  pub linked : next′ ≡ notedGone (exchanged next g h) g
+
+-- The same where h is as strong.
+pub record Goes (words counts cs next : List ℕ) (g h : ℕ) (cs′ next′ : List ℕ) : Type 0 where
+  pub merged : Merged (length cs) cs next g h cs′ next′
+  pub weaker : strengthOf words counts g ≤ strengthOf words counts h
+
+-- One class has become a part of another.
+abbrev pub OneMerged : ℕ → List ℕ → List ℕ → List ℕ → List ℕ → Type 0
+OneMerged n cs next cs′ next′ = (g : ℕ) × (h : ℕ) × Merged n cs next g h cs′ next′
+
+-- One after the other has.
+pub data Merges (n : ℕ) (cs next : List ℕ) : List ℕ → List ℕ → Type 0 where
+  none : Merges n cs next cs next
+  more : {cs₁ next₁ cs₂ next₂ : List ℕ} → Merges n cs next cs₁ next₁ → OneMerged n cs₁ next₁ cs₂ next₂ → Merges n cs next cs₂ next₂
+
+-- Classes before the last head went.
+pub record Last (n : ℕ) (cs′ next′ : List ℕ) : Type 0 where
+  pub heads : List ℕ
+  pub next : List ℕ
+  pub merged : OneMerged n heads next cs′ next′
+
+-- Classes from which others come, when only so many heads had gone.
+pub record Before (n mark : ℕ) (cs next cs′ next′ : List ℕ) : Type 0 where
+  pub merges : Merges n cs next cs′ next′
+  pub marked : gone next ≡ mark
+
+-- There are such classes.
+pub record Since (n mark : ℕ) (cs′ next′ : List ℕ) : Type 0 where
+  pub heads : List ℕ
+  pub next : List ℕ
+  pub before : Before n mark heads next cs′ next′

@@ -1,0 +1,56 @@
+// A pair of nodes by itself.
+ghost use Prim.Native.Nat.{_<_};
+ghost use mathlib.Core.Path.{_≡_};
+ghost use mathlib.Core.Bool.{false};
+ghost use Rattle.table.specs.Layout.{nodeCount};
+ghost use Rattle.unification.specs.Code.Sections.{Sections, nodesFrom};
+ghost use Rattle.nodes.specs.Code.Open.{Counts};
+ghost use Rattle.classes.specs.Code.Trail.{Trailed};
+ghost use Rattle.classes.specs.Code.Stands.{Formed, StandsAlways, Never};
+use crate::Extended;
+use crate::settle::extend;
+use crate::trail::GONE;
+use crate::trail::undo;
+use nodes::lists;
+use nodes::sections;
+use table::Node;
+
+// Whether two nodes, given classes in which nodes of one term are together, may have a common value: if not, no list of pairs with theirs
+// has a unifier. The classes are as before.
+pub fn may_unify(
+    nodes: &[u32],
+    arguments: &[u32],
+    counts: &[u8],
+    of: &mut [u8],
+    next: &mut [u8],
+    a: Node,
+    b: Node,
+) -> bool
+    requires { ⌜ Sections (now nodes) (now arguments) × Counts (now nodes) (now arguments) (now counts) (nodeCount (now nodes)) ⌝ }
+    requires { ⌜ Formed (now nodes) (now arguments) (now counts) (now of) × Trailed (nodeCount (now nodes)) (now of) (now next) ⌝ }
+    requires { ⌜ StandsAlways (now nodes) (now arguments) (now of) ⌝ }
+    requires { ⌜ (a .0 < nodeCount (now nodes)) × (b .0 < nodeCount (now nodes)) ⌝ }
+    ensures { λ r. ⌜ (r ≡ false → Never (nodesFrom (now (nodes .entry)) (now (arguments .entry))) (a .0) (b .0)) ⌝ }
+    ensures { λ r. ⌜ (now (of .exit) ≡ now (of .entry)) × (now (next .exit) ≡ now (next .entry)) ⌝ }
+{
+    let g = lists::node_in(of, a.0 as usize);
+    let h = lists::node_in(of, b.0 as usize);
+    if g.0 == h.0 {
+        return true;
+    }
+    if sections::differ(nodes, g, h) {
+        return false;
+    }
+    if sections::both_closed(nodes, counts, g, h) {
+        return false;
+    }
+    let mark = next[GONE];
+    match extend(nodes, arguments, counts, of, next, a, b) {
+        Extended::Clash => false,
+        Extended::Occurs => false,
+        Extended::Unified => {
+            undo(of, next, mark);
+            true
+        }
+    }
+}

@@ -1,0 +1,23 @@
+// Classes of nodes, as slices of heads and circles, extended by one pair more.
+
+// Joins that can be undone: `undo`.
+pub mod trail;
+
+// The classes, closed under one pair more.
+mod closure;
+
+// An order of the classes, and cycles.
+pub mod order;
+
+// The classes of a list of pairs, extended by one pair more: `extend`.
+pub mod settle;
+
+// A pair by itself: `may_unify`.
+pub mod alone;
+
+// What extending classes by a pair comes to.
+pub enum Extended {
+    Unified,
+    Clash,
+    Occurs,
+}

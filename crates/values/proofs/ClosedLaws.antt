@@ -1,0 +1,81 @@
+-- Closed applications by their terms: a node of the term of one is one, so classes in which nodes of one term are together give them
+-- closed heads. Assumes nothing.
+use Prim.Native.Nat.{ℕ, zero, suc, _≤_, _<_}
+use mathlib.Core.List.{List}
+use mathlib.Core.Path.{_≡_, refl, sym, _∙_}
+use native.Mathlib.Omega.{arith}
+use Rattle.table.specs.Layout.{kindOf, nameOf, countOf, nodeCount, argumentOf}
+use Rattle.terms.specs.Term.{var, app}
+use Rattle.unification.specs.Node.{Node, each}
+use Rattle.unification.specs.Unifier.{value}
+use Rattle.unification.specs.Computed.Classes.{classOf}
+use Rattle.unification.specs.Code.Given.{WellFormed}
+use Rattle.unification.specs.Code.Sections.{Sections, nodesFrom}
+use Rattle.unification.specs.Code.Heads.{Partition}
+use Rattle.unification.proofs.NodeLaws.{each-long, each-at, value-variable, value-application}
+use Rattle.unification.proofs.SectionLaws.{run, run-long, pair-place, is-node, variable-from, application-from, sections-well-formed}
+use Rattle.nodes.specs.Code.Open.{Marked, Counts, ClosedHeads}
+
+module _ (words args : List ℕ) (s : Sections words args) (counts : List ℕ) (c : Counts words args counts (nodeCount words)) where
+  abbrev ns : List Node
+  ns = nodesFrom words args
+
+  w : WellFormed ns
+  w = sections-well-formed words args s
+
+  -- the term of an application
+  term : (i : ℕ) → i < nodeCount words → (kindOf words i ≡ 0 → ⊥) → value ns var i ≡ app (nameOf words i) (each (value ns var) (run words args i))
+  term i h k =
+      value-application ns w var i (nameOf words i) (run words args i) (is-node words args i h) (application-from words args i h k)
+
+  -- a node of the term of an application is one
+  applied-same : (i j : ℕ) → i < nodeCount words → j < nodeCount words → (kindOf words i ≡ 0 → ⊥) → value ns var i ≡ value ns var j → kindOf words j ≡ 0 → ⊥
+  applied-same i j h l k e z =
+      let d : app (nameOf words i) (each (value ns var) (run words args i)) ≡ var (nameOf words j) = sym (term i h k) ∙ e ∙ value-variable ns w var j (nameOf words j) (is-node words args j l) (variable-from words args j l z) in
+      let y : _≡_ {A = ℕ} 0 1 = cc in
+      omega arith
+
+  -- applications of one term have as many arguments
+  record SameArguments (i j : ℕ) : Type 0 where
+    count : countOf words i ≡ countOf words j
+    same : (q : ℕ) → q < countOf words j → value ns var (argumentOf words args i q) ≡ value ns var (argumentOf words args j q)
+
+  -- and arguments of the same terms
+  same-arguments : (i j : ℕ) → i < nodeCount words → j < nodeCount words → (kindOf words i ≡ 0 → ⊥) → (kindOf words j ≡ 0 → ⊥) → value ns var i ≡ value ns var j → SameArguments i j
+  same-arguments i j h l k m e =
+      let d : app (nameOf words i) (each (value ns var) (run words args i)) ≡ app (nameOf words j) (each (value ns var) (run words args j)) = sym (term i h k) ∙ e ∙ term j l m in
+      let a : each (value ns var) (run words args i) ≡ each (value ns var) (run words args j) = cc in
+      let n : countOf words i ≡ countOf words j = sym (run-long words args s i h) ∙ each-long (value ns var) (value ns var) (run words args i) (run words args j) a ∙ run-long words args s j l in
+      record {
+        count = n;
+        same = λ q b. each-at (value ns var) (value ns var) (run words args i) (run words args j) a (argumentOf words args i q) (argumentOf words args j q) (pair-place words args s i j h l (argumentOf words args i q) (argumentOf words args j q) .1 (q, rw n b, b, refl, refl));
+      }
+
+  -- a node of the term of a closed application is one
+  closed-same : (n i j : ℕ) → i < n → Marked words counts i → j < nodeCount words → value ns var i ≡ value ns var j → Marked words counts j
+  closed-same zero i j b m l e = absurd (omega arith)
+  closed-same (suc n) i j b m l e =
+      record { node = l; applied = k; none = c .above j l (argument (λ g h. closed-same n g h)) }
+    where
+      k : kindOf words j ≡ 0 → ⊥
+      k = applied-same i j (m .node) l (m .applied) e
+
+      a : SameArguments i j
+      a = same-arguments i j (m .node) l (m .applied) k e
+
+      argument : ((g h : ℕ) → g < n → Marked words counts g → h < nodeCount words → value ns var g ≡ value ns var h → Marked words counts h) → (q : ℕ) → q < countOf words j → Marked words counts (argumentOf words args j q)
+      argument below q t =
+          let u : q < countOf words i = rw (a .count) t in
+          let x = s .smaller i q (m .node) u in
+          let y = s .smaller j q l t in
+          below (argumentOf words args i q) (argumentOf words args j q) (omega (arith, x)) (c .below i (m .node) m q u) (omega (arith, y)) (a .same q t)
+
+  -- closed heads, where heads are not after their nodes and nodes have one head exactly if they have one term
+  pub heads-closed : (cs : List ℕ) → Partition (nodeCount words) cs → ((i : ℕ) → i < nodeCount words → classOf cs i ≤ i) → ((i : ℕ) → i < nodeCount words → value (nodesFrom words args) var i ≡ value (nodesFrom words args) var (classOf cs i)) → ((i j : ℕ) → i < nodeCount words → j < nodeCount words → value (nodesFrom words args) var i ≡ value (nodesFrom words args) var j → classOf cs i ≡ classOf cs j) → ClosedHeads words args counts cs
+  heads-closed cs p low valued shared =
+      record {
+        closed = λ i m. closed-same (suc i) i (classOf cs i) (omega arith) m (p .below i (m .node)) (valued i (m .node));
+        least = λ i m. low i (m .node);
+        valued = λ i m. sym (valued i (m .node));
+        shared = λ i j m k e. shared i j (m .node) (k .node) e;
+      }

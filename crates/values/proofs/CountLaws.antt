@@ -1,0 +1,114 @@
+-- How many arguments of a node are looked at, counted node by node. Assumes nothing.
+use Prim.Native.Nat.{ℕ, _+_, _≤_, _<_}
+use mathlib.Core.Bool.{Bool, true, false, not, _||_, false≢true}
+use mathlib.Core.List.{List}
+use mathlib.Core.Logic.{_⊎_, inl, inr}
+use mathlib.Core.Path.{_≡_, refl, sym, ap, _∙_}
+use native.Mathlib.Decide.{ℕ-discrete}
+use native.Mathlib.Omega.{arith}
+use borrow.Author.Tests.{eq-eqb, ne-eqb, eqb-true, eqb-false, not-true, not-false}
+use borrow.Author.Count.{below-more}
+use lib.Dec.{eqb}
+use lib.ListN.{length, set, length-set}
+use lib.Seq.{getD-set-same, getD-set-other}
+use Rattle.table.specs.Layout.{word, kindOf, countOf, nodeCount, argumentOf}
+use Rattle.table.proofs.BoolLaws.{and-true-left, and-true-right, or-false-left, or-false-right}
+use Rattle.unification.specs.Code.Sections.{Sections}
+use Rattle.nodes.specs.Code.Open.{Marked, markedTest, Counts, CountedAt}
+use Rattle.classes.proofs.OpenLaws.{marked-true, marked-false}
+
+-- The first j arguments of node i are closed applications.
+pub record ClosedUpTo (words args counts : List ℕ) (i j : ℕ) : Type 0 where
+  pub closed : (q : ℕ) → q < j → Marked words counts (argumentOf words args i q)
+
+-- at first none is asked for
+pub closed-none : (words args counts : List ℕ) (i : ℕ) → ClosedUpTo words args counts i 0
+closed-none words args counts i = record { closed = λ q h. absurd (omega arith) }
+
+module _ (words args counts : List ℕ) (i j a : ℕ) (v : Bool) (small : a < nodeCount words) (is : a ≡ argumentOf words args i j) (e : v ≡ markedTest words counts a) where
+  -- one argument more is closed
+  pub closed-next : v ≡ true → ClosedUpTo words args counts i j → ClosedUpTo words args counts i (j + 1)
+  closed-next t b =
+      record {
+        closed = below-more (λ q. Marked words counts (argumentOf words args i q)) j (b .closed) (rw is at (marked-true words counts a small (sym e ∙ t)));
+      }
+
+  -- one is not, so all are looked at
+  pub counted-some : (n : ℕ) → n ≡ countOf words i → j < n → v ≡ false → CountedAt words args counts i n
+  counted-some n c l f =
+      record {
+        some = inr c;
+        below = λ z. absurd (omega arith);
+        above = λ b. absurd (marked-false words counts a (sym e ∙ f) (rw is (b j (omega arith))));
+      }
+
+-- all are closed, so none is looked at
+pub counted-none : (words args counts : List ℕ) (i j n : ℕ) → n ≡ countOf words i → n ≤ j → ClosedUpTo words args counts i j → CountedAt words args counts i 0
+counted-none words args counts i j n c l b =
+    record { some = inl refl; below = λ z q h. b .closed q (omega arith); above = λ z. refl }
+
+-- no node is counted yet
+pub counts-none : (words args counts : List ℕ) → nodeCount words ≤ length counts → Counts words args counts 0
+counts-none words args counts h =
+    record {
+      enough = h;
+      some = λ i l. absurd (omega arith);
+      below = λ i l. absurd (omega arith);
+      above = λ i l. absurd (omega arith);
+    }
+
+module _ (words args counts : List ℕ) (s : Sections words args) (i r : ℕ) (h : i < nodeCount words) (c : Counts words args counts i) (d : CountedAt words args counts i r) where
+  abbrev after : List ℕ
+  after = set counts i r
+
+  here : word after i ≡ r
+  here = let l = c .enough in getD-set-same counts i r 0 (omega (arith, l))
+
+  other : (k : ℕ) → k < i → word after k ≡ word counts k
+  other k l = getD-set-other counts i k r 0 (λ z. omega (arith, l, z))
+
+  -- closed applications below node i stay so
+  stays : (k : ℕ) → k < i → Marked words counts k → Marked words after k
+  stays k l m = record { node = m .node; applied = m .applied; none = other k l ∙ m .none }
+
+  -- and were so
+  was : (k : ℕ) → k < i → Marked words after k → Marked words counts k
+  was k l m = record { node = m .node; applied = m .applied; none = sym (other k l) ∙ m .none }
+
+  argument-below : (k j : ℕ) → k < i + 1 → j < countOf words k → argumentOf words args k j < i
+  argument-below k j l q =
+      let a = s .smaller k j (omega arith) q in
+      omega (arith, a)
+
+  -- one node more
+  pub counts-next : Counts words args (set counts i r) (i + 1)
+  counts-next =
+      record {
+        enough = rw (length-set counts i r) (c .enough);
+        some = below-more (λ k. (word after k ≡ 0) ⊎ (word after k ≡ countOf words k)) i (λ k l. rw (other k l) (c .some k l)) (rw here (d .some));
+        below = λ k l. below-at k l (ℕ-discrete k i);
+        above = λ k l. above-at k l (ℕ-discrete k i);
+      }
+    where
+      below-at : (k : ℕ) → k < i + 1 → Dec (k ≡ i) → Marked words after k → (j : ℕ) → j < countOf words k → Marked words after (argumentOf words args k j)
+      below-at k l (yes e) m j q =
+          stays (argumentOf words args k j) (argument-below k j l q) (rw e (d .below (sym here ∙ ap (word after) (sym e) ∙ m .none) j (rw e at q)))
+      below-at k l (no n) m j q =
+          let b : k < i = omega (arith, n) in
+          stays (argumentOf words args k j) (argument-below k j l q) (c .below k b (was k b m) j q)
+
+      above-at : (k : ℕ) → k < i + 1 → Dec (k ≡ i) → ((j : ℕ) → j < countOf words k → Marked words after (argumentOf words args k j)) → word after k ≡ 0
+      above-at k l (yes e) m =
+          ap (word after) e ∙ here ∙ d .above (λ j q. was (argumentOf words args i j) (argument-below i j (omega arith) q) ((rw e at m) j q))
+      above-at k l (no n) m =
+          let b : k < i = omega (arith, n) in
+          other k b ∙ c .above k b (λ j q. was (argumentOf words args k j) (argument-below k j l q) (m j q))
+
+  -- if some is false, no arguments of a node so far are looked at
+  pub none-next : (some : Bool) → (some ≡ false → (k : ℕ) → k < i → word counts k ≡ 0) → (some || not (eqb r 0)) ≡ false → (k : ℕ) → k < i + 1 → word (set counts i r) k ≡ 0
+  none-next some b e =
+      below-more (λ k. word after k ≡ 0) i (λ k l. other k l ∙ b (or-false-left some (not (eqb r 0)) e) k l) (here ∙ eqb-true r 0 (not-false _ (or-false-right some (not (eqb r 0)) e)))
+
+-- the counts of as many nodes as there are
+pub counts-end : (words args counts : List ℕ) (i n : ℕ) → n ≡ nodeCount words → i ≤ n → n ≤ i → Counts words args counts i → Counts words args counts (nodeCount words)
+counts-end words args counts i n c a b m = let e : nodeCount words ≡ i = omega arith in rw e m

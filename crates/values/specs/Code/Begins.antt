@@ -1,0 +1,44 @@
+-- Classes that stand for a list of pairs, and how they are extended by one pair more. The listing builds on these.
+use Prim.Native.Nat.{ℕ, _<_, _≤_}
+use mathlib.Core.List.{List, _∷_, _++_}
+use mathlib.Core.Path.{_≡_}
+use lib.ListN.{length, take, drop}
+use Rattle.table.specs.Layout.{word, kindOf, nameOf, countOf, nodeCount}
+use Rattle.terms.specs.Substitution.{Substitution}
+use Rattle.unification.specs.Node.{Node}
+use Rattle.unification.specs.Unifier.{Unifies}
+use Rattle.unification.specs.Outcome.{Outcome, unified, clash, occurs}
+use Rattle.unification.specs.Computed.Classes.{classOf}
+use Rattle.unification.specs.Computed.Unifying.{outcome, wordsOf}
+use Rattle.unification.specs.Computed.Variables.{variablesOf}
+use Rattle.unification.specs.Code.Given.{Inside}
+use Rattle.unification.specs.Code.Sections.{nodesFrom}
+use Rattle.unification.specs.Code.Heads.{Partition}
+use Rattle.unification.specs.Code.Solved.{Closed}
+use Rattle.values.specs.declared.Variables.{Variables}
+use Rattle.nodes.specs.Code.Open.{Counts, ClosedHeads, KeepsClosed}
+use Rattle.classes.specs.Code.Circle.{HeadsFirst}
+use Rattle.classes.specs.Code.Trail.{Merges}
+use Rattle.classes.specs.Code.Order.{Ordered}
+use Rattle.values.specs.Code.Present.{variableNames, leastNodes}
+use Rattle.classes.specs.Code.Stands.{IsConstant, OneConstant, Formed, Stands}
+
+-- The variables present, by their least nodes.
+pub record Lists (words args : List ℕ) (v : Variables) : Type 0 where
+  pub within : v .count ≤ variableNames
+  pub counted : v .count ≡ length (variablesOf (nodesFrom words args))
+  pub nodes : take (v .count) (v .nodes) ≡ leastNodes (nodesFrom words args)
+
+-- The binding words stand in the lent words, before those past them, for whatever pairs the classes stand for.
+abbrev pub Leaves : List ℕ → List ℕ → List ℕ → List ℕ → List ℕ → Type 0
+Leaves words args cs lent lent′ = (ps : List (ℕ × ℕ)) → Stands words args cs ps → lent′ ≡ wordsOf (nodesFrom words args) ps ++ drop (length (variablesOf (nodesFrom words args))) lent
+
+-- What unifying begins with: the variables present, and classes in which nodes of one term are together. They stand for
+-- pairs of nodes of one term, which every substitution unifies.
+pub record BeginsShared (words args : List ℕ) (v : Variables) (cs : List ℕ) : Type 0 where
+  pub lists : Lists words args v
+  pub formed : (counts : List ℕ) → Counts words args counts (nodeCount words) → Formed words args counts cs
+  pub pairs : List (ℕ × ℕ)
+  pub stands : Stands words args cs pairs
+  pub same : (σ : Substitution) → Unifies (nodesFrom words args) pairs σ
+  pub first : HeadsFirst (nodeCount words) cs

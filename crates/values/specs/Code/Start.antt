@@ -1,0 +1,36 @@
+-- The classes where no pair is given, and those in which nodes of one term are together.
+use Prim.Native.Nat.{ℕ, _<_}
+use mathlib.Core.Bool.{cond}
+use mathlib.Core.List.{List}
+use mathlib.Core.Path.{_≡_}
+use lib.Dec.{eqb}
+use lib.ListN.{length}
+use Rattle.table.specs.Layout.{word, kindOf, nameOf, nodeCount}
+use Rattle.terms.specs.Substitution.{Substitution}
+use Rattle.unification.specs.Unifier.{Unifies}
+use Rattle.unification.specs.Computed.Solution.{nodeOf}
+use Rattle.unification.specs.Code.Sections.{nodesFrom}
+use Rattle.nodes.specs.Code.Open.{Counts}
+use Rattle.classes.specs.Code.Circle.{HeadsFirst}
+use Rattle.classes.specs.Code.Stands.{Formed, Stands}
+
+-- The head of node i: the least node of its variable, or itself.
+unfoldable pub startHead : List ℕ → List ℕ → ℕ → ℕ
+startHead words args i = cond (eqb (kindOf words i) 0) (nodeOf (nodesFrom words args) (nameOf words i)) i
+
+-- The nodes before i have their heads, and stand in their own order.
+pub record Started (words args cs order : List ℕ) (i : ℕ) : Type 0 where
+  pub head : (k : ℕ) → k < i → word cs k ≡ startHead words args k
+  pub place : (k : ℕ) → k < i → word order k ≡ k
+
+-- Each head has a place among the names.
+pub record HeadsNamed (cs names : List ℕ) : Type 0 where
+  pub inside : (i : ℕ) → i < length cs → word cs i < length names
+
+-- Classes in which nodes of one term are together: as `BeginsShared` of `Stands`, with no variables.
+pub record Together (words args cs : List ℕ) : Type 0 where
+  pub formed : (counts : List ℕ) → Counts words args counts (nodeCount words) → Formed words args counts cs
+  pub pairs : List (ℕ × ℕ)
+  pub stands : Stands words args cs pairs
+  pub same : (σ : Substitution) → Unifies (nodesFrom words args) pairs σ
+  pub first : HeadsFirst (nodeCount words) cs

@@ -1,0 +1,2 @@
+-- Laws that the proofs of the code need, from the bottom up.
+pub mod WalkLaws
