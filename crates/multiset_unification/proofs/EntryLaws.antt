@@ -1,6 +1,6 @@
 -- The complete listing is what document 01 says, the only such list, and what its entries are made of.
 -- The pairs of a choice are of nodes, so that the outcome decides whether they have a unifier. Assumes nothing.
-use Prim.Native.Nat.{ℕ}
+use Prim.Native.Nat.{ℕ, _≤_}
 use mathlib.Core.List.{List, [], _∷_, _++_, map, flatMap, List·Memᴰ, List·Memᴰ·head, List·Memᴰ·tail, List·Memᴰ·not-nil, Memᴰ·append-right, Memᴰ·map, Memᴰ·of-map}
 use mathlib.Core.Logic.{_↔_}
 use mathlib.Core.Path.{_≡_, refl, sym, ap, _∙_}
@@ -8,7 +8,10 @@ use native.Mathlib.Omega.{arith}
 use lib.ListN.{length, length-append}
 use lib.Seq.{take-at, drop-at}
 use Rattle.table.specs.Layout.{leftTermsOf, rightTermsOf, leftLabelsOf, rightLabelsOf}
+use Rattle.table.specs.Refusal.{refusal}
+use Rattle.table.specs.Code.Sections.{leftTerms, rightTerms}
 use Rattle.table.specs.Code.Accepted.{Accepted}
+use Rattle.table.proofs.AcceptedLaws.{accepted}
 use Rattle.terms.specs.Substitution.{Substitution}
 use Rattle.unification.specs.Node.{nodesIn, Present}
 use Rattle.unification.specs.Unifier.{Unifiable, MostGeneral}
@@ -18,7 +21,7 @@ use Rattle.unification.specs.Outcome.{Outcome, unified, clash, occurs}
 use Rattle.unification.specs.Computed.Unifying.{outcome, unifier, wordsOf}
 use Rattle.unification.proofs.RisingLaws.{rising-map, rising-same, rising-once}
 use Rattle.unification.proofs.TableLaws.{well-formed, left-node, right-node}
-use Rattle.unification.proofs.AnswerLaws.{words-long}
+use Rattle.unification.proofs.AnswerLaws.{words-long, variables-most}
 use Rattle.unification.proofs.ReadingLaws.{reads-one}
 use Rattle.unification.proofs.OutcomeLaws.{outcome-unified, words-readable, reading-most-general, words-least}
 use Rattle.multiset_unification.specs.Choice.{IsChoice, Before}
@@ -183,6 +186,15 @@ entry-long t e g m =
     let d = s .1 .0 .long in
     let w = words-long t (pairsOf t (s .0)) in
     ap length (s .2) ∙ omega (arith, l, d, w)
+
+-- and at most 80: "8 terms a side", and 64 variables
+pub entry-most : (t : List ℕ) → refusal t ≡ 0 → entryWords t ≤ 80
+unfolding entryWords
+entry-most t r =
+    let a = accepted t .0 r in
+    let l = a .within-limits leftTerms (omega arith) in
+    let m = a .within-limits rightTerms (omega arith) in
+    omega (arith, l, m, variables-most t r)
 
 module _ (t e : List ℕ) (g : Accepted t) (m : List·Memᴰ e (completeListing t)) where
   -- The pairs of an entry.

@@ -1,13 +1,15 @@
--- The entries as they lie in the lent words: all entries of a table have one length, so they can be cut out again.
+-- The entries as they lie in the lent words: all entries of a table have one length, so they can be cut out again, and their words counted.
 -- By induction on the entries. Assumes nothing.
 use Prim.Native.Nat.{ℕ, zero, suc, _+_, _*_}
 use mathlib.Core.List.{List, [], _∷_, _++_, flatten, append-assoc, List·Memᴰ, List·Memᴰ·head, List·Memᴰ·tail, List·Memᴰ·not-nil}
 use mathlib.Core.Path.{_≡_, refl, sym, ap, _∙_}
 use native.Mathlib.Omega.{arith}
-use native.Mathlib.Nat.{mul-suc, mul-zero}
-use lib.ListN.{length, take, drop}
+use native.Mathlib.Nat.{mul-suc, mul-zero, zero-mul, suc-mul}
+use lib.ListN.{length, take, drop, length-append}
 use lib.Seq.{take-at, drop-at, drop-drop}
+use Rattle.table.specs.Refusal.{refusal}
 use Rattle.table.specs.Code.Accepted.{Accepted}
+use Rattle.table.proofs.AcceptedLaws.{accepted}
 use Rattle.unification.specs.Node.{tabulate}
 use Rattle.unification.proofs.ListLaws.{tabulate-first, tabulate-same}
 use Rattle.multiset_unification.specs.Answer.{entriesLeft, listed, lentAfter, entryWords, entriesIn}
@@ -51,3 +53,22 @@ entries-lie t lent a =
     cut-out (entryWords t) (entriesLeft t (length lent))
     (λ e m. entry-long t e a (taken-in (listed t (length lent) .1) (completeListing t) e (rw (entries-left t (length lent)) at m)))
     (drop (length (flatten (entriesLeft t (length lent)))) lent)
+
+-- lists of one length, one after the other, are as many times as long
+flat-long : (w : ℕ) (es : List (List ℕ)) → ((e : List ℕ) → List·Memᴰ e es → length e ≡ w) → length (flatten es) ≡ length es * w
+unfolding flatten
+flat-long w [] h = sym (zero-mul w)
+flat-long w (e ∷ es) h =
+    let s = flat-long w es (λ f m. h f (List·Memᴰ·tail m)) in
+    omega (arith, length-append e (flatten es), h e (List·Memᴰ·head refl), s, suc-mul (length es) w)
+
+-- the entries of the complete listing have together as many times the words of one
+pub listing-words : (t : List ℕ) → refusal t ≡ 0 → length (flatten (completeListing t)) ≡ length (completeListing t) * entryWords t
+listing-words t r = flat-long (entryWords t) (completeListing t) (λ e m. entry-long t e (accepted t .0 r) m)
+
+-- and so have those that a call leaves: k entries take k times the words of one
+pub left-words : (t : List ℕ) (lent : ℕ) → refusal t ≡ 0 → length (flatten (entriesLeft t lent)) ≡ listed t lent .1 * entryWords t
+unfolding listed
+left-words t lent r =
+    flat-long (entryWords t) (entriesLeft t lent)
+    (λ e m. entry-long t e (accepted t .0 r) (taken-in (listed t lent .1) (completeListing t) e (rw (entries-left t lent) at m)))

@@ -1,6 +1,6 @@
 -- A table gets no refusal exactly if all holds that acceptance means: no condition holds, and each says some of its fields.
 -- Assumes nothing.
-use Prim.Native.Nat.{ℕ, zero, suc, _+_, _<_}
+use Prim.Native.Nat.{ℕ, zero, suc, _+_, _<_, _≤_}
 use mathlib.Core.Bool.{Bool, false}
 use mathlib.Core.Path.{_≡_, refl, sym, ap, _∙_}
 use mathlib.Core.Logic.{_↔_}
@@ -13,7 +13,7 @@ use Rattle.table.specs.Limits.{headerWords, sections}
 use Rattle.table.specs.Layout.{nodesOf, argumentsOf, leftTermsOf, leftLabelsOf, rightTermsOf, rightLabelsOf, offset, size, section}
 use Rattle.table.specs.Code.Sections.{nodes, arguments, leftTerms, leftLabels, rightTerms, rightLabels}
 use Rattle.table.specs.Code.Reading.{HasSection, Sectioned, RunsInside}
-use Rattle.table.specs.Conditions.{tooFewWords, endBefore, wrongNode, wrongArgument, wrongTerm, wrongLabel}
+use Rattle.table.specs.Conditions.{tooFewWords, endBefore, limitOf, wrongNode, wrongArgument, wrongTerm, wrongLabel}
 use Rattle.table.specs.Refusal.{conditions, refusal}
 use Rattle.table.specs.Code.Accepted.{Accepted}
 use Rattle.table.proofs.ConditionLaws.{pairs-right, inside, section-size, limits-right, nodes-kept, counts-kept, nodes-right, runs-inside, arguments-kept, arguments-right, left-terms-kept, right-terms-kept, terms-right, labels-kept, labels-new, labels-right}
@@ -170,3 +170,21 @@ module _ (t : List ℕ) (a : Accepted t) where
       let e₄ = join _ leftLabels e₃ (omega arith) in
       let e₅ = join _ rightTerms e₄ (omega arith) in
       ap (λ (x : List ℕ). x ++ rightLabelsOf t) e₅ ∙ sym (take-add (offset t rightLabels) (size t rightLabels) t) ∙ take-all (offset t rightLabels + size t rightLabels) t (omega (arith, a .ends))
+
+-- an accepted table has at most 1572 words: twelve, and six sections within their limits
+pub table-most : (t : List ℕ) → refusal t ≡ 0 → length t ≤ 1572
+table-most t r =
+    let a = accepted t .0 r in
+    let most : (k : ℕ) → k < sections → size t k ≤ limitOf k = λ k h. rw (section-long t a k h) at (a .within-limits k h) in
+    let m₀ = most nodes (omega arith) in
+    let m₁ = most arguments (omega arith) in
+    let m₂ = most leftTerms (omega arith) in
+    let m₃ = most leftLabels (omega arith) in
+    let m₄ = most rightTerms (omega arith) in
+    let m₅ = most rightLabels (omega arith) in
+    let f₁ = a .follows nodes (omega arith) in
+    let f₂ = a .follows arguments (omega arith) in
+    let f₃ = a .follows leftTerms (omega arith) in
+    let f₄ = a .follows leftLabels (omega arith) in
+    let f₅ = a .follows rightTerms (omega arith) in
+    omega (arith, a .begins, a .ends, f₁, f₂, f₃, f₄, f₅, m₀, m₁, m₂, m₃, m₄, m₅)

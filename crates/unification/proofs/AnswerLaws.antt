@@ -1,6 +1,6 @@
 -- What a call answers and leaves in the lent words, for any table: whether it is refused is settled by the conditions, and the rest by what unifying the two nodes comes to.
 -- By cases on the answer. Assumes nothing.
-use Prim.Native.Nat.{ℕ, zero, suc, _<_, _≤_}
+use Prim.Native.Nat.{ℕ, zero, suc, _+_, _<_, _≤_}
 use mathlib.Core.List.{List, [], _∷_, _++_, List·Memᴰ·head, List·Memᴰ·eq-of-singleton}
 use mathlib.Core.Logic.{_↔_}
 use mathlib.Core.Path.{_≡_, refl, sym, ap, _∙_}
@@ -10,12 +10,13 @@ use lib.Dec.{leb}
 use lib.ListN.{length, take, drop, length-map, length-append, length-drop}
 use lib.Seq.{take-at, drop-at}
 use Rattle.table.specs.declared.Refusal.{Refusal}
+use Rattle.table.specs.Limits.{maxVariable}
 use Rattle.table.specs.Answer.{numberOf}
-use Rattle.table.specs.Refusal.{conditions, firstHeld}
+use Rattle.table.specs.Refusal.{conditions, firstHeld, refusal}
 use Rattle.table.specs.Code.Accepted.{Accepted}
 use Rattle.table.proofs.BoolLaws.{or-false-left, or-false-right, or-both-false}
 use Rattle.table.proofs.RefusalLaws.{First, later, none, first-means, most, most-none}
-use Rattle.table.proofs.AcceptedLaws.{pass, accepted-first}
+use Rattle.table.proofs.AcceptedLaws.{pass, accepted, accepted-first}
 use Rattle.table.proofs.AnswerLaws.{number-apart, numbered}
 use Rattle.terms.specs.Substitution.{Substitution}
 use Rattle.unification.specs.declared.Unification.{Unification}
@@ -29,7 +30,8 @@ use Rattle.unification.specs.Computed.Binding.{wordOf, bindingWords}
 use Rattle.unification.specs.Outcome.{Outcome, unified, clash, occurs}
 use Rattle.unification.specs.Computed.Unifying.{outcome, unifier, wordsOf}
 use Rattle.unification.specs.Answer.{told, variableCount, unifyConditions, Answer, ended, refused, answerAfter, unification, wordsAfter, lentAfter}
-use Rattle.unification.proofs.TableLaws.{well-formed}
+use Rattle.unification.proofs.VariableLaws.{variables-few}
+use Rattle.unification.proofs.TableLaws.{variable-most, well-formed}
 use Rattle.unification.proofs.JoinedLaws.{clash-none, cycle-none}
 use Rattle.unification.proofs.ReadingLaws.{reads-one}
 use Rattle.unification.proofs.OutcomeLaws.{outcome-unified, outcome-clash, outcome-occurs, words-readable, reading-most-general, words-least}
@@ -99,6 +101,13 @@ words-counted ns ps = length-map (variablesOf ns) (wordOf ns (unifier ns ps))
 pub words-long : (t : List ℕ) (ps : List (ℕ × ℕ)) → length (wordsOf (nodesIn t) ps) ≡ variableCount t
 unfolding variableCount
 words-long t ps = words-counted (nodesIn t) ps
+
+-- an accepted table has at most 64 variables, so that 64 lent words are always enough for them
+pub variables-most : (t : List ℕ) → refusal t ≡ 0 → variableCount t ≤ 64
+unfolding variableCount
+variables-most t r =
+    let a = accepted t .0 r in
+    variables-few (nodesIn t) (maxVariable + 1) (λ x p. omega (arith, variable-most t a x p))
 
 -- no call changes how many words are lent
 pub lent-long : (t : List ℕ) (a b : ℕ) (lent : List ℕ) → length (lentAfter t a b lent) ≡ length lent

@@ -10,7 +10,7 @@ use Rattle.table.specs.Layout.{word, nodesOf, argumentsOf, leftTermsOf, rightTe
 use Rattle.table.specs.Code.Sections.{nodes}
 use Rattle.table.specs.Code.Accepted.{Accepted, RightNode}
 use Rattle.table.proofs.AcceptedLaws.{arguments-inside}
-use Rattle.unification.specs.Node.{variable, application, nodesIn, nodeAt}
+use Rattle.unification.specs.Node.{variable, application, nodesIn, nodeAt, Present}
 use Rattle.unification.specs.Code.Given.{WellFormed}
 use Rattle.unification.specs.Code.Sections.{nodesFrom, Sections}
 use Rattle.unification.proofs.SectionLaws as section
@@ -66,6 +66,13 @@ module _ (t : List ℕ) (i : ℕ) (h : i < length (nodesIn t)) (g : Accepted t) 
   pub application-read : (f : ℕ) (us : List ℕ) → nodeAt (nodesIn t) i ≡ application f us ↔ ((kindOf (nodesOf t) i ≡ 1) × (f ≡ nameOf (nodesOf t) i) × (length us ≡ countOf (nodesOf t) i) × ((j : ℕ) → j < countOf (nodesOf t) i → getD us j 0 ≡ argumentOf (nodesOf t) (argumentsOf t) i j))
   application-read f us =
       rw (nodes-of-sections t) (section.section-application (nodesOf t) (argumentsOf t) (sections-of t g) i inside f us)
+
+-- "Its name is 0 to 63": that of each variable present
+pub variable-most : (t : List ℕ) → Accepted t → (x : ℕ) → Present (nodesIn t) x → x ≤ maxVariable
+variable-most t g x (i, h, e) =
+    let r = variable-read t i h g x .0 e in
+    let n = sections-of t g .variable-name i (inside t i h g) (r .0) in
+    omega (arith, r .1, n)
 
 -- in an accepted table each argument is smaller than its node
 pub well-formed : (t : List ℕ) → Accepted t → WellFormed (nodesIn t)

@@ -1,6 +1,6 @@
 -- The list `variablesOf` is rising and holds exactly the variables present: `insert` puts a number in its place, once.
 -- By induction on the list, and by cases on how the number compares with the first. Assumes nothing.
-use Prim.Native.Nat.{ℕ, zero, suc, _<_}
+use Prim.Native.Nat.{ℕ, zero, suc, _+_, _<_, _≤_}
 use mathlib.Core.Bool.{Bool, true, false, cond}
 use mathlib.Core.List.{List, [], _∷_, List·Memᴰ, List·Memᴰ·head, List·Memᴰ·tail, List·Memᴰ·cases-cons, List·Memᴰ·not-nil}
 use mathlib.Core.Logic.{_⊎_, inl, inr}
@@ -129,3 +129,17 @@ pub variables-one : (ns : List Node) (xs : List ℕ) → AreVariables ns xs → 
 variables-one ns xs v =
     rising-same _<_ (λ x y a b. absurd (omega (arith, a, b))) xs (variablesOf ns) (v .rising) (variables-rise ns)
     (λ x. ((λ m. present-variables ns x (v .present x .0 m)), (λ m. v .present x .1 (variables-present ns x m))))
+
+-- rising numbers from a on, all below n, are no more than lie between
+rising-few : (n a : ℕ) (xs : List ℕ) → a ≤ n → Rising _<_ xs → ((x : ℕ) → List·Memᴰ x xs → (a ≤ x) × (x < n)) → a + length xs ≤ n
+rising-few n a [] l r h = omega arith
+rising-few n a (x ∷ xs) l (before b r) h =
+    let f = h x (List·Memᴰ·head refl) in
+    let s = rising-few n (suc x) xs (omega (arith, f)) r (λ y m. (omega (arith, b y m), h y (List·Memᴰ·tail m) .1)) in
+    omega (arith, f, s)
+
+-- where every variable present is below n, there are at most n
+pub variables-few : (ns : List Node) (n : ℕ) → ((x : ℕ) → Present ns x → x < n) → length (variablesOf ns) ≤ n
+variables-few ns n h =
+    let s = rising-few n 0 (variablesOf ns) (omega arith) (variables-rise ns) (λ x m. (omega arith, h x (variables-present ns x m))) in
+    omega (arith, s)
