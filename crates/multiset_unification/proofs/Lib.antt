@@ -15,5 +15,6 @@ pub mod LentLaws
 pub mod Page14
 pub mod LabelLaws
 pub mod InstanceLaws
+pub mod Page14Laws
 pub mod AssignmentLaws
 pub mod Starred
