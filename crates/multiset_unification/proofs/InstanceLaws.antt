@@ -24,12 +24,14 @@ use Rattle.multiset_unification.specs.Choice.{inLeft, inRight}
 use Rattle.multiset_unification.specs.Entry.{pairsOf, digitsOf}
 use Rattle.multiset_unification.specs.Assignment.{Assignment, EqualSides}
 use Rattle.multiset_unification.specs.Instance.{Filled, Instance}
+use Rattle.multiset_unification.specs.Answer.{listed}
 use Rattle.multiset_unification.specs.Computed.Listing.{completeListing}
 use Rattle.multiset_unification.proofs.PlaceLaws.{with-digit-means}
 use Rattle.multiset_unification.proofs.EntryLaws.{entry-readable}
 use Rattle.multiset_unification.proofs.LabelLaws.{Different, heldBy, held-left, held-right}
 use Rattle.multiset_unification.proofs.FilledLaws.{filled}
 use Rattle.multiset_unification.proofs.CountLaws.{places-count, total-none}
+use Rattle.multiset_unification.proofs.AnswerLaws.{full-exactly, full-less}
 use Rattle.multiset_unification.proofs.Page14.{page14, page14-empty}
 
 -- rests that are all empty are nothing together
@@ -72,6 +74,15 @@ equal-somewhere t r = (
   (λ s. let i = page14 t r (s .0) .0 (s .1) in (i .0, i .1)),
   (λ s. let n = entry-instance t r (s .0) (s .1) in (n .0, page14 t r (n .0) .1 (s .0, s .1, n .1))),
 )
+
+-- where a call is answered as full, some assignment makes the sides equal
+pub full-somewhere : (t : List ℕ) (lent k : ℕ) → listed t lent ≡ (10, k) → (A : Assignment) × EqualSides t A
+full-somewhere t lent k e =
+    equal-somewhere t (accepted t .1 (full-exactly t lent k .0 e .0)) .1 (first (completeListing t) (full-less t lent k e))
+  where
+    first : (es : List (List ℕ)) → k < length es → (f : List ℕ) × List·Memᴰ f es
+    first [] h = absurd (omega arith)
+    first (f ∷ es) h = (f, List·Memᴰ·head refl)
 
 -- the complete listing is empty exactly if no assignment makes the sides equal
 pub empty-exactly : (t : List ℕ) → refusal t ≡ 0 → completeListing t ≡ [] ↔ ((A : Assignment) → EqualSides t A → ⊥)

@@ -1,0 +1,2 @@
+-- Laws of what the answers of a listing say.
+pub mod ClosingLaws
