@@ -1,4 +1,8 @@
-.PHONY: test demo lib install compare bench believed
+.PHONY: help test demo lib install compare bench believed
+
+# Says what there is to make.
+help:
+	@tools/help
 
 # Proves every crate from nothing, tries the edits that must be refused, and runs the tests. Ends in 'N passed, 0 failed'.
 test:
