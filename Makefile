@@ -31,10 +31,13 @@ compare:
 	PALLIHUN_LIB_DIR=$(CURDIR)/target/lib cargo build --manifest-path tests/in_process/Cargo.toml --release --offline --locked
 	@tools/compare --seed $(SEED) --count $(TABLES)
 
-# Times the library on the tables that bench/tables.py writes, or on those of the folder TABLES; with BASELINE=PROGRAM also that program, in
-# the same rounds. GROWTH=1: tables that grow; LENT=N: so many words are lent.
+# Times the library on the tables that bench/tables.py writes, or on those of the folder TABLES. GROWTH=1: tables that grow; LENT=N: so many
+# words are lent; ROUNDS=N: so many rounds, of which the least counts. In the same rounds, with ratios: with BEFORE=PROGRAM the program
+# bench/target/release/bench of another checkout, and with BASELINE=PROGRAM another program for the same job, which is called with --plain,
+# without looking ahead, on tables with `hopeless` in their names; with AHEAD=1 it never is.
 bench:
-	@tools/bench $(if $(TABLES),--tables "$(TABLES)") $(if $(BASELINE),--baseline "$(BASELINE)") $(if $(GROWTH),--growth) $(if $(LENT),--lent "$(LENT)")
+	@tools/bench $(if $(TABLES),--tables "$(TABLES)") $(if $(GROWTH),--growth) $(if $(LENT),--lent "$(LENT)") $(if $(ROUNDS),--rounds "$(ROUNDS)") \
+		$(if $(BEFORE),--before "$(BEFORE)") $(if $(BASELINE),--baseline "$(BASELINE)") $(if $(AHEAD),--ahead)
 
 # What a reader has to believe: the definitions that promises are made of, and the contracts of the public operations. It is kept in
 # docs/BELIEVED.txt.

@@ -1,15 +1,17 @@
-//! Times the listing of problem tables, beside another program where one is named.
+//! Times the listing of problem tables, beside other programs where they are named.
 //!
-//!     bench [--baseline PROGRAM] [--rounds N] [--lent WORDS] FOLDER
+//!     bench [--before PROGRAM] [--baseline PROGRAM [--ahead]] [--rounds N] [--lent WORDS] FOLDER
 //!     bench --count WORDS CALLS <TABLE
 //!
 //! The second form lists a table so many times into so many lent words, in a warm loop, and prints the answer
 //! (`Entries(K)`, `Full(K)` or `Refused(N)`) and the nanoseconds of a call. The first times every file of the folder whose
 //! name ends in `.tbl` (words of 32 bits, lowest byte first) by calling itself so, in rounds, and the least round counts.
-//! Each round is a process of its own, so that the library and the other program are treated alike.
+//! Each round is a process of its own, so that the library and the other programs are treated alike.
 //!
-//! The other program is called in the same way, in turn. On tables with `hopeless` in their names it is called as
-//! `PROGRAM --plain --count ..`: without looking ahead. An answer of its that is not the library's is an error.
+//! The other programs are called in the same way, in the same rounds: this program as another checkout has it (`before`),
+//! and a program for the same job (`baseline`). The baseline is called as `PROGRAM --plain --count ..`, without looking
+//! ahead, on tables with `hopeless` in their names, unless `--ahead` is given. An answer that is not the library's is an
+//! error. A table that another program refuses and the library does not is left out of that program's ratios.
 
 use std::fs::{self, File};
 use std::hint::black_box;
@@ -20,14 +22,22 @@ use std::time::Instant;
 
 use pallihun::{list, Listing};
 
-/// About how long a round is.
-const ROUND_NS: f64 = 10_000_000.0;
+/// About how long a round is: shorter than what a scheduler gives a process at a time, so that on a busy machine too some
+/// rounds are undisturbed.
+const ROUND_NS: f64 = 1_500_000.0;
 
 struct Options {
-    baseline: Option<PathBuf>,
+    others: Vec<Program>,
     rounds: usize,
     lent: usize,
     folder: PathBuf,
+}
+
+/// A program to time: what its column is called, and whether it is called with `--plain` on hopeless tables.
+struct Program {
+    title: &'static str,
+    path: PathBuf,
+    plain: bool,
 }
 
 fn main() {
@@ -43,19 +53,25 @@ fn main() {
 }
 
 fn options(mut words: impl Iterator<Item = String>) -> Result<Options, String> {
-    let (mut baseline, mut rounds, mut lent, mut folder) = (None, 7, 16_384, None);
+    let (mut before, mut baseline, mut plain) = (None, None, true);
+    let (mut rounds, mut lent, mut folder) = (15, 16_384, None);
     while let Some(word) = words.next() {
         let mut value = || words.next().ok_or(format!("{word} wants a value"));
         match word.as_str() {
+            "--before" => before = Some(PathBuf::from(value()?)),
             "--baseline" => baseline = Some(PathBuf::from(value()?)),
+            "--ahead" => plain = false,
             "--rounds" => rounds = number(&value()?)?.max(1),
             "--lent" => lent = number(&value()?)?,
             _ if folder.is_none() && !word.starts_with('-') => folder = Some(PathBuf::from(word)),
             _ => return Err(format!("{word} is not understood")),
         }
     }
-    let folder = folder.ok_or("usage: bench [--baseline PROGRAM] [--rounds N] [--lent WORDS] FOLDER")?;
-    Ok(Options { baseline, rounds, lent, folder })
+    let usage = "usage: bench [--before PROGRAM] [--baseline PROGRAM [--ahead]] [--rounds N] [--lent WORDS] FOLDER";
+    let folder = folder.ok_or(usage)?;
+    let before = before.map(|path| Program { title: "before", path, plain: false });
+    let baseline = baseline.map(|path| Program { title: "baseline", path, plain });
+    Ok(Options { others: before.into_iter().chain(baseline).collect(), rounds, lent, folder })
 }
 
 fn number(word: &str) -> Result<usize, String> {
@@ -87,63 +103,86 @@ fn spelt(answer: Listing) -> String {
     }
 }
 
-/// Times every table of the folder, and prints a line for each.
+/// Times every table of the folder, and prints a line for each, and for each other program what its ratios come to.
 fn bench(options: &Options) -> Result<(), String> {
-    let own = std::env::current_exe().map_err(|why| format!("this program: {why}"))?;
+    let path = std::env::current_exe().map_err(|why| format!("this program: {why}"))?;
+    let own = Program { title: "library", path, plain: false };
+    let programs: Vec<&Program> = std::iter::once(&own).chain(&options.others).collect();
     let tables = tables(&options.folder)?;
     let width = tables.iter().map(|path| name(path).len()).max().unwrap_or(0).max(5);
     print!("{:width$}  {:>14} {:>12} {:>10}", "table", "answer", "ns a call", "an entry");
-    println!("{}", if options.baseline.is_some() { "     baseline  ratio" } else { "" });
-    let mut logarithms = 0.0;
+    options.others.iter().for_each(|other| print!(" {:>12}  ratio", other.title));
+    println!();
+    let mut ratios = vec![Vec::new(); options.others.len()];
     for table in &tables {
-        let (answer, ns, other) = times(options, &own, table)?;
+        let (answer, times) = times(options, &programs, table)?;
+        let ns = times[0].unwrap_or(f64::NAN);
         print!("{:width$}  {answer:>14} {ns:>12.1} {:>10}", name(table), an_entry(ns, &answer));
-        match other {
-            Some(other) => println!(" {other:>12.1} {:>6.2}", ns / other),
-            None => println!(),
+        for (time, ratios) in times[1..].iter().zip(&mut ratios) {
+            match time {
+                Some(time) => print!(" {time:>12.1} {:>6.2}", ns / time),
+                None => print!(" {:>12} {:>6}", "refused", "-"),
+            }
+            ratios.extend(time.map(|time| (ns / time, name(table))));
         }
-        logarithms += other.map_or(0.0, |other| (ns / other).ln());
+        println!();
     }
-    if options.baseline.is_some() {
-        println!("geometric mean of the ratios: {:.2}", (logarithms / tables.len() as f64).exp());
+    for (other, ratios) in options.others.iter().zip(ratios) {
+        sum_up(other.title, &ratios);
     }
     Ok(())
 }
 
-/// The answer, and the nanoseconds of a call, the library's and the other program's: the least of rounds that take turns.
-fn times(options: &Options, own: &Path, table: &Path) -> Result<(String, f64, Option<f64>), String> {
-    let calls = |ns: f64| ((ROUND_NS / ns) as usize).clamp(3, 10_000_000);
-    let (answer, first) = round(own, false, table, options.lent, 3)?;
-    let (mut ns, mut other) = (first, None);
-    let (mut ours, mut theirs) = (calls(first), 3);
-    for _ in 0..options.rounds {
-        let (_, time) = round(own, false, table, options.lent, ours)?;
-        ns = f64::min(ns, time);
-        ours = calls(ns);
-        let Some(program) = &options.baseline else { continue };
-        let (said, time) = round(program, name(table).contains("hopeless"), table, options.lent, theirs)?;
-        if said != answer {
-            return Err(format!("{}: the library answers {answer}, {} {said}", name(table), program.display()));
+/// Prints the geometric mean of ratios and the greatest of them, with its table.
+fn sum_up(title: &str, ratios: &[(f64, String)]) {
+    let Some((greatest, table)) = ratios.iter().max_by(|one, other| one.0.total_cmp(&other.0)) else {
+        return println!("{title}: every table is refused");
+    };
+    let mean = (ratios.iter().map(|(ratio, _)| ratio.ln()).sum::<f64>() / ratios.len() as f64).exp();
+    println!("{title}: geometric mean of the ratios {mean:.2}, greatest {greatest:.2} ({table})");
+}
+
+/// The first program's answer, and the nanoseconds of a call of each program that does not refuse what the first one
+/// lists: the least of rounds, in which the programs take turns, forward and backward. A round of three calls, which does
+/// not count, says how many calls make a round.
+fn times(options: &Options, programs: &[&Program], table: &Path) -> Result<(String, Vec<Option<f64>>), String> {
+    let enough = |ns: f64| ((ROUND_NS / ns) as usize).clamp(3, 10_000_000);
+    let refuses = |answer: &str| answer.starts_with("Refused");
+    let (answer, first) = round(programs[0], table, options.lent, 3)?;
+    let mut calls = vec![Some(enough(first))];
+    for program in &programs[1..] {
+        let (said, first) = round(program, table, options.lent, 3)?;
+        if said != answer && (refuses(&answer) || !refuses(&said)) {
+            return Err(format!("{}: the library answers {answer}, {} {said}", name(table), program.path.display()));
         }
-        other = Some(other.map_or(time, |before: f64| before.min(time)));
-        theirs = calls(time);
+        calls.push((said == answer).then_some(enough(first)));
     }
-    Ok((answer, ns, other))
+    let mut times = vec![None; programs.len()];
+    for turn in 0..options.rounds {
+        for step in 0..programs.len() {
+            let at = if turn % 2 == 0 { step } else { programs.len() - 1 - step };
+            let Some(count) = calls[at] else { continue };
+            let (_, time) = round(programs[at], table, options.lent, count)?;
+            let least = times[at].map_or(time, |least: f64| least.min(time));
+            (times[at], calls[at]) = (Some(least), Some(enough(least)));
+        }
+    }
+    Ok((answer, times))
 }
 
 /// What a program answers to a table, and its nanoseconds of a call over so many, by its own account.
-fn round(program: &Path, plain: bool, table: &Path, lent: usize, calls: usize) -> Result<(String, f64), String> {
+fn round(program: &Program, table: &Path, lent: usize, calls: usize) -> Result<(String, f64), String> {
     let file = File::open(table).map_err(|why| format!("{}: {why}", table.display()))?;
-    let mut command = Command::new(program);
-    command.args(plain.then_some("--plain"));
+    let mut command = Command::new(&program.path);
+    command.args((program.plain && name(table).contains("hopeless")).then_some("--plain"));
     command.args(["--count", &lent.to_string(), &calls.to_string()]).stdin(file).stderr(Stdio::inherit());
-    let output = command.output().map_err(|why| format!("{}: {why}", program.display()))?;
+    let output = command.output().map_err(|why| format!("{}: {why}", program.path.display()))?;
     let line = String::from_utf8_lossy(&output.stdout);
     let read = || -> Option<(String, f64)> {
         let mut words = line.split_whitespace();
         Some((words.next()?.into(), words.next()?.parse().ok()?))
     };
-    read().ok_or_else(|| format!("{} prints {line:?}", program.display()))
+    read().ok_or_else(|| format!("{} prints {line:?}", program.path.display()))
 }
 
 /// The tables of a folder, by name.
