@@ -33,8 +33,8 @@ compare:
 
 # Times the library on the tables that bench/tables.py writes, or on those of the folder TABLES. GROWTH=1: tables that grow; LENT=N: so many
 # words are lent; ROUNDS=N: so many rounds, of which the least counts. In the same rounds, with ratios: with BEFORE=PROGRAM the program
-# bench/target/release/bench of another checkout, and with BASELINE=PROGRAM another program for the same job, which is called with --plain,
-# without looking ahead, on tables with `hopeless` in their names; with AHEAD=1 it never is.
+# bench/target/release/bench of another checkout, and with BASELINE=PROGRAM another program for the same job. The baseline alone is called
+# with --plain, without looking ahead, on tables with `hopeless` in their names; with AHEAD=1 it is not either.
 bench:
 	@tools/bench $(if $(TABLES),--tables "$(TABLES)") $(if $(GROWTH),--growth) $(if $(LENT),--lent "$(LENT)") $(if $(ROUNDS),--rounds "$(ROUNDS)") \
 		$(if $(BEFORE),--before "$(BEFORE)") $(if $(BASELINE),--baseline "$(BASELINE)") $(if $(AHEAD),--ahead)
