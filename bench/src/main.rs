@@ -139,7 +139,7 @@ fn sum_up(title: &str, ratios: &[(f64, String)]) {
         return println!("{title}: every table is refused");
     };
     let mean = (ratios.iter().map(|(ratio, _)| ratio.ln()).sum::<f64>() / ratios.len() as f64).exp();
-    println!("{title}: geometric mean of the ratios {mean:.2}, greatest {greatest:.2} ({table})");
+    println!("{title}: geometric mean of the ratios {mean:.3}, greatest {greatest:.2} ({table})");
 }
 
 /// The first program's answer, and the nanoseconds of a call of each program that does not refuse what the first one

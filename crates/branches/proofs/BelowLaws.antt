@@ -1,12 +1,11 @@
 -- What the walk writes is the complete listing: it meets the choices in their order, and leaves out those that a failed pair begins.
 -- By induction on the left terms still to go; more pairs have no more unifiers. Assumes nothing.
-use Prim.Native.Nat.{ℕ, zero, suc, _+_, _-_, _*_, _≤_, _<_}
+use Prim.Native.Nat.{ℕ, zero, suc, _+_, _-_, _≤_, _<_}
 use mathlib.Core.Bool.{Bool, true, false, cond, _&&_}
-use mathlib.Core.List.{List, [], _∷_, _++_, map, flatMap, flatten, append-assoc, List·Memᴰ, List·Memᴰ·head, List·Memᴰ·tail, List·Memᴰ·not-nil, List·Memᴰ·append-cases, Memᴰ·of-map}
+use mathlib.Core.List.{List, [], _∷_, _++_, map, flatMap, append-assoc, List·Memᴰ, List·Memᴰ·head, List·Memᴰ·tail, List·Memᴰ·not-nil, List·Memᴰ·append-cases, Memᴰ·of-map}
 use mathlib.Core.Logic.{_⊎_, inl, inr, _↔_}
 use mathlib.Core.Path.{_≡_, refl, sym, ap, _∙_}
 use native.Mathlib.Decide.{ℕ-discrete}
-use native.Mathlib.Nat.{mul-suc, mul-zero}
 use native.Mathlib.Omega.{arith}
 use borrow.Author.Tests.{eq-eqb, ne-eqb, leb-true, leb-false}
 use lib.Dec.{eqb, leb}
@@ -341,17 +340,6 @@ below-long ns rs k l (a ∷ ls) ds ps marks e m =
     (λ f n. let x = below-long ns rs k l ls (ds ++ d ∷ []) ((a, word rs (d - 1)) ∷ ps) (set marks (d - 1) 0) f n in omega (arith, x, u, z))
     (λ f n. let x = below-long ns rs k l ls (ds ++ d ∷ []) ps marks f n in omega (arith, x, u)))
     e m
-
--- lists of one length have that length, times their number, together
-pub flatten-long : (w : ℕ) (es : List (List ℕ)) → ((e : List ℕ) → List·Memᴰ e es → length e ≡ w) → length (flatten es) ≡ w * length es
-unfolding flatten
-flatten-long w [] h = sym (mul-zero w)
-flatten-long w (e ∷ es) h =
-    let x = h e (List·Memᴰ·head refl) in
-    let y = flatten-long w es (λ f m. h f (List·Memᴰ·tail m)) in
-    let u = length-append e (flatten es) in
-    let v = mul-suc w (length es) in
-    omega (arith, x, y, u, v)
 
 -- pairs that are not unified have no entries
 pub not-unified : (o : Outcome) (es : List (List ℕ)) → (o ≡ unified → ⊥) → ifUnified o es ≡ []

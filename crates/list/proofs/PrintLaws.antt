@@ -1,12 +1,12 @@
 -- What is printed for a table, by the answer of `listing::list` and the lent words: the entries lie in them one after the other, each
 -- of the same number of words. Assumes nothing.
-use Prim.Native.Nat.{ℕ, zero, suc, _-_, _*_, _≤_, _<_}
+use Prim.Native.Nat.{ℕ, _-_, _*_, _≤_, _<_}
 use mathlib.Core.Bool.{true, false, cond}
-use mathlib.Core.List.{List, [], _∷_, _++_, append-nil, flatten, flatMap, List·Memᴰ, List·Memᴰ·head, List·Memᴰ·tail}
+use mathlib.Core.List.{List, _++_, append-nil, flatten, flatMap}
 use mathlib.Core.Logic.{dite}
 use mathlib.Core.Path.{_≡_, refl, sym, ap, _∙_}
 use native.Mathlib.Decide.{decLt}
-use native.Mathlib.Nat.{mul-suc, mul-zero, sub-zero}
+use native.Mathlib.Nat.{mul-comm, sub-zero}
 use native.Mathlib.Omega.{arith}
 use borrow.Author.Tests.{eq-eqb, ne-eqb, lt-ltb, ltb-false}
 use lib.Dec.{eqb}
@@ -26,22 +26,12 @@ use Rattle.multiset_unification.specs.Answer.{entriesLeft, listed, lentAfter, e
 use Rattle.multiset_unification.specs.Computed.Choices.{rights, lefts, choices}
 use Rattle.multiset_unification.specs.Computed.Listing.{kept, choicesOf, completeListing}
 use Rattle.multiset_unification.proofs.AnswerLaws.{finished-exactly, full-exactly, entries-left, lent-long}
-use Rattle.multiset_unification.proofs.EntryLaws.{entry-long}
-use Rattle.multiset_unification.proofs.LentLaws.{entries-lie}
+use Rattle.multiset_unification.proofs.LentLaws.{entries-lie, left-words}
 use Rattle.text.specs.Line.{lines, titled}
 use Rattle.list.specs.Printed.{entriesText, fullText, refusedText, title, printedTable, printed}
 use Rattle.text.specs.Input.{wrongBytes, wordsOfBytes}
 use Rattle.text.specs.Code.Writing.{Wrote, parts}
 use Rattle.list.specs.Code.Printing.{Printable}
-
--- lists of one length, one after the other
-flat-long : (w k : ℕ) (es : List (List ℕ)) → ((e : List ℕ) → List·Memᴰ e es → length e ≡ w) → length (flatten (take k es)) ≡ w * length (take k es)
-unfolding flatten
-flat-long w zero es h = sym (mul-zero w)
-flat-long w (suc k) [] h = sym (mul-zero w)
-flat-long w (suc k) (e ∷ es) h =
-    length-append e (flatten (take k es))
-    ∙ omega (arith, h e (List·Memᴰ·head refl), flat-long w k es (λ f m. h f (List·Memᴰ·tail m)), mul-suc w (length (take k es)))
 
 kept-one : {A : Type 0} (o : Outcome) (e : A) → length (kept o e) ≤ 1
 unfolding kept
@@ -70,8 +60,7 @@ module _ (t lent words : List ℕ) (k width : ℕ) (long : length lent ≡ 16384
     -- as many words as they have
     words-right : width * k ≡ length (flatten (entriesLeft t (length lent)))
     words-right =
-        rw (width-right, entries-left t (length lent), ← count-right)
-        (sym (flat-long (entryWords t) (listed t (length lent) .1) (completeListing t) (λ e m. entry-long t e a m)))
+        rw (width-right, counted) (mul-comm (entryWords t) (listed t (length lent) .1) ∙ sym (left-words t (length lent) (accepted t .1 a)))
 
     flat-inside : length (flatten (entriesLeft t (length lent))) ≤ length lent
     unfolding lentAfter

@@ -5,7 +5,6 @@ use mathlib.Core.Bool.{Bool, true, false, cond}
 use mathlib.Core.List.{List, [], _∷_, _++_, flatten, List·Memᴰ, List·Memᴰ·not-nil}
 use mathlib.Core.Path.{_≡_, refl, sym, ap, _∙_}
 use native.Mathlib.Decide.{decLt}
-use native.Mathlib.Nat.{mul-comm}
 use native.Mathlib.Omega.{arith}
 use borrow.Author.Tests.{lt-ltb, le-ltb, le-leb}
 use lib.Arith.{digits-div}
@@ -40,7 +39,7 @@ use Rattle.multiset_unification.specs.Answer.{told, fitting, listed, lentAfter}
 use Rattle.multiset_unification.specs.Computed.Listing.{completeListing}
 use Rattle.multiset_unification.specs.Page14.{Page14}
 use Rattle.multiset_unification.proofs.AnswerLaws.{fitting-all, fitting-first, fitting-left, answered-refused, answered-finished, answered-full, refused-nothing}
-use Rattle.multiset_unification.proofs.LentLaws.{taken-in}
+use Rattle.multiset_unification.proofs.LentLaws.{flatten-long, taken-in}
 use Rattle.multiset_unification.proofs.Page14.{page14-finished}
 use Rattle.branches.specs.declared.Labels.{Labels}
 use Rattle.entries.specs.declared.Written.{Written}
@@ -54,14 +53,14 @@ use Rattle.listing.specs.Code.Calling.{Answers}
 use Rattle.branches.proofs.MemoryLaws.{remembers-none}
 use Rattle.branches.proofs.KnownLaws.{variables-few}
 use Rattle.branches.proofs.HopelessLaws.{unpaired-ones}
-use Rattle.branches.proofs.BelowLaws.{below-listing, below-long, flatten-long}
+use Rattle.branches.proofs.BelowLaws.{below-listing, below-long}
 use Rattle.branches.proofs.BranchLaws.{paired-none}
 
 -- of entries that have one length as many fit as that length goes into their words
 fitting-counted : (width lent : ℕ) (es : List (List ℕ)) → 0 < width → ((e : List ℕ) → List·Memᴰ e es → length e ≡ width) → length (flatten (fitting lent es)) / width ≡ length (fitting lent es)
 fitting-counted width lent es h l =
     let e = flatten-long width (fitting lent es) (λ e m. l e (taken-in (length (fitting lent es)) es e (rw (fitting-first lent es) at m))) in
-    let q : length (flatten (fitting lent es)) ≡ length (fitting lent es) * width + 0 = e ∙ mul-comm width (length (fitting lent es)) ∙ omega arith in
+    let q : length (flatten (fitting lent es)) ≡ length (fitting lent es) * width + 0 = e ∙ omega arith in
     ap (λ (n : ℕ). n / width) q ∙ digits-div (length (fitting lent es)) h
 
 module _ {es : List (List ℕ)} {lent lent′ : List ℕ} {w : Written} (x : Writes es lent 0 lent′ w) (width : ℕ) (h : 0 < width) (l : (e : List ℕ) → List·Memᴰ e es → length e ≡ width) where

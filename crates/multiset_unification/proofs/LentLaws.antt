@@ -55,20 +55,20 @@ entries-lie t lent a =
     (drop (length (flatten (entriesLeft t (length lent)))) lent)
 
 -- lists of one length, one after the other, are as many times as long
-flat-long : (w : ℕ) (es : List (List ℕ)) → ((e : List ℕ) → List·Memᴰ e es → length e ≡ w) → length (flatten es) ≡ length es * w
+pub flatten-long : (w : ℕ) (es : List (List ℕ)) → ((e : List ℕ) → List·Memᴰ e es → length e ≡ w) → length (flatten es) ≡ length es * w
 unfolding flatten
-flat-long w [] h = sym (zero-mul w)
-flat-long w (e ∷ es) h =
-    let s = flat-long w es (λ f m. h f (List·Memᴰ·tail m)) in
+flatten-long w [] h = sym (zero-mul w)
+flatten-long w (e ∷ es) h =
+    let s = flatten-long w es (λ f m. h f (List·Memᴰ·tail m)) in
     omega (arith, length-append e (flatten es), h e (List·Memᴰ·head refl), s, suc-mul (length es) w)
 
 -- the entries of the complete listing have together as many times the words of one
 pub listing-words : (t : List ℕ) → refusal t ≡ 0 → length (flatten (completeListing t)) ≡ length (completeListing t) * entryWords t
-listing-words t r = flat-long (entryWords t) (completeListing t) (λ e m. entry-long t e (accepted t .0 r) m)
+listing-words t r = flatten-long (entryWords t) (completeListing t) (λ e m. entry-long t e (accepted t .0 r) m)
 
 -- and so have those that a call leaves: k entries take k times the words of one
 pub left-words : (t : List ℕ) (lent : ℕ) → refusal t ≡ 0 → length (flatten (entriesLeft t lent)) ≡ listed t lent .1 * entryWords t
 unfolding listed
 left-words t lent r =
-    flat-long (entryWords t) (entriesLeft t lent)
+    flatten-long (entryWords t) (entriesLeft t lent)
     (λ e m. entry-long t e (accepted t .0 r) (taken-in (listed t lent .1) (completeListing t) e (rw (entries-left t lent) at m)))
