@@ -1,7 +1,7 @@
 -- A branch of the walk, as it stands in an entry: what one digit more, a mark of 0 and a mark put back make of it.
 -- By the places that are set. Assumes nothing.
 use Prim.Native.Nat.{ℕ, suc, _+_, _-_, _*_, _^_, _≤_, _<_}
-use mathlib.Core.Bool.{Bool, true, false, cond}
+use mathlib.Core.Bool.{Bool, true, false, cond, _||_}
 use mathlib.Core.List.{List, [], _∷_, _++_}
 use mathlib.Core.Path.{_≡_, refl, sym, ap, _∙_}
 use native.Mathlib.Decide.{ℕ-discrete}
@@ -9,14 +9,15 @@ use native.Mathlib.Nat.{pow-suc}
 use native.Mathlib.Numerals.{add-one}
 use native.Mathlib.Omega.{arith}
 use borrow.Author.Tests.{lt-leb, le-leb, leb-true, eq-eqb, ne-eqb}
-use lib.Dec.{leb}
+use lib.Dec.{eqb, leb}
 use lib.ListN.{length, take, drop, set, List·getD-append, length-drop}
 use lib.Seq.{length-take-le, take-suc-set, take-set-le, take-set-lt, drop-set-lt, drop-set-add, getD-take, getD-drop, getD-append-add}
+use Rattle.table.specs.Limits.{maxTerms}
 use Rattle.table.specs.Layout.{word}
 use Rattle.unification.specs.Node.{Node}
 use Rattle.unification.specs.Computed.Unifying.{outcome}
 use Rattle.unification.specs.Code.Given.{Inside}
-use Rattle.branches.specs.Code.Branch.{pairedBy, marksIn}
+use Rattle.branches.specs.Code.Branch.{pairedBy, marksIn, FreeMark}
 use Rattle.branches.specs.Code.Memory.{keyOf}
 use Rattle.branches.specs.Code.Walk.{ifUnified, onDigit, unpairedIn, Branching, KeepsBranch}
 use Rattle.branches.proofs.BelowLaws.{inside-more}
@@ -164,3 +165,19 @@ module _ {words args left right entry : List ℕ} {key weight unpaired i : ℕ} 
           let r : j < i = omega (arith, q, e) in
           let y : word entry′ j ≡ word entry j = there j q ∙ List·getD-append (take i entry) (d ∷ []) 0 j (omega (arith, long, r)) ∙ getD-take i entry j 0 r in
           rw y (g .positive j r)
+
+-- the mark of a right term that is paired, or has no common value with the left one: m is the place of the mark of the two
+pub free-none : (left known entry : List ℕ) (i d m : ℕ) → m ≡ 256 + (maxTerms * i + (d - 1)) → eqb (word entry (length left + d - 1)) 0 || eqb (word known m) 0 ≡ true → FreeMark left known entry i d 0
+free-none left known entry i d m e h =
+    record {
+      none = λ z. ap (λ (k : ℕ). eqb (word entry (length left + d - 1)) 0 || eqb (word known k) 0) (sym e) ∙ h;
+      some = λ n. absurd (n refl);
+    }
+
+-- that of any other
+pub free-some : (left known entry : List ℕ) (i d : ℕ) → FreeMark left known entry i d (word entry (length left + d - 1))
+free-some left known entry i d =
+    record {
+      none = λ z. ap (λ (b : Bool). b || eqb (word known (256 + (maxTerms * i + (d - 1)))) 0) (eq-eqb (word entry (length left + d - 1)) 0 z);
+      some = λ n. refl;
+    }

@@ -1,5 +1,8 @@
 // Branches of the walk over the choices: what is known of them before it, and what is remembered on the way.
 
+// A branch as it stands in an entry, read and stored for a digit more.
+pub mod branch;
+
 // What is known of nodes and of pairs of terms, in bytes.
 pub mod known;
 

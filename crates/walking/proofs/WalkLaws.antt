@@ -30,7 +30,7 @@ use Rattle.classes.specs.Code.Trail.{links, gone, Trailed, Since, Before}
 use Rattle.branches.specs.declared.Labels.{Labels}
 use Rattle.entries.specs.declared.Written.{Written}
 use Rattle.entries.specs.Code.Writing.{Writes, Remains}
-use Rattle.branches.specs.Code.Branch.{Listable, pairedBy, pairsIn, marksIn}
+use Rattle.branches.specs.Code.Branch.{Listable, pairedBy, pairsIn, marksIn, FreeMark}
 use Rattle.branches.specs.Code.Memory.{keyOf, slotOf, Remembers}
 use Rattle.branches.specs.Code.Partners.{stuck}
 use Rattle.branches.specs.Code.Known.{mayIn}
@@ -103,19 +103,9 @@ module _ {words args left right : List ℕ} {labels : Labels} {known prepared cs
       rw (length-drop i left, ← g .branching .counted) h in
       nothing-below (g .remembers) (g .room) (below-hopeless (nodesFrom words args) right (labels .left) (labels .right) (drop i left) (take i entry) (pairsIn left right entry i) (marksIn left right entry) e)
 
-  -- the marks, as they are lent
-  lent-marks : take (length left + length right - length left) (drop (length left) entry) ≡ marksIn left right entry
-  lent-marks =
-      let c : length left + length right - length left ≡ length right = omega arith in
-      ap (λ (n : ℕ). take n (drop (length left) entry)) c
-
-  pub stuck-room : length (take (length left + length right - length left) (drop (length left) entry)) ≤ maxTerms
-  stuck-room = rw lent-marks (omega (arith, marks-long (g .branching), g .listable .right-few))
-
   -- nor has one with a term that must be paired and has no partner
-  pub stuck-walked : stuck (labels .left) (labels .right) (mayIn known) i (length left) (take (length left + length right - length left) (drop (length left) entry)) ≡ true → Walked words args left right labels i entry memory lent at entry memory lent (idle at)
-  stuck-walked h =
-      let s : stuck (labels .left) (labels .right) (mayIn known) i (length left) (marksIn left right entry) ≡ true = rw (← lent-marks) h in
+  pub stuck-walked : stuck (labels .left) (labels .right) (mayIn known) i (length left) (marksIn left right entry) ≡ true → Walked words args left right labels i entry memory lent at entry memory lent (idle at)
+  stuck-walked s =
       nothing-below (g .remembers) (g .room) (below-stuck words args left right (mayIn known) labels i (take i entry) (pairsIn left right entry i) (marksIn left right entry) (g .listable) (g .partners) (g .branching .depth) (marks-long (g .branching)) (branch-inside (g .listable) (g .branching)) s)
 
   -- what is known of a branch stands where it is kept
@@ -193,8 +183,9 @@ module _ {words args left right : List ℕ} {labels : Labels} {known prepared cs
       pairs-placed = rw digits-next (paired-placed left right (take i entry) d [] l)
 
       -- the walk goes on with it
-      pub placed-next : Walking words args left right labels known prepared cs next key (weight * 16) unpaired (i + 1) (set entry i d) memory lent at
-      placed-next =
+      pub placed-next : {entry₁ : List ℕ} → entry₁ ≡ set entry i d → Walking words args left right labels known prepared cs next key (weight * 16) unpaired (i + 1) entry₁ memory lent at
+      placed-next z =
+          rw z
           record {
             listable = g .listable;
             known-right = g .known-right;
@@ -215,39 +206,43 @@ module _ {words args left right : List ℕ} {labels : Labels} {known prepared cs
           ∙ rw (pairs-placed, digits-next, set-marks left right entry i d h) refl
 
       -- so that they are written
-      pub placed-stepped : {entry′ memory′ lent′ : List ℕ} {w : Written} → Walked words args left right labels (i + 1) (set entry i d) memory lent at entry′ memory′ lent′ w → Stepped words args left right labels i d entry memory lent at entry′ memory′ lent′ w
-      placed-stepped {entry′} y =
+      pub placed-stepped : {entry₁ entry′ memory′ lent′ : List ℕ} {w : Written} → entry₁ ≡ set entry i d → Walked words args left right labels (i + 1) entry₁ memory lent at entry′ memory′ lent′ w → Stepped words args left right labels i d entry memory lent at entry′ memory′ lent′ w
+      placed-stepped {entry₁} {entry′} z y =
           record {
-            writes = rw placed-entries (y .writes);
-            size = y .size ∙ length-set entry i d;
-            keeps = λ z. record { digits = digits-before entry′ (y .keeps z .digits ∙ digits-next); marks = y .keeps z .marks ∙ set-marks left right entry i d h };
+            writes = rw (placed-entries, ← z) (y .writes);
+            size = y .size ∙ ap length z ∙ length-set entry i d;
+            keeps = λ f. record { digits = digits-before entry′ (y .keeps f .digits ∙ ap (take (i + 1)) z ∙ digits-next); marks = y .keeps f .marks ∙ ap (marksIn left right) z ∙ set-marks left right entry i d h };
             remembers = y .remembers;
           }
 
-    -- a left term paired with the right term that the digit counts to: q is the place of its mark, m that of the mark of the two
-    module _ (l : d ≤ length right) (q : ℕ) (e : q ≡ length left + d - 1) (m : ℕ) where
+    -- a left term paired with the right term that the digit counts to, by its mark
+    module _ (l : d ≤ length right) {mark : ℕ} (f : FreeMark left known entry i d mark) where
+      -- The place of the mark.
+      abbrev q : ℕ
+      q = length left + d - 1
+
+      -- The place of the mark of the two.
+      abbrev m : ℕ
+      m = 256 + (maxTerms * i + (d - 1))
+
       -- it is paired already, or the two have no common value
-      pub refused-stepped : m ≡ 256 + (maxTerms * i + (d - 1)) → eqb (word entry q) 0 || eqb (word known m) 0 ≡ true → Stepped words args left right labels i d entry memory lent at entry memory lent (idle at)
-      refused-stepped f t = nothing-below (g .remembers) (g .room) (pick (eqb (word entry q) 0) refl (eqb (word known m) 0) refl t)
+      pub refused-stepped : mark ≡ 0 → Stepped words args left right labels i d entry memory lent at entry memory lent (idle at)
+      refused-stepped t = nothing-below (g .remembers) (g .room) (pick (eqb (word entry q) 0) refl (eqb (word known m) 0) refl (f .none t))
         where
           mark-known : word (mayIn known) (maxTerms * i + (d - 1)) ≡ word known (256 + (maxTerms * i + (d - 1)))
           mark-known = may-word known (maxTerms * i + (d - 1)) (omega (arith, h, p, l, g .listable .left-few, g .listable .right-few))
 
           pick : (x : Bool) → eqb (word entry q) 0 ≡ x → (y : Bool) → eqb (word known m) 0 ≡ y → x || y ≡ true → digitEntries words args left right labels entry i d ≡ []
           pick true z y u v =
-              digit-taken (nodesFrom words args) right (below (nodesFrom words args) right (labels .left) (labels .right) (drop (i + 1) left)) (take i entry) (pairsIn left right entry i) (marksIn left right entry) (word left i) d l (mark-word left right entry q d e p l ∙ eqb-true (word entry q) 0 z)
+              digit-taken (nodesFrom words args) right (below (nodesFrom words args) right (labels .left) (labels .right) (drop (i + 1) left)) (take i entry) (pairsIn left right entry i) (marksIn left right entry) (word left i) d l (mark-word left right entry q d refl p l ∙ eqb-true (word entry q) 0 z)
           pick false z true u v =
-              may-none words args left right (mayIn known) labels i d (below (nodesFrom words args) right (labels .left) (labels .right) (drop (i + 1) left)) (take i entry) (pairsIn left right entry i) (marksIn left right entry) (g .listable) (g .partners) h p l (branch-inside (g .listable) (g .branching)) (mark-known ∙ ap (word known) (sym f) ∙ eqb-true (word known m) 0 u)
+              may-none words args left right (mayIn known) labels i d (below (nodesFrom words args) right (labels .left) (labels .right) (drop (i + 1) left)) (take i entry) (pairsIn left right entry i) (marksIn left right entry) (g .listable) (g .partners) h p l (branch-inside (g .listable) (g .branching)) (mark-known ∙ eqb-true (word known m) 0 u)
           pick false z false u v = absurd (false≢true v)
 
-      module _ (n : eqb (word entry q) 0 || eqb (word known m) 0 ≡ false) where
-        -- neither mark is 0, so the right term is not paired
+      module _ (n : mark ≡ 0 → ⊥) where
+        -- the mark is not 0, so the right term is not paired
         unmarked : word (marksIn left right entry) (d - 1) ≡ 0 → ⊥
-        unmarked z = pick (eqb (word entry q) 0) refl n
-          where
-            pick : (x : Bool) → eqb (word entry q) 0 ≡ x → x || eqb (word known m) 0 ≡ false → ⊥
-            pick true y f = false≢true (sym f)
-            pick false y f = eqb-false (word entry q) 0 y (sym (mark-word left right entry q d e p l) ∙ z)
+        unmarked z = n (f .some n ∙ sym (mark-word left right entry q d refl p l) ∙ z)
 
         -- The entry with the digit, in which the right term is marked as paired.
         abbrev paired : List ℕ
@@ -255,19 +250,15 @@ module _ {words args left right : List ℕ} {labels : Labels} {known prepared cs
 
         -- the digit comes behind those before it
         paired-digits : take (i + 1) paired ≡ take i entry ++ d ∷ []
-        paired-digits = mark-digits left right (set entry i d) q d e p l (i + 1) 0 (omega (arith, h)) ∙ digits-next
+        paired-digits = mark-digits left right (set entry i d) q d refl p l (i + 1) 0 (omega (arith, h)) ∙ digits-next
 
         -- the right term is marked
         paired-marks : marksIn left right paired ≡ set (marksIn left right entry) (d - 1) 0
-        paired-marks = mark-marks left right (set entry i d) q d e p l 0 ∙ ap (λ (zs : List ℕ). set zs (d - 1) 0) (set-marks left right entry i d h)
+        paired-marks = mark-marks left right (set entry i d) q d refl p l 0 ∙ ap (λ (zs : List ℕ). set zs (d - 1) 0) (set-marks left right entry i d h)
 
         -- the entry is as long as before
         paired-long : length paired ≡ length entry
         paired-long = length-set (set entry i d) q 0 ∙ length-set entry i d
-
-        -- the place of the mark is in an entry that was written with it
-        pub mark-inside : {es : List (List ℕ)} {j : ℕ} {entry′ memory′ lent′ : List ℕ} {w : Written} → WritesBelow es words args left right j paired memory lent at entry′ memory′ lent′ w → q < length entry′
-        mark-inside y = omega (arith, y .size, paired-long, branch-room (g .branching), e, p, l)
 
         -- one right term less is unpaired
         unpaired-next : unpaired ≡ suc (unpairedIn (marksIn left right paired))
@@ -292,10 +283,11 @@ module _ {words args left right : List ℕ} {labels : Labels} {known prepared cs
             ∙ paired-more left right (take i entry) d [] (omega (arith, digits-long, h)) l
             ∙ ap (λ (j : ℕ). (word left j, word right (d - 1)) ∷ pairsIn left right entry i) digits-long
 
-        module _ {a b : ℕ} (x : a ≡ word left i) (y : b ≡ word right (d - 1)) where
+        module _ {entry₁ : List ℕ} (z : entry₁ ≡ paired) where
           -- the pair is to be joined to the classes
-          pub joining : Joining words args left right labels known prepared cs next (key + d * weight) (weight * 16) (unpaired - 1) i a b paired memory lent at
+          pub joining : Joining words args left right labels known prepared cs next (key + d * weight) (weight * 16) (unpaired - 1) i (word left i) (word right (d - 1)) entry₁ memory lent at
           joining =
+              rw z
               record {
                 listable = g .listable;
                 known-right = g .known-right;
@@ -305,9 +297,9 @@ module _ {words args left right : List ℕ} {labels : Labels} {known prepared cs
                 ready = g .ready;
                 standing = record { pairs = g .standing .pairs; stands = g .standing .stands; unifiers = λ σ. rw pairs-before (g .standing .unifiers σ) };
                 branching = branching-next (g .branching) h p paired-long paired-digits keyed (omega (arith, unpaired-next));
-                pair = rw (pairs-next, pairs-before, x, y) refl;
-                first = rw x (g .listable .left-nodes i h);
-                second = rw y (g .listable .right-nodes (d - 1) (omega (arith, p, l)));
+                pair = rw (pairs-next, pairs-before) refl;
+                first = g .listable .left-nodes i h;
+                second = g .listable .right-nodes (d - 1) (omega (arith, p, l));
                 remembers = g .remembers;
                 room = g .room;
               }
@@ -316,28 +308,33 @@ module _ {words args left right : List ℕ} {labels : Labels} {known prepared cs
               keyed = rw (key-paired (length right) (take i entry) d l, digits-long, ← g .branching .weighed, ← g .branching .keyed) refl
 
           -- its entries are those below it, if it can be
-          joined-entries : digitEntries words args left right labels entry i d ≡ ifUnified (outcome (nodesFrom words args) ((a, b) ∷ pairsIn left right paired i)) (branchEntries words args left right labels paired (i + 1))
+          joined-entries : digitEntries words args left right labels entry i d ≡ ifUnified (outcome (nodesFrom words args) ((word left i, word right (d - 1)) ∷ pairsIn left right paired i)) (branchEntries words args left right labels paired (i + 1))
           joined-entries =
               digit-pair (nodesFrom words args) right (below (nodesFrom words args) right (labels .left) (labels .right) (drop (i + 1) left)) (take i entry) (pairsIn left right entry i) (marksIn left right entry) (word left i) d l unmarked
-              ∙ rw (pairs-next, pairs-before, paired-digits, paired-marks, x, y) refl
+              ∙ rw (pairs-next, pairs-before, paired-digits, paired-marks) refl
 
-          -- the mark is put back
-          pub joined-stepped : {entry′ memory′ lent′ : List ℕ} {w : Written} {v : ℕ} → v ≡ word entry q → WalkedJoined words args left right labels i a b paired memory lent at entry′ memory′ lent′ w → Stepped words args left right labels i d entry memory lent at (set entry′ q v) memory′ lent′ w
-          joined-stepped {entry′} {memory′} {lent′} {w} {v} u r =
-              record {
-                writes = rw joined-entries (r .writes);
-                size = length-set entry′ q v ∙ r .size ∙ paired-long;
-                keeps = λ z. record { digits = mark-digits left right entry′ q d e p l i v (omega (arith, h)) ∙ digits-before entry′ (r .keeps z .digits ∙ paired-digits); marks = marks z };
-                remembers = r .remembers;
-              }
-            where
-              marks : w .missed ≡ 0 → marksIn left right (set entry′ q v) ≡ marksIn left right entry
-              marks z =
-                  mark-marks left right entry′ q d e p l v
-                  ∙ ap (λ (zs : List ℕ). set zs (d - 1) v) (r .keeps z .marks ∙ paired-marks)
-                  ∙ set-set (marksIn left right entry) (d - 1) 0 v
-                  ∙ ap (set (marksIn left right entry) (d - 1)) (u ∙ sym (mark-word left right entry q d e p l))
-                  ∙ set-getD (marksIn left right entry) (d - 1) 0
+          module _ {entry′ memory′ lent′ : List ℕ} {w : Written} (r : WalkedJoined words args left right labels i (word left i) (word right (d - 1)) entry₁ memory lent at entry′ memory′ lent′ w) where
+            -- the place of the mark is in what is left of the entry
+            pub mark-inside : length left + d ≤ length entry′
+            mark-inside = omega (arith, r .size, ap length z, paired-long, branch-room (g .branching), p, l)
+
+            -- the mark is put back
+            pub joined-stepped : {entry″ : List ℕ} → entry″ ≡ set entry′ q mark → Stepped words args left right labels i d entry memory lent at entry″ memory′ lent′ w
+            joined-stepped {entry″} u =
+                record {
+                  writes = rw (joined-entries, ← z) (r .writes);
+                  size = ap length u ∙ length-set entry′ q mark ∙ r .size ∙ ap length z ∙ paired-long;
+                  keeps = λ k. record { digits = ap (take i) u ∙ mark-digits left right entry′ q d refl p l i mark (omega (arith, h)) ∙ digits-before entry′ (r .keeps k .digits ∙ ap (take (i + 1)) z ∙ paired-digits); marks = ap (marksIn left right) u ∙ marks k };
+                  remembers = r .remembers;
+                }
+              where
+                marks : w .missed ≡ 0 → marksIn left right (set entry′ q mark) ≡ marksIn left right entry
+                marks k =
+                    mark-marks left right entry′ q d refl p l mark
+                    ∙ ap (λ (zs : List ℕ). set zs (d - 1) mark) (r .keeps k .marks ∙ ap (marksIn left right) z ∙ paired-marks)
+                    ∙ set-set (marksIn left right entry) (d - 1) 0 mark
+                    ∙ ap (set (marksIn left right entry) (d - 1)) (f .some n ∙ sym (mark-word left right entry q d refl p l))
+                    ∙ set-getD (marksIn left right entry) (d - 1) 0
 
   -- before the first digit
   pub turning-first : i < length left → Turning words args left right labels i entry lent at 1 entry memory lent at
@@ -451,8 +448,12 @@ module _ {words args left right : List ℕ} {labels : Labels} {known prepared cs
   pub mark-room : 256 < length next
   mark-room = omega (arith, g .trailed .size)
 
-  -- the two nodes have one head already
-  module _ (e : classOf cs a ≡ classOf cs b) where
+  -- the two nodes have one head already: x is whether they have
+  module _ {x : Bool} (y : x ≡ eqb (word cs a) (word cs b)) (o : x ≡ true) where
+    -- by the test
+    e : classOf cs a ≡ classOf cs b
+    e = eqb-true (word cs a) (word cs b) (sym y ∙ o)
+
     -- the classes stand for the pair as well
     at-once : Stands words args cs ((a, b) ∷ g .standing .pairs)
     at-once = together words args known cs (g .listable .sections) (g .formed) a b (g .first) (g .second) e (g .standing .pairs) (g .standing .stands)

@@ -5,7 +5,7 @@
 // right terms are not paired, and what is remembered of binding words (`memory`).
 ghost use mathlib.Core.Path.{_≡_};
 ghost use mathlib.Core.Logic.{_⊎_};
-ghost use Prim.Native.Nat.{_+_, _<_, _≤_};
+ghost use Prim.Native.Nat.{_+_, _-_, _<_, _≤_};
 ghost use lib.ListN.{length};
 ghost use Rattle.table.specs.Layout.{word};
 ghost use Rattle.unification.specs.Outcome.{unified};
@@ -13,31 +13,18 @@ ghost use Rattle.unification.specs.Computed.Unifying.{outcome};
 ghost use Rattle.unification.specs.Code.Sections.{nodesFrom};
 ghost use Rattle.branches.specs.Code.Branch.{Listable, pairsIn};
 ghost use Rattle.branches.specs.Code.Memory.{slotOf, Remembers};
-ghost use Rattle.branches.specs.Code.Walk.{hopeless as hopelessFor, Branching, Walking, Ending, Walked, Stepped, Joining, WalkedJoined};
+ghost use Rattle.branches.specs.Code.Walk.{Branching, Walking, Ending, Walked, Stepped, Joining, WalkedJoined};
 use branches::Labels;
-use branches::known::LIST;
-use branches::known::MAY;
+use branches::branch;
 use branches::memory;
-use branches::partners::stuck;
 use classes::Extended;
-use classes::settle::extend;
 use classes::trail::GONE;
 use classes::trail::undo;
 use entries::Written;
 use entries::writing;
-use table::Node;
-use table::layout;
-use table::limits::MAX_TERMS;
 
 // What a key is multiplied by for each left digit: more than any right term's number.
 const BASE: usize = 16;
-
-// Whether a side without labels leaves terms of the other without a partner.
-fn hopeless(labels: Labels, left: usize, unpaired: usize) -> bool
-    ensures { λ r. ⌜ r ≡ hopelessFor (labels .left) (labels .right) left unpaired ⌝ }
-{
-    (labels.left == 0) & (left < unpaired) | (labels.right == 0) & (unpaired < left)
-}
 
 // Writes the entries of a branch in which every left term has its digit, or every right term is paired, and whose binding words stand in the
 // entry: all have the same.
@@ -181,7 +168,8 @@ fn write_kept(
     )
 }
 
-// Writes the entries of a branch whose next pair, a and b, is joined on top of the classes so far, unless binding words are kept for its pairs.
+// Writes the entries of a branch whose next pair, of left term i with the right term that digit d counts to, is joined on top of the classes
+// so far, unless it is already, or binding words are kept for its pairs.
 // The classes are as before.
 fn walk_joined(
     nodes: &[u32],
@@ -197,17 +185,38 @@ fn walk_joined(
     weight: usize,
     unpaired: usize,
     i: usize,
-    a: Node,
-    b: Node,
+    d: usize,
     entry: &mut [u32],
     memory: &mut [usize],
     out: &mut [u32],
     at: usize,
 ) -> Written
-    requires { ⌜ Joining (now nodes) (now arguments) (now left) (now right) labels (now known) (now prepared) (now of) (now next) key weight unpaired i (a .0) (b .0) (now entry) (now memory) (now out) at ⌝ }
-    ensures { λ r. ⌜ WalkedJoined (now (nodes .entry)) (now (arguments .entry)) (now (left .entry)) (now (right .entry)) labels i (a .0) (b .0) (now (entry .entry)) (now (memory .entry)) (now (out .entry)) at (now (entry .exit)) (now (memory .exit)) (now (out .exit)) r ⌝ }
+    requires { ⌜ Joining (now nodes) (now arguments) (now left) (now right) labels (now known) (now prepared) (now of) (now next) key weight unpaired i (word (now left) i) (word (now right) (d - 1)) (now entry) (now memory) (now out) at ⌝ }
+    requires { ⌜ (i < length (now left)) × (0 < d) × (d ≤ length (now right)) ⌝ }
+    ensures { λ r. ⌜ WalkedJoined (now (nodes .entry)) (now (arguments .entry)) (now (left .entry)) (now (right .entry)) labels i (word (now (left .entry)) i) (word (now (right .entry)) (d - 1)) (now (entry .entry)) (now (memory .entry)) (now (out .entry)) at (now (entry .exit)) (now (memory .exit)) (now (out .exit)) r ⌝ }
     ensures { λ r. ⌜ (now (of .exit) ≡ now (of .entry)) × (now (next .exit) ≡ now (next .entry)) ⌝ }
 {
+    if branch::one_class(left, right, of, i, d) {
+        return walk(
+            nodes,
+            arguments,
+            left,
+            right,
+            labels,
+            known,
+            prepared,
+            of,
+            next,
+            key,
+            weight,
+            unpaired,
+            i + 1,
+            entry,
+            memory,
+            out,
+            at,
+        );
+    }
     if ((unpaired == 0) | (i + 1 == left.len())) & memory::is_kept(memory, key) {
         return write_kept(
             nodes,
@@ -226,7 +235,7 @@ fn walk_joined(
         );
     }
     let mark = next[GONE];
-    match extend(nodes, arguments, known, of, next, a, b) {
+    match branch::join_pair(nodes, arguments, left, right, known, of, next, i, d) {
         Extended::Clash => Written {
             used: at,
             missed: 0,
@@ -288,7 +297,7 @@ fn step(
     ensures { λ r. ⌜ (now (of .exit) ≡ now (of .entry)) × (now (next .exit) ≡ now (next .entry)) ⌝ }
 {
     if right.len() < d {
-        entry[i] = d as u32;
+        branch::put_digit(entry, i, d);
         return walk(
             nodes,
             arguments,
@@ -309,41 +318,14 @@ fn step(
             at,
         );
     }
-    let p = left.len() + d - 1;
-    let mark = entry[p];
-    if (mark == 0) | (known[MAY + MAX_TERMS * i + d - 1] == 0) {
+    let mark = branch::free_mark(left, known, entry, i, d);
+    if mark == 0 {
         return Written {
             used: at,
             missed: 0,
         };
     }
-    let a = layout::node_at(left, i);
-    let b = layout::node_at(right, d - 1);
-    entry[i] = d as u32;
-    entry[p] = 0;
-    if of[a.0 as usize] == of[b.0 as usize] {
-        let w = walk(
-            nodes,
-            arguments,
-            left,
-            right,
-            labels,
-            known,
-            prepared,
-            of,
-            next,
-            key + d * weight,
-            weight * BASE,
-            unpaired - 1,
-            i + 1,
-            entry,
-            memory,
-            out,
-            at,
-        );
-        entry[p] = mark;
-        return w;
-    }
+    branch::put_pair(left, entry, i, d);
     let w = walk_joined(
         nodes,
         arguments,
@@ -358,14 +340,13 @@ fn step(
         weight * BASE,
         unpaired - 1,
         i,
-        a,
-        b,
+        d,
         entry,
         memory,
         out,
         at,
     );
-    entry[p] = mark;
+    branch::put_back(left, entry, d, mark);
     w
 }
 
@@ -394,8 +375,7 @@ pub fn walk(
     ensures { λ r. ⌜ (now (of .exit) ≡ now (of .entry)) × (now (next .exit) ≡ now (next .entry)) ⌝ }
 {
     let n = left.len();
-    let m = right.len();
-    if hopeless(labels, n - i, unpaired) {
+    if branch::hopeless(labels, n - i, unpaired) {
         return Written {
             used: at,
             missed: 0,
@@ -422,14 +402,13 @@ pub fn walk(
             at,
         );
     }
-    let end = n + m;
-    if stuck(labels, &known[MAY..LIST], i, n, &entry[n..end]) {
+    if branch::is_stuck(left, right, labels, known, i, entry) {
         return Written {
             used: at,
             missed: 0,
         };
     }
-    let last = m + labels.right;
+    let last = right.len() + labels.right;
     let mut used = at;
     let mut d: usize = 1;
     while d <= last {

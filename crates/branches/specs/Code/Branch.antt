@@ -1,9 +1,10 @@
 -- A branch of the walk, as it stands in an entry: digits of left terms, and marks of right terms.
-use Prim.Native.Nat.{ℕ, _+_, _-_, _≤_, _<_}
-use mathlib.Core.Bool.{cond}
+use Prim.Native.Nat.{ℕ, _+_, _-_, _*_, _≤_, _<_}
+use mathlib.Core.Bool.{true, cond, _||_}
 use mathlib.Core.List.{List, [], _∷_}
 use mathlib.Core.Logic.{_↔_}
-use lib.Dec.{leb}
+use mathlib.Core.Path.{_≡_}
+use lib.Dec.{eqb, leb}
 use lib.ListN.{length, take, drop}
 use Rattle.table.specs.Limits.{maxTerms, maxLabels}
 use Rattle.table.specs.Layout.{word, nodeCount}
@@ -47,3 +48,8 @@ marksIn left right entry = take (length right) (drop (length left) entry)
 -- How many words an entry has.
 abbrev pub widthOf : List ℕ → List ℕ → List ℕ → List ℕ → ℕ
 widthOf words args left right = length left + length right + length (variablesOf (nodesFrom words args))
+
+-- The mark of the right term that digit d counts to: 0 where it is paired, or where the two have no common value.
+pub record FreeMark (left known entry : List ℕ) (i d mark : ℕ) : Type 0 where
+  pub none : mark ≡ 0 → eqb (word entry (length left + d - 1)) 0 || eqb (word known (256 + (maxTerms * i + (d - 1)))) 0 ≡ true
+  pub some : (mark ≡ 0 → ⊥) → mark ≡ word entry (length left + d - 1)
