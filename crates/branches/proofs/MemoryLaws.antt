@@ -25,7 +25,7 @@ use Rattle.unification.proofs.OutcomeLaws.{outcome-unified}
 use Rattle.unification.proofs.PairLaws.{same-unifiers}
 use Rattle.unification.proofs.SectionLaws.{is-node, sections-well-formed}
 use Rattle.nodes.specs.Code.Open.{Counts}
-use Rattle.classes.specs.Code.Stands.{Formed}
+use Rattle.nodes.specs.Code.Formed.{Formed}
 use Rattle.values.specs.Code.Begins.{Leaves}
 use Rattle.multiset_unification.specs.Answer.{fitting}
 use Rattle.classes.proofs.AtOnceLaws.{formed-unified}

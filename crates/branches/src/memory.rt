@@ -7,7 +7,7 @@ ghost use Rattle.table.specs.Limits.{maxTerms};
 ghost use Rattle.table.specs.Layout.{word};
 ghost use Rattle.unification.specs.Code.Sections.{Sections};
 ghost use Rattle.values.specs.Code.Prepared.{Prepared};
-ghost use Rattle.classes.specs.Code.Stands.{Formed};
+ghost use Rattle.nodes.specs.Code.Formed.{Formed};
 ghost use Rattle.branches.specs.Code.Branch.{Standing, widthOf};
 ghost use Rattle.branches.specs.Code.Known.{KnownOf};
 ghost use Rattle.branches.specs.Code.Memory.{slots, slotOf, Keyed, Pairable, Remembers, Bound, Notes};

@@ -23,8 +23,9 @@ use Rattle.unification.proofs.SectionLaws.{run, is-node, application-from, argu
 use Rattle.classes.specs.declared.Extended.{Extended}
 use Rattle.classes.specs.declared.Extended.the-variants.{Clash, Occurs}
 use Rattle.nodes.specs.Code.Open.{Marked, markedTest, Counts}
-use Rattle.classes.specs.Code.Stands.{Formed, StandsAlways, Never, Extends, extended}
-use Rattle.classes.proofs.OpenLaws.{marked-true}
+use Rattle.nodes.specs.Code.Formed.{Formed}
+use Rattle.classes.specs.Code.Stands.{StandsAlways, Never, Extends, extended}
+use Rattle.nodes.proofs.OpenLaws.{marked-true}
 use Rattle.classes.proofs.ExtensionLaws.{longer, inside-more}
 use Rattle.classes.proofs.AtOnceLaws.{differ-clash}
 

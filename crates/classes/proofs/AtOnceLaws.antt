@@ -14,7 +14,7 @@ use Rattle.unification.specs.Code.Sections.{nodesFrom, Sections, symbolTest, di
 use Rattle.unification.proofs.CountLaws.{in-list}
 use Rattle.unification.proofs.SectionLaws.{is-node, application-from, symbols-differ}
 use Rattle.nodes.specs.Code.Open.{Counts}
-use Rattle.classes.specs.Code.Stands.{Formed, Stands}
+use Rattle.nodes.specs.Code.Formed.{Formed, Stands}
 use Rattle.classes.proofs.ClosingLaws.{already, heads-clash, closed-at-last}
 use Rattle.classes.proofs.OrderedLaws.{ordered-unified}
 use Rattle.classes.proofs.ExtensionLaws.{longer, waiting}

@@ -21,11 +21,11 @@ use Rattle.unification.proofs.ListLaws.{tabulate-member, tabulate-from, zip-bac
 use Rattle.unification.proofs.CountLaws.{join-length, join-keeps, join-lowers, join-second, join-other, unites-front, in-list}
 use Rattle.unification.proofs.SectionLaws.{symbols-differ, run, run-long, nodes-long, variable-from, application-from, from-application, symbol-test, is-node, pair-place}
 use Rattle.nodes.specs.Code.Open.{Marked, markedTest, KeepsClosed}
-use Rattle.classes.specs.Code.Uniting.{TwoHeads}
-use Rattle.classes.specs.Code.Trail.{Trailed, Merges, none, Goes}
+use Rattle.nodes.specs.Code.Uniting.{TwoHeads}
+use Rattle.nodes.specs.Code.Trail.{Trailed, Merges, none, Goes}
 use Rattle.classes.specs.Code.Closing.{Closing, argumentPair, argumentPairs, Joinable, Joins}
 use Rattle.classes.proofs.TrailLaws.{one-merged, merges-on, merges-trailed}
-use Rattle.classes.proofs.OpenLaws.{marked-true, marked-false, weaker-variable, weaker-closed, closed-kept}
+use Rattle.nodes.proofs.OpenLaws.{marked-true, marked-false, weaker-variable, weaker-closed, closed-kept}
 use Rattle.classes.proofs.ClosedClashLaws.{Same, closed-joined}
 use Rattle.classes.proofs.ClosingLaws.{Wanted, HeadsMeet, retold, already, heads-clash, united, classes-joined, variable-meets}
 

@@ -19,11 +19,12 @@ use Rattle.unification.proofs.SectionLaws.{nodes-long, is-node, sections-well-f
 use Rattle.classes.specs.declared.Extended.{Extended}
 use Rattle.classes.specs.declared.Extended.the-variants.{Unified, Clash, Occurs}
 use Rattle.nodes.specs.Code.Open.{Counts, ClosedHeads, KeepsClosed}
-use Rattle.classes.specs.Code.Trail.{none}
+use Rattle.nodes.specs.Code.Trail.{none}
 use Rattle.classes.specs.Code.Closing.{Closing, Joins}
-use Rattle.classes.specs.Code.Order.{Ordered, Searched}
-use Rattle.classes.specs.Code.Stands.{Formed, Stands, Extends, extended}
-use Rattle.classes.proofs.OpenLaws.{closed-kept}
+use Rattle.nodes.specs.Code.Order.{Ordered, Searched}
+use Rattle.nodes.specs.Code.Formed.{Formed, Stands}
+use Rattle.classes.specs.Code.Stands.{Extends, extended}
+use Rattle.nodes.proofs.OpenLaws.{closed-kept}
 use Rattle.classes.proofs.ClosingLaws.{opened, closed-at-last}
 use Rattle.classes.proofs.OrderedLaws.{leads-reaches, ordered-unified}
 use Rattle.classes.proofs.MendLaws.{still-one, mended}

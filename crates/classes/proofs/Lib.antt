@@ -1,6 +1,4 @@
 -- Laws that the proofs of the code need, from the bottom up.
-pub mod OpenLaws
-pub mod CircleLaws
 pub mod RelabelLaws
 pub mod TrailLaws
 pub mod ClosedClashLaws

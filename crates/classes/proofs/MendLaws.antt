@@ -21,7 +21,7 @@ use Rattle.unification.proofs.JoinedLaws.{more-joined, joined-inside}
 use Rattle.unification.proofs.SolvedLaws.{closed-inside, joined-head}
 use Rattle.unification.proofs.SectionLaws.{is-node, counted, argument-place, sections-well-formed}
 use Rattle.nodes.specs.Code.Open.{Counts, ClosedHeads}
-use Rattle.classes.specs.Code.Order.{Met, leaf, before, Listed, Ordered, OrderedBelow}
+use Rattle.nodes.specs.Code.Order.{Met, leaf, before, Listed, Ordered, OrderedBelow}
 use Rattle.classes.proofs.OrderedLaws.{looked-node, closed-argument}
 
 -- what is met before a place is met before a later one

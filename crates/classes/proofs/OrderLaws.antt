@@ -19,9 +19,9 @@ use Rattle.unification.specs.Code.Sections.{Sections}
 use Rattle.unification.proofs.CountLaws.{count-most, count-le, count-less}
 use Rattle.unification.proofs.ListLaws.{first-long}
 use Rattle.classes.specs.declared.order.Placed.the-variants.{Cycle, Count}
-use Rattle.nodes.specs.Code.Open.{Counts}
-use Rattle.classes.specs.Code.Order.{Leads, next, further, Looped, Met, leaf, before, Listed, Ordered, OrderedBelow, Searched}
-use Rattle.classes.specs.Code.Ordering.{isNew, isDone, Ordering, Visiting, Later, Passed, Settled, Turn, Visited, Starting, OpenListed, Sweep}
+use Rattle.nodes.specs.Code.Open.{Counts, OpenListed}
+use Rattle.nodes.specs.Code.Order.{Leads, next, further, Looped, Met, leaf, before, Listed, Ordered, OrderedBelow, Searched}
+use Rattle.classes.specs.Code.Ordering.{isNew, isDone, Ordering, Visiting, Later, Passed, Settled, Turn, Visited, Starting, Sweep}
 use Rattle.classes.proofs.OrderedLaws.{looked-node}
 
 -- A place of a list in which place i is written.

@@ -23,8 +23,8 @@ use Rattle.unification.specs.Code.Solved.{Closed, Solved}
 use Rattle.unification.proofs.OutcomeLaws.{solved-decides}
 use Rattle.unification.proofs.SectionLaws.{nodes-long, counted, application-from, argument-place, place-argument, counted-application, sections-well-formed}
 use Rattle.nodes.specs.Code.Open.{Marked, Counts, ClosedHeads}
-use Rattle.classes.specs.Code.Order.{Leads, next, further, Looped, Met, leaf, before, Listed, Ordered}
-use Rattle.classes.proofs.OpenLaws.{looked-at}
+use Rattle.nodes.specs.Code.Order.{Leads, next, further, Looped, Met, leaf, before, Listed, Ordered}
+use Rattle.nodes.proofs.OpenLaws.{looked-at}
 
 -- The first place of a number in a list; past its end where it has none.
 placeIn : List ℕ → ℕ → ℕ

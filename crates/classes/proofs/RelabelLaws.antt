@@ -8,9 +8,9 @@ use lib.ListN.{length, set, length-set}
 use lib.Seq.{getD-set-same, getD-set-other}
 use Rattle.table.specs.Layout.{word}
 use Rattle.unification.specs.Computed.Classes.{classOf}
-use Rattle.classes.specs.Code.Circle.{Follows, here, onward}
-use Rattle.classes.specs.Code.Uniting.{Circling, Relabels}
-use Rattle.classes.proofs.CircleLaws.{follows-on, follows-still}
+use Rattle.nodes.specs.Code.Circle.{Follows, here, onward}
+use Rattle.nodes.specs.Code.Uniting.{Circling, Relabels}
+use Rattle.nodes.proofs.CircleLaws.{follows-on, follows-still}
 
 -- From node i, the next ones come to node k before they come to node g.
 pub data Ahead (next : List ℕ) (g : ℕ) : ℕ → ℕ → Type 0 where

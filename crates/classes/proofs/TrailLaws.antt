@@ -11,10 +11,10 @@ use Rattle.unification.specs.Computed.Classes.{classOf, renamed, join}
 use Rattle.unification.specs.Code.Heads.{roots}
 use Rattle.unification.proofs.ListLaws.{map-at}
 use Rattle.unification.proofs.CountLaws.{renamed-here, renamed-other, in-list, join-keeps, join-lowers, roots-some}
-use Rattle.classes.specs.Code.Circle.{Follows, here, onward, Circles}
-use Rattle.classes.specs.Code.Uniting.{Circling, Relabels, TwoHeads, exchanged}
-use Rattle.classes.specs.Code.Trail.{links, gone, notedGone, Trailed, Merged, OneMerged, Merges, none, more, Last, Before, Since}
-use Rattle.classes.proofs.CircleLaws.{step-on, circling, exchange, exchanged-long, circles-linked}
+use Rattle.nodes.specs.Code.Circle.{Follows, here, onward, Circles}
+use Rattle.nodes.specs.Code.Uniting.{Circling, Relabels, TwoHeads, exchanged}
+use Rattle.nodes.specs.Code.Trail.{links, gone, notedGone, Trailed, Merged, OneMerged, Merges, none, more, Last, Before, Since}
+use Rattle.nodes.proofs.CircleLaws.{step-on, circling, exchange, exchanged-long, circles-linked}
 
 -- a note leaves as many words
 noted-long : (m : List ℕ) (g : ℕ) → length (notedGone m g) ≡ length m

@@ -4,8 +4,8 @@ ghost use mathlib.Core.Path.{_≡_};
 ghost use Prim.Native.Nat.{_<_};
 ghost use lib.ListN.{length};
 ghost use Rattle.table.specs.Layout.{word};
-ghost use Rattle.classes.specs.Code.Uniting.{Circling, Relabels, TwoHeads, exchanged};
-ghost use Rattle.classes.specs.Code.Trail.{links, gone, notedGone, Trailed, Merged, OneMerged, Last, Before, Since};
+ghost use Rattle.nodes.specs.Code.Uniting.{Circling, Relabels, TwoHeads, exchanged};
+ghost use Rattle.nodes.specs.Code.Trail.{links, gone, notedGone, Trailed, Merged, OneMerged, Last, Before, Since};
 
 // Where it stands how many heads have gone.
 pub const GONE: usize = 256;

@@ -29,9 +29,10 @@ use Rattle.unification.proofs.AnswerLaws.{words-counted}
 use Rattle.values.specs.declared.Variables.{Variables}
 use Rattle.values.specs.Code.Present.{leastNodes}
 use Rattle.nodes.specs.Code.Open.{Counts}
-use Rattle.classes.specs.Code.Trail.{Trailed}
+use Rattle.nodes.specs.Code.Trail.{Trailed}
 use Rattle.values.specs.Code.Prepared.{Prepared}
-use Rattle.classes.specs.Code.Stands.{Formed, StandsAlways}
+use Rattle.nodes.specs.Code.Formed.{Formed}
+use Rattle.classes.specs.Code.Stands.{StandsAlways}
 use Rattle.values.specs.Code.Begins.{Lists, BeginsShared}
 use Rattle.multiset_unification.specs.declared.Listing.{Listing}
 use Rattle.multiset_unification.specs.declared.Listing.the-variants.{Finished, Full, Refused}

@@ -27,11 +27,11 @@ use Rattle.unification.proofs.FirstLaws.{node-of}
 use Rattle.unification.proofs.SectionLaws.{run, nodes-long, application-from, from-application, sections-well-formed, counted, is-node}
 use Rattle.unification.proofs.ValuedLaws.{names-decide}
 use Rattle.unification.proofs.ListLaws.{placed, member-place, map-at, first-long}
-use Rattle.classes.specs.Code.Stands.{Formed}
+use Rattle.nodes.specs.Code.Formed.{Formed}
 use Rattle.values.specs.Code.Begins.{Leaves}
-use Rattle.nodes.specs.Code.Open.{Counts}
-use Rattle.classes.specs.Code.Order.{Ordered}
-use Rattle.classes.specs.Code.Ordering.{Starting, OpenListed}
+use Rattle.nodes.specs.Code.Open.{Counts, OpenListed}
+use Rattle.nodes.specs.Code.Order.{Ordered}
+use Rattle.classes.specs.Code.Ordering.{Starting}
 use Rattle.values.specs.Code.Kept.{Writes}
 use Rattle.values.specs.Code.Present.{leastNodes}
 use Rattle.nodes.specs.Code.Named.{valueName, Applied, Named}

@@ -38,10 +38,11 @@ use Rattle.unification.proofs.PairLaws.{same-unifiers}
 use Rattle.unification.proofs.AnswerLaws.{words-counted, refused-exactly, answered-exactly, unified-readable, unified-reading, clash-fails, occurs-fails}
 use Rattle.values.specs.declared.Variables.{Variables}
 use Rattle.classes.specs.declared.Extended.{Extended}
-use Rattle.classes.specs.Code.Circle.{HeadsFirst}
+use Rattle.nodes.specs.Code.Circle.{HeadsFirst}
 use Rattle.values.specs.Code.Present.{leastNodes}
-use Rattle.classes.specs.Code.Trail.{links}
-use Rattle.classes.specs.Code.Stands.{Stands, extended, Extends}
+use Rattle.nodes.specs.Code.Trail.{links}
+use Rattle.nodes.specs.Code.Formed.{Stands}
+use Rattle.classes.specs.Code.Stands.{extended, Extends}
 use Rattle.values.specs.Code.Begins.{Lists, Leaves, BeginsShared}
 use Rattle.unify.specs.Code.Calling.{called, Answers}
 use Rattle.values.proofs.LeastLaws.{least-long}

@@ -15,7 +15,7 @@ use lib.Seq.{getD-set-same, getD-set-other, take-suc, drop-cons, set-at, take-le
 use Rattle.table.specs.Layout.{word, kindOf, nodeCount}
 use Rattle.unification.specs.Computed.Classes.{classOf}
 use Rattle.nodes.specs.Code.Named.{valueName, Applied, Themselves}
-use Rattle.classes.specs.Code.Ordering.{OpenListed}
+use Rattle.nodes.specs.Code.Open.{OpenListed}
 use Rattle.unify.specs.Code.Binding.{HeadNames, AreApplied, NamesLeast, applicationNoted, freeNoted, IsApplied, IsFree, nameAt, OpenNoted, ApplicationsNoted, FreeFrom, readAt, AreNodes}
 use Rattle.values.proofs.KeptLaws.{kept-none, kept-skip, kept-set}
 

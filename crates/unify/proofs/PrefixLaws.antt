@@ -17,14 +17,13 @@ use Rattle.unification.specs.Computed.Classes.{classOf}
 use Rattle.unification.specs.Code.Sections.{nodesFrom, Sections}
 use Rattle.unification.proofs.NodeLaws.{each-equal, value-application}
 use Rattle.unification.proofs.SectionLaws.{run, is-node, application-from, run-long, counted-application, pair-place, sections-well-formed}
-use Rattle.nodes.specs.Code.Open.{Marked, Counts}
-use Rattle.classes.specs.Code.Order.{Met, leaf, before, Ordered}
-use Rattle.classes.specs.Code.Ordering.{OpenListed}
+use Rattle.nodes.specs.Code.Open.{Marked, Counts, OpenListed}
+use Rattle.nodes.specs.Code.Order.{Met, leaf, before, Ordered}
 use Rattle.nodes.specs.Code.Named.{valueName, Alike, Applied, Named, Themselves}
 use Rattle.values.specs.Code.Naming.{Nameable, IsPlaced, compounds, keyOf, keyAt, NamedBefore, Naming, NamedAlong}
 use Rattle.unify.specs.Code.Binding.{HeadNames, NamesLeast, AllBelow}
 use Rattle.values.specs.Code.Prepared.{ClosedListed, ClosedTable, bucketsIn, earlierIn, openIn, closedIn, Filled, Prepared, nothing, filled}
-use Rattle.classes.specs.Code.Stands.{Formed}
+use Rattle.nodes.specs.Code.Formed.{Formed}
 use Rattle.values.proofs.AlikeLaws.{alike-same}
 use Rattle.values.proofs.ChainLaws.{chained-same}
 use Rattle.values.proofs.FindLaws.{order-short}

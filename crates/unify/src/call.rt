@@ -6,7 +6,7 @@ ghost use Rattle.table.specs.Layout.{nodeCount};
 ghost use Rattle.table.specs.Code.Accepted.{Accepted};
 ghost use Rattle.unification.specs.Node.{nodesIn};
 ghost use Rattle.unification.specs.Code.Sections.{Sections, nodesFrom};
-ghost use Rattle.classes.specs.Code.Trail.{links};
+ghost use Rattle.nodes.specs.Code.Trail.{links};
 ghost use Rattle.values.specs.Code.Prepared.{preparedWords};
 ghost use Rattle.unify.specs.Code.Calling.{Answers};
 use crate::words::bind;

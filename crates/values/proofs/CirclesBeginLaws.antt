@@ -11,9 +11,9 @@ use Rattle.table.specs.Limits.{maxNodes}
 use Rattle.table.specs.Layout.{word}
 use Rattle.unification.specs.Computed.Classes.{classOf}
 use Rattle.unification.proofs.CountLaws.{roots-most}
-use Rattle.classes.specs.Code.Circle.{Follows, here, onward, HeadsFirst, CirclesBefore}
-use Rattle.classes.specs.Code.Trail.{links, Trailed}
-use Rattle.classes.proofs.CircleLaws.{follows-on}
+use Rattle.nodes.specs.Code.Circle.{Follows, here, onward, HeadsFirst, CirclesBefore}
+use Rattle.nodes.specs.Code.Trail.{links, Trailed}
+use Rattle.nodes.proofs.CircleLaws.{follows-on}
 
 -- zeros are 0 at each place, and past the end
 zeros : (n k : ℕ) → word (replicate n 0) k ≡ 0

@@ -15,7 +15,7 @@ use Rattle.table.specs.Layout.{word, kindOf, countOf, nodeCount, argumentOf}
 use Rattle.table.proofs.BoolLaws.{and-true-left, and-true-right, or-false-left, or-false-right}
 use Rattle.unification.specs.Code.Sections.{Sections}
 use Rattle.nodes.specs.Code.Open.{Marked, markedTest, Counts, CountedAt}
-use Rattle.classes.proofs.OpenLaws.{marked-true, marked-false}
+use Rattle.nodes.proofs.OpenLaws.{marked-true, marked-false}
 
 -- The first j arguments of node i are closed applications.
 pub record ClosedUpTo (words args counts : List ℕ) (i j : ℕ) : Type 0 where

@@ -19,7 +19,7 @@ use Rattle.unification.specs.Code.Sections.{Sections}
 use Rattle.unification.specs.Code.Heads.{Partition}
 use Rattle.nodes.specs.Code.Named.{valueName, Readable, Alike, Applied}
 use Rattle.values.specs.Code.Naming.{Nameable, IsPlaced, Compounds, Whole, all, compounds, keys, keyOf, keyAt, Representative, Represented, NamedBefore, Naming, NamedEarlier, NamedAlong, Found}
-use Rattle.classes.specs.Code.Stands.{IsConstant}
+use Rattle.nodes.specs.Code.Formed.{IsConstant}
 use Rattle.values.proofs.AlikeLaws.{NamesKept, alike-same, alike-back, alike-on, alike-kept, alike-was, key-kept}
 use Rattle.values.proofs.ChainLaws.{chained-skip, chained-add}
 use Rattle.values.proofs.FindLaws.{order-short}

@@ -23,7 +23,7 @@ use Rattle.nodes.specs.Code.Open.{Marked, markedTest, Counts, closedHeadTest, K
 use Rattle.nodes.specs.Code.Named.{valueName, Themselves}
 use Rattle.values.specs.Code.Naming.{keys, keyUpTo, keyOf, keyAt, Representative, Chained}
 use Rattle.values.specs.Code.Prepared.{preparedWords, ClosedListed, ClosedTable, bucketsIn, earlierIn, openIn, closedIn, Filled, Prepared, nothing, filled, ListsOpen, closedNoted, ListsClosed}
-use Rattle.classes.proofs.OpenLaws.{marked-true, marked-test, looked-at}
+use Rattle.nodes.proofs.OpenLaws.{marked-true, marked-test, looked-at}
 use Rattle.values.proofs.ChainLaws.{chained-add}
 
 -- how long a part of a list is

@@ -33,14 +33,14 @@ use Rattle.unification.proofs.SolvedLaws.{solution-first}
 use Rattle.unification.proofs.ValuedLaws.{values-named}
 use Rattle.values.specs.declared.Variables.{Variables}
 use Rattle.nodes.specs.Code.Open.{Counts}
-use Rattle.classes.specs.Code.Order.{Met, leaf, before, Ordered}
+use Rattle.nodes.specs.Code.Order.{Met, leaf, before, Ordered}
 use Rattle.nodes.specs.Code.Named.{valueName, Alike}
 use Rattle.values.specs.Code.Naming.{NamedAlong}
 use Rattle.values.specs.Code.Start.{Started, HeadsNamed, Together}
-use Rattle.classes.specs.Code.Stands.{OneConstant}
+use Rattle.nodes.specs.Code.Formed.{OneConstant}
 use Rattle.values.specs.Code.Begins.{Lists, BeginsShared}
 use Rattle.values.proofs.LeastLaws.{rising-places, selected, selected-from, selected-member, selected-rises}
-use Rattle.classes.proofs.OpenLaws.{looked-at}
+use Rattle.nodes.proofs.OpenLaws.{looked-at}
 use Rattle.values.proofs.ClosedLaws.{heads-closed}
 use Rattle.values.proofs.StartLaws.{below, itself, start-partition, start-solved}
 use Rattle.values.proofs.NamedLaws.{named-valued}

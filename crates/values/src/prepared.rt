@@ -9,7 +9,7 @@ ghost use Rattle.unification.specs.Code.Sections.{Sections};
 ghost use Rattle.nodes.specs.Code.Open.{Counts, CountedAt, closedHeadTest};
 ghost use Rattle.nodes.specs.Code.Named.{Readable, Themselves};
 ghost use Rattle.values.specs.Code.Prepared.{preparedWords, ListsOpen, closedNoted, ListsClosed, Filled};
-ghost use Rattle.classes.specs.Code.Stands.{Formed};
+ghost use Rattle.nodes.specs.Code.Formed.{Formed};
 use crate::names;
 use nodes::sections;
 use table::Node;

@@ -25,8 +25,9 @@ use Rattle.unification.proofs.SectionLaws.{is-node, sections-well-formed}
 use Rattle.classes.specs.declared.Extended.{Extended}
 use Rattle.classes.specs.declared.Extended.the-variants.{Unified, Clash, Occurs}
 use Rattle.values.specs.Code.Prepared.{Prepared}
-use Rattle.classes.specs.Code.Stands.{Formed, Stands, Extends, extended}
-use Rattle.classes.specs.Code.Trail.{links, gone, Trailed, Since, Before}
+use Rattle.nodes.specs.Code.Formed.{Formed, Stands}
+use Rattle.classes.specs.Code.Stands.{Extends, extended}
+use Rattle.nodes.specs.Code.Trail.{links, gone, Trailed, Since, Before}
 use Rattle.branches.specs.declared.Labels.{Labels}
 use Rattle.entries.specs.declared.Written.{Written}
 use Rattle.entries.specs.Code.Writing.{Writes, Remains}

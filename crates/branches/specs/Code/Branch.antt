@@ -12,7 +12,7 @@ use Rattle.terms.specs.Substitution.{Substitution}
 use Rattle.unification.specs.Unifier.{Unifies}
 use Rattle.unification.specs.Computed.Variables.{variablesOf}
 use Rattle.unification.specs.Code.Sections.{Sections, nodesFrom}
-use Rattle.classes.specs.Code.Stands.{Stands}
+use Rattle.nodes.specs.Code.Formed.{Stands}
 use Rattle.branches.specs.declared.Labels.{Labels}
 
 -- What is known of the sections of an accepted table and of its numbers of labels.

@@ -10,8 +10,9 @@ use Rattle.table.specs.Some.{someBelow}
 use Rattle.table.specs.Layout.{word, nodeCount}
 use Rattle.unification.specs.Code.Sections.{Sections, nodesFrom}
 use Rattle.nodes.specs.Code.Open.{Counts}
-use Rattle.classes.specs.Code.Trail.{Trailed}
-use Rattle.classes.specs.Code.Stands.{Formed, StandsAlways, Never}
+use Rattle.nodes.specs.Code.Trail.{Trailed}
+use Rattle.nodes.specs.Code.Formed.{Formed}
+use Rattle.classes.specs.Code.Stands.{StandsAlways, Never}
 
 -- What trying a pair by itself needs to know: of the sections, of open and closed applications, and of the classes.
 pub record Triable (words args counts cs next : List ℕ) : Type 0 where

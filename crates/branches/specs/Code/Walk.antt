@@ -10,9 +10,9 @@ use Rattle.unification.specs.Node.{Node}
 use Rattle.unification.specs.Outcome.{Outcome, unified, clash, occurs}
 use Rattle.unification.specs.Computed.Unifying.{outcome, wordsOf}
 use Rattle.unification.specs.Code.Sections.{nodesFrom}
-use Rattle.classes.specs.Code.Trail.{Trailed}
+use Rattle.nodes.specs.Code.Trail.{Trailed}
 use Rattle.values.specs.Code.Prepared.{Prepared}
-use Rattle.classes.specs.Code.Stands.{Formed}
+use Rattle.nodes.specs.Code.Formed.{Formed}
 use Rattle.branches.specs.declared.Labels.{Labels}
 use Rattle.entries.specs.declared.Written.{Written}
 use Rattle.entries.specs.Code.Writing.{marked, Writes, Remains}

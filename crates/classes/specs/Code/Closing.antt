@@ -11,7 +11,7 @@ use Rattle.unification.specs.Computed.Classes.{classOf}
 use Rattle.unification.specs.Code.Heads.{Partition, roots, Unites}
 use Rattle.unification.specs.Code.Sections.{Sections, nodesFrom}
 use Rattle.nodes.specs.Code.Open.{Counts, ClosedHeads, KeepsClosed}
-use Rattle.classes.specs.Code.Trail.{Trailed, Merges}
+use Rattle.nodes.specs.Code.Trail.{Trailed, Merges}
 
 -- Nodes of one class of cs are of one class of ds.
 abbrev pub Coarser : List ℕ → List ℕ → Type 0

@@ -5,14 +5,14 @@ use mathlib.Core.List.{List}
 use mathlib.Core.Path.{_≡_}
 use lib.Dec.{eqb}
 use lib.ListN.{length}
-use Rattle.table.specs.Layout.{word, kindOf, nodeCount, argumentOf}
+use Rattle.table.specs.Layout.{word, nodeCount, argumentOf}
 use Rattle.unification.specs.Computed.Classes.{classOf}
 use Rattle.unification.specs.Code.Heads.{Partition, countBelow}
 use Rattle.unification.specs.Code.Sections.{Sections}
 use Rattle.classes.specs.declared.order.Placed.{Placed}
 use Rattle.classes.specs.declared.order.Placed.the-variants.{Cycle, Count}
 use Rattle.nodes.specs.Code.Open.{Counts}
-use Rattle.classes.specs.Code.Order.{Leads, Looped, Met}
+use Rattle.nodes.specs.Code.Order.{Leads, Looped, Met}
 
 -- Node k is not visited yet.
 unfoldable pub isNew : List ℕ → ℕ → Bool
@@ -75,12 +75,6 @@ pub record Starting (n : ℕ) (marks order : List ℕ) : Type 0 where
   pub marks-size : length marks ≡ n
   pub order-size : length order ≡ n
   pub new : (k : ℕ) → k < n → word marks k ≡ 0
-
--- Open applications: every node with arguments that are looked at stands in the list.
-pub record OpenListed (words counts opens : List ℕ) : Type 0 where
-  pub node : (p : ℕ) → p < length opens → word opens p < nodeCount words
-  pub applied : (p : ℕ) → p < length opens → kindOf words (word opens p) ≡ 0 → ⊥
-  pub whole : (i : ℕ) → i < nodeCount words → 0 < word counts i → (p : ℕ) × (p < length opens) × (word opens p ≡ i)
 
 -- Before place i of a list of nodes is looked at: the heads of the nodes before it are done, if arguments of theirs are looked at, and no node is open.
 pub record Sweep (words args : List ℕ) (due : ℕ → ℕ) (cs list marks order : List ℕ) (count i : ℕ) : Type 0 where

@@ -1,49 +1,20 @@
--- Classes that stand for a list of pairs, and how they are extended by one pair more. The listing builds on these.
-use Prim.Native.Nat.{ℕ, _<_, _≤_}
-use mathlib.Core.List.{List, _∷_, _++_}
+-- Classes that stand for a list of pairs are extended by one pair more. The listing builds on this.
+use Prim.Native.Nat.{ℕ}
+use mathlib.Core.List.{List, _∷_}
 use mathlib.Core.Path.{_≡_}
-use lib.ListN.{length, take, drop}
-use Rattle.table.specs.Layout.{word, kindOf, nameOf, countOf, nodeCount}
+use Rattle.table.specs.Layout.{nodeCount}
 use Rattle.terms.specs.Substitution.{Substitution}
 use Rattle.unification.specs.Node.{Node}
 use Rattle.unification.specs.Unifier.{Unifies}
 use Rattle.unification.specs.Outcome.{Outcome, unified, clash, occurs}
-use Rattle.unification.specs.Computed.Classes.{classOf}
-use Rattle.unification.specs.Computed.Unifying.{outcome, wordsOf}
-use Rattle.unification.specs.Computed.Variables.{variablesOf}
+use Rattle.unification.specs.Computed.Unifying.{outcome}
 use Rattle.unification.specs.Code.Given.{Inside}
 use Rattle.unification.specs.Code.Sections.{nodesFrom}
-use Rattle.unification.specs.Code.Heads.{Partition}
-use Rattle.unification.specs.Code.Solved.{Closed}
 use Rattle.classes.specs.declared.Extended.{Extended}
 use Rattle.classes.specs.declared.Extended.the-variants.{Unified, Clash, Occurs}
-use Rattle.nodes.specs.Code.Open.{Counts, ClosedHeads, KeepsClosed}
-use Rattle.classes.specs.Code.Trail.{Merges}
-use Rattle.classes.specs.Code.Order.{Ordered}
-
--- Node i is a constant.
-pub record IsConstant (words : List ℕ) (i : ℕ) : Type 0 where
-  pub node : i < nodeCount words
-  pub applied : kindOf words i ≡ 0 → ⊥
-  pub bare : countOf words i ≡ 0
-
--- Constants of one name have one head.
-abbrev pub OneConstant : List ℕ → List ℕ → Type 0
-OneConstant words cs = (i j : ℕ) → IsConstant words i → IsConstant words j → nameOf words i ≡ nameOf words j → classOf cs i ≡ classOf cs j
-
--- Heads of classes of nodes: constants of one name have one, closed applications keep theirs, and those with arguments that are looked at
--- can be put in order.
-pub record Formed (words args counts cs : List ℕ) : Type 0 where
-  pub partition : Partition (nodeCount words) cs
-  pub constants : OneConstant words cs
-  pub closed : ClosedHeads words args counts cs
-  pub order : List ℕ
-  pub ordered : Ordered words args (word counts) cs order
-
--- They are the classes of a list of pairs.
-pub record Stands (words args cs : List ℕ) (ps : List (ℕ × ℕ)) : Type 0 where
-  pub inside : Inside (nodesFrom words args) ps
-  pub closed : Closed (nodesFrom words args) ps (classOf cs)
+use Rattle.nodes.specs.Code.Open.{KeepsClosed}
+use Rattle.nodes.specs.Code.Trail.{Merges}
+use Rattle.nodes.specs.Code.Formed.{Formed, Stands}
 
 -- What the answer to an extension stands for.
 abbrev pub extended : Extended → Outcome

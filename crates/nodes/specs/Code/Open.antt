@@ -49,3 +49,9 @@ pub record ClosedHeads (words args counts cs : List ℕ) : Type 0 where
 -- Closed applications have the heads that they had.
 abbrev pub KeepsClosed : List ℕ → List ℕ → List ℕ → List ℕ → Type 0
 KeepsClosed words counts cs cs′ = (i : ℕ) → Marked words counts i → classOf cs′ i ≡ classOf cs i
+
+-- Open applications: every node with arguments that are looked at stands in the list.
+pub record OpenListed (words counts opens : List ℕ) : Type 0 where
+  pub node : (p : ℕ) → p < length opens → word opens p < nodeCount words
+  pub applied : (p : ℕ) → p < length opens → kindOf words (word opens p) ≡ 0 → ⊥
+  pub whole : (i : ℕ) → i < nodeCount words → 0 < word counts i → (p : ℕ) × (p < length opens) × (word opens p ≡ i)

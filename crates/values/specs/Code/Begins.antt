@@ -17,11 +17,11 @@ use Rattle.unification.specs.Code.Heads.{Partition}
 use Rattle.unification.specs.Code.Solved.{Closed}
 use Rattle.values.specs.declared.Variables.{Variables}
 use Rattle.nodes.specs.Code.Open.{Counts, ClosedHeads, KeepsClosed}
-use Rattle.classes.specs.Code.Circle.{HeadsFirst}
-use Rattle.classes.specs.Code.Trail.{Merges}
-use Rattle.classes.specs.Code.Order.{Ordered}
+use Rattle.nodes.specs.Code.Circle.{HeadsFirst}
+use Rattle.nodes.specs.Code.Trail.{Merges}
+use Rattle.nodes.specs.Code.Order.{Ordered}
 use Rattle.values.specs.Code.Present.{variableNames, leastNodes}
-use Rattle.classes.specs.Code.Stands.{IsConstant, OneConstant, Formed, Stands}
+use Rattle.nodes.specs.Code.Formed.{IsConstant, OneConstant, Formed, Stands}
 
 -- The variables present, by their least nodes.
 pub record Lists (words args : List ℕ) (v : Variables) : Type 0 where

@@ -9,7 +9,7 @@ use Rattle.table.specs.Limits.{maxNodes}
 use Rattle.table.specs.Layout.{word, kindOf, nameOf, countOf, nodeCount, argumentOf}
 use Rattle.unification.specs.Computed.Classes.{classOf}
 use Rattle.nodes.specs.Code.Named.{valueName, Readable, Alike, Applied, Named}
-use Rattle.classes.specs.Code.Stands.{OneConstant}
+use Rattle.nodes.specs.Code.Formed.{OneConstant}
 
 -- Nodes in an order, no node twice: while a node is named, no name changes of an argument of it or of a node before it.
 pub record Nameable (words args cs order : List ℕ) : Type 0 where

@@ -6,8 +6,7 @@ use lib.ListN.{length, take, drop, set}
 use Rattle.table.specs.Limits.{maxNodes}
 use Rattle.table.specs.Layout.{word, countOf, nodeCount}
 use Rattle.unification.specs.Computed.Classes.{classOf}
-use Rattle.nodes.specs.Code.Open.{Marked}
-use Rattle.classes.specs.Code.Ordering.{OpenListed}
+use Rattle.nodes.specs.Code.Open.{Marked, OpenListed}
 use Rattle.nodes.specs.Code.Named.{Themselves}
 use Rattle.values.specs.Code.Naming.{keys, keyOf, keyAt, Representative, Chained}
 

@@ -11,8 +11,8 @@ use Rattle.unification.specs.Unifier.{Unifies}
 use Rattle.unification.specs.Computed.Solution.{nodeOf}
 use Rattle.unification.specs.Code.Sections.{nodesFrom}
 use Rattle.nodes.specs.Code.Open.{Counts}
-use Rattle.classes.specs.Code.Circle.{HeadsFirst}
-use Rattle.classes.specs.Code.Stands.{Formed, Stands}
+use Rattle.nodes.specs.Code.Circle.{HeadsFirst}
+use Rattle.nodes.specs.Code.Formed.{Formed, Stands}
 
 -- The head of node i: the least node of its variable, or itself.
 unfoldable pub startHead : List ℕ → List ℕ → ℕ → ℕ

@@ -3,7 +3,7 @@ use mathlib.Core.Path.{_≡_, ap, _∙_}
 use native.Mathlib.Omega.{arith}
 use borrow.Author.Needs.{needs}
 use borrow.Author.Tests.{ltb-true, ltb-false}
-use Rattle.classes.specs.Code.Uniting.{strengthOf}
+use Rattle.nodes.specs.Code.Uniting.{strengthOf}
 use Rattle.classes.proofs.closure.goes_first.Statement.{statement}
 use Rattle.classes.proofs.closure.goes_first.Tie as tie
 

@@ -3,9 +3,9 @@ use Prim.Native.Nat.{ℕ, _<_}
 use native.Mathlib.Omega.{arith}
 use borrow.Author.Needs.{needs}
 use lib.ListN.{length}
-use Rattle.classes.specs.Code.Circle.{Follows}
-use Rattle.classes.specs.Code.Uniting.{Circling}
-use Rattle.classes.proofs.CircleLaws.{distance, nearer, follows-still, not-there}
+use Rattle.nodes.specs.Code.Circle.{Follows}
+use Rattle.nodes.specs.Code.Uniting.{Circling}
+use Rattle.nodes.proofs.CircleLaws.{distance, nearer, follows-still, not-there}
 use Rattle.classes.proofs.closure.is_shorter.Statement.{statement}
 use Rattle.classes.proofs.closure.is_shorter.Tie as tie
 

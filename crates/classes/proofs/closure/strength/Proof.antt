@@ -2,7 +2,7 @@
 use mathlib.Core.Path.{sym, _∙_}
 use borrow.Author.Needs.{needs}
 use borrow.Author.Tests.{eqb-true, eqb-false}
-use Rattle.classes.proofs.OpenLaws.{strength-variable, strength-open, strength-closed}
+use Rattle.nodes.proofs.OpenLaws.{strength-variable, strength-open, strength-closed}
 use Rattle.classes.proofs.closure.strength.Statement.{statement}
 use Rattle.classes.proofs.closure.strength.Tie as tie
 

@@ -1,7 +1,7 @@
 -- `classes::closure::unite` meets its contract. Assumes nothing.
 use mathlib.Core.Logic.{inl, inr}
 use borrow.Author.Needs.{needs}
-use Rattle.classes.proofs.CircleLaws.{circling, turned}
+use Rattle.nodes.proofs.CircleLaws.{circling, turned}
 use Rattle.classes.proofs.closure.unite.Statement.{statement}
 use Rattle.classes.proofs.closure.unite.Tie as tie
 

@@ -12,7 +12,7 @@ use Rattle.table.specs.Layout.{word, nodeCount}
 use Rattle.unification.specs.Code.Heads.{countBelow}
 use Rattle.classes.specs.Code.Ordering.{isNew, Turn}
 use Rattle.classes.proofs.OrderLaws.{visited-cycle, visited-count, met-done, met-open, met-new, due-some, not-due, opened, fewer, visit-next, turned, turned-over, place-left, finished}
-use Rattle.classes.proofs.OpenLaws.{looked-at}
+use Rattle.nodes.proofs.OpenLaws.{looked-at}
 use Rattle.classes.proofs.order.visit.Reads as visit
 use Rattle.classes.proofs.order.visit.Kinds as visit-kinds
 use Rattle.classes.proofs.order.+visit.Lts-visit as visit-lts

@@ -1,6 +1,6 @@
 -- `classes::trail::link` meets its contract. Assumes nothing.
 use borrow.Author.Needs.{needs}
-use Rattle.classes.specs.Code.Uniting.{exchanged}
+use Rattle.nodes.specs.Code.Uniting.{exchanged}
 use Rattle.classes.proofs.trail.link.Statement.{statement}
 use Rattle.classes.proofs.trail.link.Tie as tie
 

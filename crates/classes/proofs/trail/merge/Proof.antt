@@ -3,8 +3,8 @@ use Prim.Native.Nat.{ℕ}
 use mathlib.Core.List.{List}
 use mathlib.Core.Path.{refl, ap, _∙_}
 use borrow.Author.Needs.{needs}
-use Rattle.classes.specs.Code.Trail.{notedGone}
-use Rattle.classes.proofs.CircleLaws.{circling}
+use Rattle.nodes.specs.Code.Trail.{notedGone}
+use Rattle.nodes.proofs.CircleLaws.{circling}
 use Rattle.classes.proofs.TrailLaws.{relabels-renames, note-ready}
 use Rattle.classes.proofs.trail.merge.Statement.{statement}
 use Rattle.classes.proofs.trail.merge.Tie as tie

@@ -5,7 +5,7 @@ use native.Mathlib.Numerals.{add-one}
 use native.Mathlib.Omega.{arith}
 use borrow.Author.Needs.{needs}
 use lib.ListN.{set, length-set}
-use Rattle.classes.specs.Code.Trail.{gone, notedGone}
+use Rattle.nodes.specs.Code.Trail.{gone, notedGone}
 use Rattle.classes.proofs.trail.note.Statement.{statement}
 use Rattle.classes.proofs.trail.note.Tie as tie
 

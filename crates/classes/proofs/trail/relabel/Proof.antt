@@ -3,7 +3,7 @@ use mathlib.Core.Path.{_∙_}
 use native.Mathlib.Omega.{arith}
 use borrow.Author.Needs.{needs}
 use lib.ListN.{length, length-set}
-use Rattle.classes.proofs.CircleLaws.{distance, nearer}
+use Rattle.nodes.proofs.CircleLaws.{distance, nearer}
 use Rattle.classes.proofs.RelabelLaws.{Passing, passing-begun, passing-next, passing-end}
 use Rattle.classes.proofs.trail.relabel.Statement.{statement}
 use Rattle.classes.proofs.trail.relabel.Tie as tie

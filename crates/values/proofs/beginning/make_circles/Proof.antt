@@ -4,7 +4,7 @@ use mathlib.Core.Path.{_≡_, _∙_}
 use borrow.Author.Needs.{needs}
 use lib.ListN.{length}
 use Rattle.table.specs.Limits.{maxNodes}
-use Rattle.classes.specs.Code.Circle.{HeadsFirst, CirclesBefore}
+use Rattle.nodes.specs.Code.Circle.{HeadsFirst, CirclesBefore}
 use Rattle.values.proofs.CirclesBeginLaws.{circles-none, circles-all}
 use Rattle.values.proofs.beginning.make_circles.Statement.{statement}
 use Rattle.values.proofs.beginning.make_circles.Tie as tie

@@ -8,7 +8,7 @@ use lib.ListN.{length, set}
 use Rattle.table.specs.Layout.{word, kindOf}
 use Rattle.unification.specs.Computed.Classes.{classOf}
 use Rattle.unification.specs.Code.Heads.{Partition}
-use Rattle.classes.specs.Code.Circle.{Follows, Circles}
+use Rattle.nodes.specs.Code.Circle.{Follows, Circles}
 
 -- How strong head i is: an application is stronger than a variable, a closed one than an open one.
 unfoldable pub strengthOf : List ℕ → List ℕ → ℕ → ℕ

@@ -7,8 +7,8 @@ use Rattle.table.specs.Limits.{maxNodes}
 use Rattle.table.specs.Layout.{word}
 use Rattle.unification.specs.Computed.Classes.{renamed}
 use Rattle.unification.specs.Code.Heads.{roots}
-use Rattle.classes.specs.Code.Circle.{Circles}
-use Rattle.classes.specs.Code.Uniting.{strengthOf, TwoHeads, exchanged}
+use Rattle.nodes.specs.Code.Circle.{Circles}
+use Rattle.nodes.specs.Code.Uniting.{strengthOf, TwoHeads, exchanged}
 
 -- How many words the circles have, with what stands behind them.
 abbrev pub links : ℕ

@@ -17,8 +17,8 @@ use Rattle.unification.specs.Computed.Classes.{classOf, renamed}
 use Rattle.unification.proofs.ListLaws.{map-at}
 use Rattle.unification.proofs.PigeonLaws.{pigeons}
 use Rattle.unification.proofs.CountLaws.{renamed-here, renamed-other}
-use Rattle.classes.specs.Code.Circle.{Follows, here, onward, Circles}
-use Rattle.classes.specs.Code.Uniting.{Circling, TwoHeads, exchanged}
+use Rattle.nodes.specs.Code.Circle.{Follows, here, onward, Circles}
+use Rattle.nodes.specs.Code.Uniting.{Circling, TwoHeads, exchanged}
 
 -- what follows on what follows
 pub follows-on : {next : List ℕ} {i j k : ℕ} → Follows next i j → Follows next j k → Follows next i k

@@ -10,8 +10,8 @@ use borrow.Author.Tests.{eqb-true, eqb-false, eq-eqb, ne-eqb, not-true}
 use lib.Dec.{eqb}
 use Rattle.table.specs.Layout.{word, kindOf, countOf, nodeCount}
 use Rattle.table.proofs.BoolLaws.{and-true-left, and-true-right}
 use Rattle.nodes.specs.Code.Open.{Marked, markedTest, Counts, ClosedHeads, KeepsClosed}
-use Rattle.classes.specs.Code.Uniting.{strengthOf}
+use Rattle.nodes.specs.Code.Uniting.{strengthOf}
 
 module _ (words counts : List ℕ) (i : ℕ) where
   -- the test tells that the node is one

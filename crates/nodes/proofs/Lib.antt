@@ -1,0 +1,3 @@
+-- Laws that the proofs of the code above need, from the bottom up.
+pub mod OpenLaws
+pub mod CircleLaws
