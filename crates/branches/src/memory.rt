@@ -12,8 +12,8 @@ ghost use Rattle.branches.specs.Code.Branch.{Standing, widthOf};
 ghost use Rattle.branches.specs.Code.Known.{KnownOf};
 ghost use Rattle.branches.specs.Code.Memory.{slots, slotOf, Keyed, Pairable, Remembers, Bound, Notes};
 use crate::known::LIST;
+use binding::words::bind;
 use entries::writing;
-use unify::words::bind;
 
 // How many keys are kept.
 pub const SLOTS: usize = 32;

@@ -9,7 +9,7 @@ ghost use Rattle.unification.specs.Code.Sections.{Sections, nodesFrom};
 ghost use Rattle.nodes.specs.Code.Trail.{links};
 ghost use Rattle.values.specs.Code.Prepared.{preparedWords};
 ghost use Rattle.unify.specs.Code.Calling.{Answers};
-use crate::words::bind;
+use binding::words::bind;
 use classes::Extended;
 use classes::settle::extend;
 use classes::trail::LINKS;

@@ -12,9 +12,6 @@ use table::Checked;
 use table::Node;
 use unification::Unification;
 
-// The binding words: `bind`.
-pub mod words;
-
 // Unifying two nodes of an accepted table.
 mod call;
 

@@ -1,0 +1,219 @@
+-- The words that are found by names are the binding words: the least application with a name, or the least node of the lowest
+-- variable with it, as the variables present are listed in rising order. Assumes nothing.
+use Prim.Native.Nat.{ℕ, suc, _+_, _-_, _<_, _≤_}
+use mathlib.Core.List.{List, [], _∷_, _++_, map, List·Memᴰ, map-map}
+use mathlib.Core.Path.{_≡_, refl, sym, ap, _∙_}
+use native.Mathlib.Decide.{ℕ-discrete}
+use native.Mathlib.Nat.{sub-zero}
+use native.Mathlib.Omega.{arith}
+use lib.ListN.{length, take, drop, replicate, getD-replicate}
+use lib.Seq.{take-append-le, getD-take}
+use Rattle.table.specs.Limits.{maxNodes}
+use Rattle.table.specs.Layout.{word, kindOf, nameOf, nodeCount}
+use Rattle.unification.specs.Node.{Node, variable, application, nodeAt, Present}
+use Rattle.unification.specs.Words.{Least, Matched}
+use Rattle.unification.specs.Computed.Classes.{classOf}
+use Rattle.unification.specs.Computed.Variables.{variablesOf}
+use Rattle.unification.specs.Computed.Solution.{nodeOf}
+use Rattle.unification.specs.Computed.Binding.{wordOf, bindingWords}
+use Rattle.unification.specs.Computed.Unifying.{unifier, wordsOf}
+use Rattle.unification.specs.Code.Sections.{nodesFrom, Sections}
+use Rattle.unification.specs.Code.Heads.{Partition}
+use Rattle.unification.specs.Code.Solved.{Closed}
+use Rattle.unification.specs.Code.Valued.{NamedVariable, IsNamed, bound, free}
+use Rattle.unification.proofs.MatchedLaws.{matched-by}
+use Rattle.unification.proofs.VariableLaws.{variables-rise, variables-present, present-variables}
+use Rattle.unification.proofs.FirstLaws.{node-of}
+use Rattle.unification.proofs.SectionLaws.{run, nodes-long, application-from, from-application, sections-well-formed, counted, is-node}
+use Rattle.unification.proofs.ValuedLaws.{names-decide}
+use Rattle.unification.proofs.ListLaws.{placed, member-place, map-at, first-long}
+use Rattle.nodes.specs.Code.Formed.{Formed}
+use Rattle.values.specs.Code.Begins.{Leaves}
+use Rattle.nodes.specs.Code.Open.{Counts, OpenListed}
+use Rattle.nodes.specs.Code.Order.{Ordered}
+use Rattle.classes.specs.Code.Ordering.{Starting}
+use Rattle.values.specs.Code.Kept.{Writes}
+use Rattle.values.specs.Code.Present.{leastNodes}
+use Rattle.nodes.specs.Code.Named.{valueName, Applied, Named}
+use Rattle.binding.specs.Code.Binding.{HeadNames, NamesLeast, IsFree, nameAt, ApplicationsNoted, FreeFrom, readAt, AreNodes, WordsFound}
+use Rattle.classes.proofs.OrderedLaws.{rank, ordered-enough, ordered-solved}
+use Rattle.values.proofs.AlikeLaws.{alike-back, alike-on}
+use Rattle.values.proofs.NamedLaws.{variable-name, named-valued, head-alike}
+use Rattle.binding.proofs.NotingLaws.{noted-all}
+use Rattle.values.proofs.LeastLaws.{rising-places, least-long}
+
+module _ (words args list : List ℕ) (e : list ≡ leastNodes (nodesFrom words args)) where
+  -- The nodes of the two sections.
+  abbrev ns : List Node
+  ns = nodesFrom words args
+
+  -- there is a place for each variable present
+  list-long : length list ≡ length (variablesOf ns)
+  list-long = ap length e ∙ least-long words args
+
+  -- with its least node
+  list-at : (k : ℕ) → k < length (variablesOf ns) → word list k ≡ nodeOf ns (word (variablesOf ns) k)
+  unfolding leastNodes
+  list-at k h =
+      ap (λ (l : List ℕ). word l k) e ∙ map-at (nodeOf ns) (variablesOf ns) k h
+
+  -- a variable that is present has a place
+  place-of : (x : ℕ) → Present ns x → (k : ℕ) × (k < length list) × (x ≡ word (variablesOf ns) k) × (word list k ≡ nodeOf ns x)
+  place-of x p =
+      let r = member-place (variablesOf ns) x (present-variables ns x p) in
+      (r .0, rw list-long (r .1), r .2, list-at (r .0) (r .1) ∙ ap (nodeOf ns) (sym (r .2)))
+
+  -- a place has a variable that is present
+  at : (k : ℕ) → k < length list → Present ns (word (variablesOf ns) k)
+  at k h =
+      variables-present ns (word (variablesOf ns) k) (placed (variablesOf ns) k (rw list-long at h))
+
+  -- the least nodes are nodes
+  pub least-nodes : AreNodes words list
+  least-nodes =
+      record {
+        node = λ k h.
+            let l = node-of ns (word (variablesOf ns) k) (at k h) in
+            rw (list-at k (rw list-long at h)) (rw (nodes-long words args) at (l .holds .0));
+      }
+
+  module _ (cs names : List ℕ) (m : HeadNames words args cs names) (ps : List (ℕ × ℕ)) (c : Closed ns ps (classOf cs)) (by all : List ℕ) (a : ApplicationsNoted words cs names by) (f : FreeFrom words cs names list by all 0) where
+    -- What stands at the name of variable x is its word by names.
+    abbrev IsFound : ℕ → Type 0
+    IsFound x = IsNamed ns (classOf cs) (valueName cs names) x (word all (valueName cs names (nodeOf ns x)))
+
+    -- where the head is an application
+    named-bound : (x i g : ℕ) (us : List ℕ) → i < length ns → nodeAt ns i ≡ variable x → nodeAt ns (classOf cs i) ≡ application g us → IsNamed ns (classOf cs) (valueName cs names) x (word all (valueName cs names i))
+    named-bound x i g us p v d =
+        let n = counted words args i p in
+        let k = from-application words args (classOf cs i) (m .readable .partition .below i n) g us d .0 in
+        let w = word by (valueName cs names i) in
+        let r = a .least i n k in
+        let q : word all (valueName cs names i) ≡ w = f .applied (valueName cs names i) (m .named .application i n k) in
+        rw q
+        (bound {i = i} {f = g} {w = w} {us = us} p v d
+        (record {
+          holds = (nameOf words w, run words args w, is-node words args w (r .holds .0), application-from words args w (r .holds .0) (r .holds .1), r .holds .2);
+          least = λ j t. r .least j (counted words args j (t .2), from-application words args j (counted words args j (t .2)) (t .0) (t .1) (t .3) .0, t .4);
+        }))
+
+    -- where it is a variable
+    module _ (x z : ℕ) (p : Present ns x) (d : nodeAt ns (classOf cs (nodeOf ns x)) ≡ variable z) where
+      -- the node of the variable, and its head
+      own : Least (λ j. (j < length ns) × (nodeAt ns j ≡ variable x)) (nodeOf ns x)
+      own = node-of ns x p
+
+      head-free : (kindOf words (classOf cs (nodeOf ns x)) ≡ 0) × (valueName cs names (nodeOf ns x) ≡ classOf cs (nodeOf ns x))
+      head-free =
+          variable-name words args cs names (m .readable .sections) (m .readable .partition) (m .named) (nodeOf ns x) z (own .holds .0) d
+
+      -- a place with its name has a variable for a head
+      place-free : (k : ℕ) → k < length list → nameAt cs names list k ≡ valueName cs names (nodeOf ns x) → IsFree words cs list k
+      place-free k h n = pick (ℕ-discrete (kindOf words (classOf cs (word list k))) 0)
+        where
+          pick : Dec (IsFree words cs list k) → IsFree words cs list k
+          pick (yes y) = y
+          pick (no y) =
+              absurd (m .named .application (word list k) (least-nodes .node k h) y (ap (kindOf words) (n ∙ head-free .1) ∙ head-free .0))
+
+      -- a variable with its name has a place with its name
+      named-place : (y : ℕ) → NamedVariable ns (valueName cs names) (valueName cs names (nodeOf ns x)) y → (k : ℕ) × (k < length list) × (y ≡ word (variablesOf ns) k) × (nameAt cs names list k ≡ valueName cs names (nodeOf ns x))
+      named-place y (j, b, v, n) =
+          let r = place-of y (j, b, v) in
+          let l = node-of ns y (j, b, v) in
+          let g : classOf cs (nodeOf ns y) ≡ classOf cs j = c .one-variable (nodeOf ns y) j y (l .holds .0) b (l .holds .1) v in
+          (r .0, r .1, r .2, ap (valueName cs names) (r .3) ∙ ap (word names) g ∙ n)
+
+      -- so the variable at the least such place is the lowest with its name
+      named-lowest : (k : ℕ) → Least (Writes (IsFree words cs list) (nameAt cs names list) 0 (length list) (valueName cs names (nodeOf ns x))) k → word all (valueName cs names (nodeOf ns x)) ≡ word list k → IsFound x
+      named-lowest k r q =
+          let h : k < length list = r .holds .1 in
+          let w : word list k ≡ nodeOf ns (word (variablesOf ns) k) = list-at k (rw list-long at h) in
+          let l = node-of ns (word (variablesOf ns) k) (at k h) in
+          rw (q ∙ w)
+          (free {i = nodeOf ns x} {z = z} {y = word (variablesOf ns) k} {w = nodeOf ns (word (variablesOf ns) k)} (own .holds .0) (own .holds .1) d
+          (record {
+            holds = (nodeOf ns (word (variablesOf ns) k), l .holds .0, l .holds .1, ap (valueName cs names) (sym w) ∙ r .holds .3);
+            least = λ y n. lowest y (named-place y n);
+          })
+          l)
+        where
+          lowest : (y : ℕ) → (j : ℕ) × (j < length list) × (y ≡ word (variablesOf ns) j) × (nameAt cs names list j ≡ valueName cs names (nodeOf ns x)) → word (variablesOf ns) k ≤ y
+          lowest y (j, h, e, n) = pick (r .least j (omega arith, h, place-free j h n, n)) (ℕ-discrete k j)
+            where
+              pick : k ≤ j → Dec (k ≡ j) → word (variablesOf ns) k ≤ y
+              pick b (yes z) = let q = ap (word (variablesOf ns)) z in omega (arith, q, e)
+              pick b (no z) =
+                  let t = rising-places (variablesOf ns) (variables-rise ns) k j (omega (arith, b, z)) (rw list-long at h) in
+                  omega (arith, t, e)
+
+      named-free : IsFound x
+      named-free =
+          let r = place-of x p in
+          let n : nameAt cs names list (r .0) ≡ valueName cs names (nodeOf ns x) = ap (valueName cs names) (r .3) in
+          let t = rw n at (f .kept .kept (r .0) (omega arith) (r .1) (place-free (r .0) (r .1) n)) in
+          named-lowest (t .0) (t .1) (t .2)
+
+    -- in both cases
+    named-present : (x : ℕ) → List·Memᴰ x (variablesOf ns) → IsFound x
+    named-present x k =
+        let p = variables-present ns x k in
+        pick p (node-of ns x p) (nodeAt ns (classOf cs (nodeOf ns x))) refl
+      where
+        pick : Present ns x → Least (λ j. (j < length ns) × (nodeAt ns j ≡ variable x)) (nodeOf ns x) → (n : Node) → nodeAt ns (classOf cs (nodeOf ns x)) ≡ n → IsFound x
+        pick p l (variable z) d = named-free x z p d
+        pick p l (application g us) d =
+            named-bound x (nodeOf ns x) g us (l .holds .0) (l .holds .1) d
+
+    -- so all that is read are the words by names
+    named-read : Matched (IsNamed ns (classOf cs) (valueName cs names)) (variablesOf ns) (readAt cs names all list)
+    unfolding readAt leastNodes
+    named-read =
+        rw (ap (map (λ v. word all (valueName cs names v))) e ∙ map-map (λ v. word all (valueName cs names v)) (nodeOf ns) (variablesOf ns))
+        (matched-by (λ x. word all (valueName cs names (nodeOf ns x))) (variablesOf ns) named-present)
+
+-- the sections, heads and their names
+pub heads-named : (words args cs names : List ℕ) → Named words args cs names → Sections words args → Partition (nodeCount words) cs → length names ≡ nodeCount words → HeadNames words args cs names
+heads-named words args cs names m s p l = record { readable = record { sections = s; partition = p; long = l }; named = m }
+
+-- the name of an application names itself
+name-itself : (words args counts cs names : List ℕ) → HeadNames words args cs names → NamesLeast words args counts cs names → (ps : List (ℕ × ℕ)) → Closed (nodesFrom words args) ps (classOf cs) → (i : ℕ) → i < nodeCount words → Applied words cs i → valueName cs names (valueName cs names i) ≡ valueName cs names i
+name-itself words args counts cs names m t ps c i h n =
+    let v = valueName cs names i in
+    let l = m .named .node i h in
+    let x = head-alike words args cs names (m .readable .sections) (m .readable .partition) ps c v l (m .named .application i h n) in
+    sym (m .named .composed i v h l n (x .0) (alike-on (alike-back (t .alike i h n)) (x .1)))
+
+-- the words found are the binding words
+pub found-leaves : (words args counts cs names opens list out out′ : List ℕ) → WordsFound words cs names opens list out out′ → HeadNames words args cs names → NamesLeast words args counts cs names → Counts words args counts (nodeCount words) → OpenListed words counts opens → Formed words args counts cs → list ≡ leastNodes (nodesFrom words args) → Leaves words args cs out out′
+found-leaves words args counts cs names opens list out out′ f m l k o g e ps t =
+    let s = m .readable .sections in
+    let p = m .readable .partition in
+    let h = t .inside in
+    let c = t .closed in
+    let a = noted-all words args cs names m opens counts (f .applications) o l (name-itself words args counts cs names m l ps c) (f .noted) in
+    let d : wordsOf (nodesFrom words args) ps ≡ readAt cs names (f .all) list = names-decide (nodesFrom words args) (sections-well-formed words args s) ps h (classOf cs) (rank words counts (g .order)) (ordered-solved words args s counts k cs p (g .closed) ps h c (g .order) (g .ordered)) (suc (nodeCount words + suc (length (g .order)))) (ordered-enough words args s counts k cs p (g .closed) ps h c (g .order) (g .ordered)) (valueName cs names) (named-valued words args cs names s p (m .named)) (readAt cs names (f .all) list) (named-read words args list e cs names m ps c (f .applications) (f .all) a (f .free)) in
+    f .words-read ∙ ap (λ (n : List ℕ). n ++ drop (length list) out) (sym d) ∙ ap (λ (n : ℕ). wordsOf (nodesFrom words args) ps ++ drop n out) (ap length e ∙ least-long words args)
+
+-- the search for an order starts with no node placed
+pub nothing-placed : (n m : ℕ) → n ≡ m → n ≤ maxNodes → Starting m (take (n - 0) (replicate maxNodes 0)) (take (n - 0) (replicate maxNodes 0))
+nothing-placed n m e l =
+    record {
+      marks-size = first-long n l ∙ e;
+      order-size = first-long n l ∙ e;
+      new = λ k h. getD-take (n - 0) (replicate maxNodes 0) k 0 (omega arith) ∙ getD-replicate {A = ℕ} maxNodes k 0 0 (omega arith);
+    }
+
+-- the order is the first part of a longer list
+pub ordered-part : (words args : List ℕ) (due : ℕ → ℕ) (cs xs ys : List ℕ) (k : ℕ) → k ≤ length xs → Ordered words args due cs (take k xs) → Ordered words args due cs (take (k - 0) (xs ++ ys))
+ordered-part words args due cs xs ys k h o = rw (sub-zero k, take-append-le k xs ys h) o
+
+-- where no variable is present there are no words, and nothing is written
+pub leaves-nothing : (words args cs list out : List ℕ) → list ≡ leastNodes (nodesFrom words args) → length list ≡ 0 → Leaves words args cs out out
+unfolding wordsOf bindingWords
+leaves-nothing words args cs list out e z ps s =
+    pick (variablesOf (nodesFrom words args)) (sym (ap length e ∙ least-long words args) ∙ z)
+  where
+    pick : (xs : List ℕ) → length xs ≡ 0 → out ≡ map (wordOf (nodesFrom words args) (unifier (nodesFrom words args) ps)) xs ++ drop (length xs) out
+    pick [] e = refl
+    pick (x ∷ xs) e = absurd (omega (arith, e))

@@ -1,0 +1,4 @@
+-- Laws of the binding words, from the bottom up.
+pub mod NotingLaws
+pub mod BindingLaws
+pub mod PrefixLaws

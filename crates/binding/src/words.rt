@@ -1,0 +1,377 @@
+// The binding words of classes, by the names of their values.
+ghost use mathlib.Core.Path.{_≡_};
+ghost use mathlib.Core.List.{_++_};
+ghost use Prim.Native.Nat.{_+_, _≤_, _<_};
+ghost use lib.ListN.{length, take, drop};
+ghost use Rattle.table.specs.Limits.{maxNodes};
+ghost use Rattle.table.specs.Layout.{word, nodeCount};
+ghost use Rattle.unification.specs.Code.Sections.{Sections, nodesFrom};
+ghost use Rattle.nodes.specs.Code.Open.{Counts, OpenListed};
+ghost use Rattle.nodes.specs.Code.Order.{Ordered};
+ghost use Rattle.values.specs.Code.Present.{leastNodes};
+ghost use Rattle.nodes.specs.Code.Named.{valueName, Named, Themselves};
+ghost use Rattle.binding.specs.Code.Binding.{HeadNames, NamesLeast, AreApplied, applicationNoted, OpenNoted, freeNoted, FreeFrom, readAt, AreNodes, AllBelow, WordsFound};
+ghost use Rattle.values.specs.Code.Prepared.{ClosedListed, ClosedTable, Prepared};
+ghost use Rattle.nodes.specs.Code.Formed.{Formed};
+ghost use Rattle.values.specs.Code.Begins.{Leaves};
+use classes::order;
+use nodes::lists;
+use nodes::sections;
+use table::Node;
+use table::limits::MAX_NODES;
+use values::bytes::put_bytes;
+use values::names;
+use values::prepared::CLOSED;
+use values::prepared::CLOSED_COUNT;
+use values::prepared::EARLIER;
+use values::prepared::OPEN;
+use values::prepared::OPEN_COUNT;
+
+// Notes an application at its name, if no smaller node stands there.
+fn note_application(
+    nodes: &[u32],
+    arguments: &[u32],
+    of: &[u8],
+    names: &[u8],
+    by: &mut [u8],
+    i: usize,
+)
+    requires { ⌜ HeadNames (now nodes) (now arguments) (now of) (now names) ⌝ }
+    requires { ⌜ (i < nodeCount (now nodes)) × (length (now by) ≡ nodeCount (now nodes)) ⌝ }
+    ensures { λ r. ⌜ now (by .exit) ≡ applicationNoted (now (of .entry)) (now (names .entry)) (now (by .entry)) i ⌝ }
+{
+    let name = lists::value_name(of, names, Node(i as u32));
+    let least = lists::node_in(by, name.0 as usize);
+    if i < least.0 as usize {
+        by[name.0 as usize] = i as u8;
+    }
+}
+
+// The least application of each name, where each node stands at its own number: the open ones are noted.
+fn note_applications(
+    nodes: &[u32],
+    arguments: &[u32],
+    opens: &[u16],
+    of: &[u8],
+    names: &[u8],
+    by: &mut [u8],
+)
+    requires { ⌜ HeadNames (now nodes) (now arguments) (now of) (now names) ⌝ }
+    requires { ⌜ AreApplied (now nodes) (now opens) ⌝ }
+    requires { ⌜ (length (now by) ≡ nodeCount (now nodes)) × Themselves (now by) ⌝ }
+    ensures { λ r. ⌜ OpenNoted (now (nodes .entry)) (now (of .entry)) (now (names .entry)) (now (opens .entry)) (now (by .exit)) (length (now (opens .entry))) ⌝ }
+{
+    let mut p: usize = 0;
+    while p < opens.len() {
+        let i = lists::entry(opens, p);
+        note_application(nodes, arguments, of, names, by, i);
+        p += 1;
+    }
+}
+
+// Notes the node at place k of a list at its name, if its head is a variable.
+fn note_free_variable(
+    nodes: &[u32],
+    arguments: &[u32],
+    of: &[u8],
+    names: &[u8],
+    by: &mut [u8],
+    list: &[u8],
+    k: usize,
+)
+    requires { ⌜ HeadNames (now nodes) (now arguments) (now of) (now names) ⌝ }
+    requires { ⌜ (k < length (now list)) × AreNodes (now nodes) (now list) × (length (now by) ≡ nodeCount (now nodes)) ⌝ }
+    ensures { λ r. ⌜ now (by .exit) ≡ freeNoted (now (nodes .entry)) (now (of .entry)) (now (names .entry)) (now (list .entry)) (now (by .entry)) k ⌝ }
+{
+    let v = lists::node_in(list, k);
+    let head = lists::node_in(of, v.0 as usize);
+    if sections::is_variable(nodes, head) {
+        let name = lists::value_name(of, names, v);
+        by[name.0 as usize] = v.0 as u8;
+    }
+}
+
+// The first node of each name in a list, where its head is a variable: the nodes are noted from the last place down.
+fn note_free_variables(
+    nodes: &[u32],
+    arguments: &[u32],
+    of: &[u8],
+    names: &[u8],
+    by: &mut [u8],
+    list: &[u8],
+)
+    requires { ⌜ HeadNames (now nodes) (now arguments) (now of) (now names) ⌝ }
+    requires { ⌜ AreNodes (now nodes) (now list) × (length (now by) ≡ nodeCount (now nodes)) ⌝ }
+    ensures { λ r. ⌜ FreeFrom (now (nodes .entry)) (now (of .entry)) (now (names .entry)) (now (list .entry)) (now (by .entry)) (now (by .exit)) 0 ⌝ }
+{
+    let mut k = list.len();
+    while 0 < k {
+        k -= 1;
+        note_free_variable(nodes, arguments, of, names, by, list, k);
+    }
+}
+
+// The word at the name of the node at place k of a list.
+fn word_at(
+    nodes: &[u32],
+    arguments: &[u32],
+    of: &[u8],
+    names: &[u8],
+    by: &[u8],
+    list: &[u8],
+    k: usize,
+) -> u32
+    requires { ⌜ HeadNames (now nodes) (now arguments) (now of) (now names) ⌝ }
+    requires { ⌜ (k < length (now list)) × AreNodes (now nodes) (now list) × (length (now by) ≡ nodeCount (now nodes)) ⌝ }
+    ensures { λ r. ⌜ r ≡ word (now (by .entry)) (valueName (now (of .entry)) (now (names .entry)) (word (now (list .entry)) k)) ⌝ }
+{
+    let v = lists::node_in(list, k);
+    let name = lists::value_name(of, names, v);
+    lists::node_in(by, name.0 as usize).0
+}
+
+// Writes the words of a list of nodes, by their names.
+fn write_words(
+    nodes: &[u32],
+    arguments: &[u32],
+    of: &[u8],
+    names: &[u8],
+    by: &[u8],
+    list: &[u8],
+    out: &mut [u32],
+)
+    requires { ⌜ HeadNames (now nodes) (now arguments) (now of) (now names) ⌝ }
+    requires { ⌜ AreNodes (now nodes) (now list) × (length (now by) ≡ nodeCount (now nodes)) × (length (now list) ≤ length (now out)) ⌝ }
+    ensures { λ r. ⌜ now (out .exit) ≡ readAt (now (of .entry)) (now (names .entry)) (now (by .entry)) (now (list .entry)) ++ drop (length (now (list .entry))) (now (out .entry)) ⌝ }
+{
+    let mut k: usize = 0;
+    while k < list.len() {
+        out[k] = word_at(nodes, arguments, of, names, by, list, k);
+        k += 1;
+    }
+}
+
+// Finds the words of a list of nodes by names: notes applications, then free variables, and reads what stands at each name.
+fn find_words(
+    nodes: &[u32],
+    arguments: &[u32],
+    opens: &[u16],
+    of: &[u8],
+    names: &[u8],
+    by: &mut [u8],
+    list: &[u8],
+    out: &mut [u32],
+)
+    requires { ⌜ HeadNames (now nodes) (now arguments) (now of) (now names) ⌝ }
+    requires { ⌜ AreApplied (now nodes) (now opens) ⌝ }
+    requires { ⌜ AreNodes (now nodes) (now list) × (length (now by) ≡ nodeCount (now nodes)) × (length (now list) ≤ length (now out)) ⌝ }
+    ensures { λ r. ⌜ WordsFound (now (nodes .entry)) (now (of .entry)) (now (names .entry)) (now (opens .entry)) (now (list .entry)) (now (out .entry)) (now (out .exit)) ⌝ }
+{
+    names::name_themselves(by);
+    note_applications(nodes, arguments, opens, of, names, by);
+    note_free_variables(nodes, arguments, of, names, by, list);
+    write_words(nodes, arguments, of, names, by, list, out);
+}
+
+// Puts the closed applications of a list in front of an order.
+fn put_closed(closed: &[u16], order: &mut [u8])
+    requires { ⌜ (length (now closed) ≤ length (now order)) × AllBelow maxNodes (now closed) ⌝ }
+    ensures { λ r. ⌜ now (order .exit) ≡ now (closed .entry) ++ drop (length (now (closed .entry))) (now (order .entry)) ⌝ }
+{
+    let mut i: usize = 0;
+    while i < closed.len() {
+        order[i] = closed[i] as u8;
+        i += 1;
+    }
+}
+
+// Names the values of open applications that are heads, with room for an order of these and the closed ones.
+fn name_open(
+    nodes: &[u32],
+    arguments: &[u32],
+    counts: &[u8],
+    of: &[u8],
+    closed: &[u16],
+    placed: &[u8],
+    buckets: &[u16],
+    earlier: &[u16],
+    order: &mut [u8],
+    names: &mut [u8],
+)
+    requires { ⌜ Sections (now nodes) (now arguments) × Counts (now nodes) (now arguments) (now counts) (nodeCount (now nodes)) ⌝ }
+    requires { ⌜ Formed (now nodes) (now arguments) (now counts) (now of) ⌝ }
+    requires { ⌜ Ordered (now nodes) (now arguments) (word (now counts)) (now of) (now placed) ⌝ }
+    requires { ⌜ ClosedListed (now nodes) (now counts) (now of) (now closed) × ClosedTable (now nodes) (now arguments) (now of) (now closed) (now buckets) (now earlier) ⌝ }
+    requires { ⌜ (length (now names) ≡ nodeCount (now nodes)) × Themselves (now names) ⌝ }
+    requires { ⌜ length (now order) ≡ maxNodes + maxNodes ⌝ }
+    ensures { λ r. ⌜ Named (now (nodes .entry)) (now (arguments .entry)) (now (of .entry)) (now (names .exit)) × NamesLeast (now (nodes .entry)) (now (arguments .entry)) (now (counts .entry)) (now (of .entry)) (now (names .exit)) ⌝ }
+{
+    let start = closed.len();
+    let end = start + placed.len();
+    put_closed(closed, order);
+    put_bytes(placed, order, start);
+    names::name_after(
+        nodes,
+        arguments,
+        of,
+        &order[0..end],
+        start,
+        buckets,
+        earlier,
+        names,
+    );
+}
+
+// Writes the binding words of classes where there are open applications, with room for the names of heads and for nodes by name.
+fn bind_open(
+    nodes: &[u32],
+    arguments: &[u32],
+    counts: &[u8],
+    opens: &[u16],
+    closed: &[u16],
+    buckets: &[u16],
+    earlier: &[u16],
+    list: &[u8],
+    of: &[u8],
+    names: &mut [u8],
+    by: &mut [u8],
+    out: &mut [u32],
+)
+    requires { ⌜ Sections (now nodes) (now arguments) × Counts (now nodes) (now arguments) (now counts) (nodeCount (now nodes)) ⌝ }
+    requires { ⌜ Formed (now nodes) (now arguments) (now counts) (now of) ⌝ }
+    requires { ⌜ OpenListed (now nodes) (now counts) (now opens) ⌝ }
+    requires { ⌜ ClosedListed (now nodes) (now counts) (now of) (now closed) × ClosedTable (now nodes) (now arguments) (now of) (now closed) (now buckets) (now earlier) ⌝ }
+    requires { ⌜ (now list ≡ leastNodes (nodesFrom (now nodes) (now arguments))) × (length (now list) ≤ length (now out)) ⌝ }
+    requires { ⌜ (length (now names) ≡ nodeCount (now nodes)) × (length (now by) ≡ nodeCount (now nodes)) ⌝ }
+    ensures { λ r. ⌜ Leaves (now (nodes .entry)) (now (arguments .entry)) (now (of .entry)) (now (out .entry)) (now (out .exit)) ⌝ }
+{
+    names::name_themselves(names);
+    let n = sections::node_count(nodes, arguments);
+    let mut marks = [0u8; MAX_NODES];
+    let mut placed = [0u8; MAX_NODES];
+    let count = order::put_in_order(
+        nodes,
+        arguments,
+        counts,
+        of,
+        opens,
+        &mut marks[0..n],
+        &mut placed[0..n],
+    );
+    if count == 0 {
+        find_words(nodes, arguments, opens, of, names, by, list, out);
+        return;
+    }
+    let mut order = [0u8; MAX_NODES + MAX_NODES];
+    name_open(
+        nodes,
+        arguments,
+        counts,
+        of,
+        closed,
+        &placed[0..count],
+        buckets,
+        earlier,
+        &mut order,
+        names,
+    );
+    find_words(nodes, arguments, opens, of, names, by, list, out);
+}
+
+// The same where there are none.
+fn bind_closed(
+    nodes: &[u32],
+    arguments: &[u32],
+    counts: &[u8],
+    none: &[u16],
+    list: &[u8],
+    of: &[u8],
+    names: &mut [u8],
+    by: &mut [u8],
+    out: &mut [u32],
+)
+    requires { ⌜ Sections (now nodes) (now arguments) × Counts (now nodes) (now arguments) (now counts) (nodeCount (now nodes)) ⌝ }
+    requires { ⌜ Formed (now nodes) (now arguments) (now counts) (now of) ⌝ }
+    requires { ⌜ OpenListed (now nodes) (now counts) (now none) × (length (now none) ≡ 0) ⌝ }
+    requires { ⌜ (now list ≡ leastNodes (nodesFrom (now nodes) (now arguments))) × (length (now list) ≤ length (now out)) ⌝ }
+    requires { ⌜ (length (now names) ≡ nodeCount (now nodes)) × (length (now by) ≡ nodeCount (now nodes)) ⌝ }
+    ensures { λ r. ⌜ Leaves (now (nodes .entry)) (now (arguments .entry)) (now (of .entry)) (now (out .entry)) (now (out .exit)) ⌝ }
+{
+    names::name_themselves(names);
+    find_words(nodes, arguments, none, of, names, by, list, out);
+}
+
+// The same, by the words that were prepared for it.
+fn bind_prepared(
+    nodes: &[u32],
+    arguments: &[u32],
+    counts: &[u8],
+    prepared: &[u16],
+    list: &[u8],
+    of: &[u8],
+    names: &mut [u8],
+    by: &mut [u8],
+    out: &mut [u32],
+)
+    requires { ⌜ Sections (now nodes) (now arguments) × Counts (now nodes) (now arguments) (now counts) (nodeCount (now nodes)) ⌝ }
+    requires { ⌜ Formed (now nodes) (now arguments) (now counts) (now of) × Prepared (now nodes) (now arguments) (now counts) (now of) (now prepared) ⌝ }
+    requires { ⌜ (now list ≡ leastNodes (nodesFrom (now nodes) (now arguments))) × (length (now list) ≤ length (now out)) ⌝ }
+    requires { ⌜ (length (now names) ≡ nodeCount (now nodes)) × (length (now by) ≡ nodeCount (now nodes)) ⌝ }
+    ensures { λ r. ⌜ Leaves (now (nodes .entry)) (now (arguments .entry)) (now (of .entry)) (now (out .entry)) (now (out .exit)) ⌝ }
+{
+    if prepared.len() == 0 {
+        bind_closed(nodes, arguments, counts, prepared, list, of, names, by, out);
+        return;
+    }
+    let open_end = OPEN + lists::entry(prepared, OPEN_COUNT);
+    let closed_end = CLOSED + lists::entry(prepared, CLOSED_COUNT);
+    bind_open(
+        nodes,
+        arguments,
+        counts,
+        &prepared[OPEN..open_end],
+        &prepared[CLOSED..closed_end],
+        &prepared[0..EARLIER],
+        &prepared[EARLIER..OPEN],
+        list,
+        of,
+        names,
+        by,
+        out,
+    );
+}
+
+// Writes the binding words of the classes of a list of pairs, given what was prepared for them and the least nodes of the variables
+// present, in rising order of variable number: none where no variable is present.
+pub fn bind(
+    nodes: &[u32],
+    arguments: &[u32],
+    counts: &[u8],
+    prepared: &[u16],
+    list: &[u8],
+    of: &[u8],
+    out: &mut [u32],
+)
+    requires { ⌜ Sections (now nodes) (now arguments) × Counts (now nodes) (now arguments) (now counts) (nodeCount (now nodes)) ⌝ }
+    requires { ⌜ Formed (now nodes) (now arguments) (now counts) (now of) × Prepared (now nodes) (now arguments) (now counts) (now of) (now prepared) ⌝ }
+    requires { ⌜ (now list ≡ leastNodes (nodesFrom (now nodes) (now arguments))) × (length (now list) ≤ length (now out)) ⌝ }
+    ensures { λ r. ⌜ Leaves (now (nodes .entry)) (now (arguments .entry)) (now (of .entry)) (now (out .entry)) (now (out .exit)) ⌝ }
+{
+    if list.len() == 0 {
+        return;
+    }
+    let n = sections::node_count(nodes, arguments);
+    let mut names = [0u8; MAX_NODES];
+    let mut by = [0u8; MAX_NODES];
+    bind_prepared(
+        nodes,
+        arguments,
+        counts,
+        prepared,
+        list,
+        of,
+        &mut names[0..n],
+        &mut by[0..n],
+        out,
+    );
+}
