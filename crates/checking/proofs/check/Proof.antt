@@ -1,4 +1,4 @@
--- `table::check` meets its contract: each test that failed says that its condition does not hold, and the first that is met says
+-- `check` meets its contract: each test that failed says that its condition does not hold, and the first that is met says
 -- that its own does. Assumes nothing.
 use mathlib.Core.Path.{sym, _∙_}
 use borrow.Author.Tests.{lt-ltb, le-ltb}

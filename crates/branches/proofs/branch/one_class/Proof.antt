@@ -30,7 +30,9 @@ shared-slice-read-result-2 c = search needs
 
 returns : tie.Need-returns
 returns c =
-    rw (c .before .before .before .before .before .node-at .ensures, c .before .before .before .before .node-at2 .ensures) refl
+    let a = c .before .before .before .before .before .node-at .ensures in
+    let b = c .before .before .before .before .node-at2 .ensures in
+    cc (a, b)
 
 pub one-class-spec : {M : Type 1} → statement M
 one-class-spec =
