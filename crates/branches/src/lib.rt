@@ -1,13 +1,10 @@
-// Branches of the walk over the choices: what is known of them before it, and what is remembered on the way.
+// Branches of the walk over the choices: what is known of them before it, and what is read and stored on the way.
 
 // A branch as it stands in an entry, read and stored for a digit more.
 pub mod branch;
 
 // What is known of nodes and of pairs of terms, in bytes.
 pub mod known;
-
-// Binding words by a key of the pairs: `is_kept`, `put_words`, `note_place`.
-pub mod memory;
 
 // Pairs of terms by themselves: `find_partners`, `stuck`.
 pub mod partners;

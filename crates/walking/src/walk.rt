@@ -16,12 +16,12 @@ ghost use Rattle.branches.specs.Code.Memory.{slotOf, Remembers};
 ghost use Rattle.branches.specs.Code.Walk.{Branching, Walking, Ending, Walked, Stepped, Joining, WalkedJoined};
 use branches::Labels;
 use branches::branch;
-use branches::memory;
 use classes::Extended;
 use classes::trail::GONE;
 use classes::trail::undo;
 use entries::Written;
 use entries::writing;
+use remembering::memory;
 
 // What a key is multiplied by for each left digit: more than any right term's number.
 const BASE: usize = 16;

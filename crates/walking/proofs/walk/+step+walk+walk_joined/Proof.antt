@@ -27,7 +27,7 @@ use Rattle.branches.proofs.branch.put_pair.Reads as put-pair-reads
 use Rattle.branches.proofs.branch.put_back.Reads as put-back-reads
 use Rattle.branches.proofs.branch.one_class.Reads as one-class-reads
 use Rattle.branches.proofs.branch.join_pair.Reads as join-pair-reads
-use Rattle.branches.proofs.memory.is_kept.Reads as is-kept-reads
+use Rattle.remembering.proofs.memory.is_kept.Reads as is-kept-reads
 use Rattle.walking.proofs.walk.write_kept.Reads as write-kept-reads
 use Rattle.classes.proofs.trail.undo.Reads as undo-reads
 use Rattle.walking.proofs.walk.write_branch.Reads as write-branch-reads

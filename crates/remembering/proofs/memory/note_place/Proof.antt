@@ -3,9 +3,9 @@ use Prim.Native.Nat.{_+_}
 use native.Mathlib.Omega.{arith}
 use borrow.Author.Needs.{needs}
 use lib.ListN.{length-set}
 use Rattle.branches.proofs.MemoryLaws.{nothing-noted, place-noted}
-use Rattle.branches.proofs.memory.note_place.Statement.{statement}
-use Rattle.branches.proofs.memory.note_place.Tie as tie
+use Rattle.remembering.proofs.memory.note_place.Statement.{statement}
+use Rattle.remembering.proofs.memory.note_place.Tie as tie
 
 returns : tie.Need-returns
 returns c = let a = c .before .before .args in nothing-noted (a .memory .now) (a .key) (a .at) (a .used) (c .if1 .taken)

@@ -8,11 +8,11 @@ ghost use Rattle.table.specs.Layout.{word};
 ghost use Rattle.unification.specs.Code.Sections.{Sections};
 ghost use Rattle.values.specs.Code.Prepared.{Prepared};
 ghost use Rattle.nodes.specs.Code.Formed.{Formed};
 ghost use Rattle.branches.specs.Code.Branch.{Standing, widthOf};
 ghost use Rattle.branches.specs.Code.Known.{KnownOf};
 ghost use Rattle.branches.specs.Code.Memory.{slots, slotOf, Keyed, Pairable, Remembers, Bound, Notes};
-use crate::known::LIST;
 use binding::words::bind;
+use branches::known::LIST;
 use entries::writing;
 
 // How many keys are kept.

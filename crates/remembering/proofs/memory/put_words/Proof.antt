@@ -7,11 +7,11 @@ use borrow.Author.Needs.{needs}
 use borrow.Author.Tests.{eqb-true}
 use lib.ListN.{length}
 use Rattle.unification.specs.Code.Sections.{nodesFrom}
 use Rattle.branches.specs.Code.Branch.{widthOf}
 use Rattle.branches.proofs.KnownLaws.{least-long, variables-few, listed-least}
 use Rattle.branches.proofs.MemoryLaws.{key-fits, bound-none, bound-new}
-use Rattle.branches.proofs.memory.put_words.Statement.{statement}
-use Rattle.branches.proofs.memory.put_words.Tie as tie
+use Rattle.remembering.proofs.memory.put_words.Statement.{statement}
+use Rattle.remembering.proofs.memory.put_words.Tie as tie
 
 -- the entry has a word for each term and each variable
 wide : (s : tie.Start) → length (s .args .entry .now) ≡ widthOf (s .args .nodes .now) (s .args .arguments .now) (s .args .left .now) (s .args .right .now)

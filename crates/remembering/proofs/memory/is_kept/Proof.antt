@@ -4,8 +4,8 @@ use mathlib.Core.Path.{ap}
 use borrow.Author.Needs.{needs}
 use lib.Dec.{eqb}
 use Rattle.table.specs.Layout.{word}
-use Rattle.branches.proofs.memory.is_kept.Statement.{statement}
-use Rattle.branches.proofs.memory.is_kept.Tie as tie
+use Rattle.remembering.proofs.memory.is_kept.Statement.{statement}
+use Rattle.remembering.proofs.memory.is_kept.Tie as tie
 
 slot-requires : tie.Need-slot-requires
 slot-requires c κs = search needs

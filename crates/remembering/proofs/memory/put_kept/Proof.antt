@@ -6,11 +6,11 @@ use native.Mathlib.Omega.{arith}
 use borrow.Author.Needs.{needs}
 use lib.ListN.{length}
 use Rattle.table.specs.Layout.{word}
 use Rattle.branches.specs.Code.Branch.{widthOf}
 use Rattle.branches.specs.Code.Memory.{slots, slotOf}
 use Rattle.branches.proofs.MemoryLaws.{lies-within, bound-again}
-use Rattle.branches.proofs.memory.put_kept.Statement.{statement}
-use Rattle.branches.proofs.memory.put_kept.Tie as tie
+use Rattle.remembering.proofs.memory.put_kept.Statement.{statement}
+use Rattle.remembering.proofs.memory.put_kept.Tie as tie
 
 -- the entry has a word for each term and each variable
 wide : (s : tie.Start) → length (s .args .entry .now) ≡ widthOf (s .args .nodes .now) (s .args .arguments .now) (s .args .left .now) (s .args .right .now)
