@@ -1,28 +1,23 @@
 // Listing an accepted table.
 ghost use mathlib.Core.Path.{_≡_};
-ghost use mathlib.Core.Bool.{false};
-ghost use Prim.Native.Nat.{ℕ, _≤_, _<_};
+ghost use Prim.Native.Nat.{_<_};
 ghost use lib.ListN.{length, replicate};
-ghost use Rattle.table.specs.Layout.{word, nodeCount};
+ghost use Rattle.table.specs.Layout.{nodeCount};
 ghost use Rattle.table.specs.Code.Accepted.{Accepted};
-ghost use Rattle.unification.specs.Code.Sections.{Sections, nodesFrom};
-ghost use Rattle.values.specs.Code.Present.{leastNodes};
-ghost use Rattle.nodes.specs.Code.Open.{Counts};
 ghost use Rattle.nodes.specs.Code.Trail.{links, Trailed};
 ghost use Rattle.values.specs.Code.Prepared.{Prepared};
 ghost use Rattle.nodes.specs.Code.Formed.{Formed};
 ghost use Rattle.classes.specs.Code.Stands.{StandsAlways};
 ghost use Rattle.multiset_unification.specs.Computed.Listing.{completeListing};
 ghost use Rattle.branches.specs.Code.Branch.{Listable, widthOf};
-ghost use Rattle.branches.specs.Code.Known.{knownBytes, mayIn, PairsKnown, KnownOf, KeepsCounts};
-ghost use Rattle.branches.specs.Code.Partners.{Trying, MayPair};
+ghost use Rattle.branches.specs.Code.Known.{knownBytes, mayIn, KnownOf};
+ghost use Rattle.branches.specs.Code.Partners.{MayPair};
 ghost use Rattle.branches.specs.Code.Walk.{allEntries};
 ghost use Rattle.listing.specs.Code.Calling.{Answers};
 use branches::Labels;
 use branches::known::KNOWN;
-use branches::known::LIST;
-use branches::known::MAY;
-use branches::partners::find_partners;
+use branches::known::begin_known;
+use branches::known::complete_known;
 use classes::trail::LINKS;
 use multiset_unification::Listing;
 use remembering::memory::SLOTS;
@@ -31,47 +26,12 @@ use table::layout::index;
 use table::limits::MAX_NODES;
 use values::beginning::begin_shared;
 use values::beginning::make_circles;
-use values::bytes::put_bytes;
 use values::prepared::PREPARED;
-use values::prepared::count_open;
 use values::prepared::prepare;
 use walking::walk::walk;
 
 // Room for an entry: n + m digits and V binding words.
 const ENTRY_WORDS: usize = 80;
-
-// Begins what is known: counts the arguments that are looked at, and says whether there are any. The marks of pairs stay.
-fn begin_known(nodes: &[u32], arguments: &[u32], known: &mut [u8]) -> bool
-    requires { ⌜ Sections (now nodes) (now arguments) × (length (now known) ≡ knownBytes) ⌝ }
-    ensures { λ r. ⌜ Counts (now (nodes .entry)) (now (arguments .entry)) (now (known .exit)) (nodeCount (now (nodes .entry))) ⌝ }
-    ensures { λ r. ⌜ (r ≡ false → (i : ℕ) → i < nodeCount (now (nodes .entry)) → word (now (known .exit)) i ≡ 0) ⌝ }
-    ensures { λ r. ⌜ mayIn (now (known .exit)) ≡ mayIn (now (known .entry)) ⌝ }
-{
-    count_open(nodes, arguments, &mut known[0..MAY])
-}
-
-// Marks the pairs of terms, and puts the least nodes of the variables behind the marks.
-fn complete_known(
-    nodes: &[u32],
-    arguments: &[u32],
-    left: &[u32],
-    right: &[u32],
-    labels: Labels,
-    list: &[u8],
-    of: &mut [u8],
-    next: &mut [u8],
-    known: &mut [u8],
-)
-    requires { ⌜ Listable (now nodes) (now arguments) (now left) (now right) labels ⌝ }
-    requires { ⌜ Trying (now nodes) (now arguments) (now of) (now next) × PairsKnown (now nodes) (now arguments) (now left) (now right) (now known) ⌝ }
-    requires { ⌜ (now list ≡ leastNodes (nodesFrom (now nodes) (now arguments))) × (length (now list) ≤ 64) ⌝ }
-    ensures { λ r. ⌜ KnownOf (now (nodes .entry)) (now (arguments .entry)) (now (known .exit)) × MayPair (now (nodes .entry)) (now (arguments .entry)) (now (left .entry)) (now (right .entry)) (mayIn (now (known .exit))) ⌝ }
-    ensures { λ r. ⌜ KeepsCounts (now (nodes .entry)) (now (known .entry)) (now (known .exit)) ⌝ }
-    ensures { λ r. ⌜ (now (of .exit) ≡ now (of .entry)) × (now (next .exit) ≡ now (next .entry)) ⌝ }
-{
-    find_partners(nodes, arguments, left, right, labels, of, next, known);
-    put_bytes(list, known, LIST);
-}
 
 // Lists the sides of an accepted table by the walk, given what is known and prepared, and the classes of no pair.
 fn list_known(

@@ -1,9 +1,9 @@
--- `listing::call::complete_known` meets its contract: the least nodes are put behind the marks of pairs (`put-known`). Assumes nothing.
+-- `branches::known::complete_known` meets its contract: the least nodes are put behind the marks of pairs (`put-known`). Assumes nothing.
 use mathlib.Core.Path.{_∙_}
 use borrow.Author.Needs.{needs}
 use Rattle.branches.proofs.KnownLaws.{put-keeps, put-partners, put-known}
-use Rattle.listing.proofs.call.complete_known.Statement.{statement}
-use Rattle.listing.proofs.call.complete_known.Tie as tie
+use Rattle.branches.proofs.known.complete_known.Statement.{statement}
+use Rattle.branches.proofs.known.complete_known.Tie as tie
 
 find-partners-requires : tie.Need-find-partners-requires
 find-partners-requires c κs = search needs

@@ -1,11 +1,11 @@
--- `listing::call::begin_known` meets its contract: the counts are written before the marks of pairs, which stay. Assumes nothing.
+-- `branches::known::begin_known` meets its contract: the counts are written before the marks of pairs, which stay. Assumes nothing.
 use mathlib.Core.Path.{_∙_}
 use native.Mathlib.Omega.{arith}
 use borrow.Author.Needs.{needs}
 use lib.Seq.{length-take-le}
 use Rattle.branches.proofs.KnownLaws.{begun-counts, begun-noughts, begun-marks}
-use Rattle.listing.proofs.call.begin_known.Statement.{statement}
-use Rattle.listing.proofs.call.begin_known.Tie as tie
+use Rattle.branches.proofs.known.begin_known.Statement.{statement}
+use Rattle.branches.proofs.known.begin_known.Tie as tie
 
 sub-count-open : tie.Need-sub-count-open
 sub-count-open c = search needs
