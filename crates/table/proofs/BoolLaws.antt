@@ -17,6 +17,9 @@ or-false-right false b e = e
 pub or-both-false : (a b : Bool) → a ≡ false → b ≡ false → (a || b) ≡ false
 or-both-false a b p q = cc
 
+pub or-same : {a b c d : Bool} → a ≡ c → b ≡ d → (a || b) ≡ (c || d)
+or-same p q = rw (p, q) refl
+
 pub and-true-left : (a b : Bool) → (a && b) ≡ true → a ≡ true
 and-true-left true b e = refl
 and-true-left false b e = e

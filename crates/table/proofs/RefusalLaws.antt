@@ -1,12 +1,17 @@
--- A refusal is given exactly if its condition holds and none before it. By induction on the conditions. Assumes nothing.
-use Prim.Native.Nat.{ℕ, _<_, _≤_}
+-- A refusal is given exactly if its condition holds and none before it: laws of any list of conditions, by induction on it, and
+-- then of those of a table. Assumes nothing.
+use Prim.Native.Nat.{ℕ, suc, _<_, _≤_}
 use mathlib.Core.Bool.{Bool, true, false}
 use mathlib.Core.Path.{_≡_, refl, sym}
 use mathlib.Core.Logic.{_↔_}
-use mathlib.Core.List.{List, [], _∷_, _++_}
+use mathlib.Core.List.{List, [], _∷_, _++_, map, List·Memᴰ, List·Memᴰ·head, List·Memᴰ·tail}
 use native.Mathlib.Omega.{arith}
+use borrow.Author.Tests.{ltb-true, leb-true}
+use lib.Dec.{ltb, leb}
 use lib.ListN.{drop}
 use Rattle.table.specs.Refusal.{conditions, firstHeld, refusal}
+use Rattle.table.proofs.BoolLaws.{and-true-left, and-true-right}
+use Rattle.table.proofs.SomeLaws.{every, every-has}
 
 -- Condition n holds and none before it; for n = 0, none holds.
 pub data First (n : ℕ) : List (ℕ × Bool) → Type 0 where
@@ -33,31 +38,72 @@ held-first n (c ∷ cs) e = pick (c .1) refl (held-first n cs)
 pub first-means : (n : ℕ) (cs : List (ℕ × Bool)) → firstHeld cs ≡ n ↔ First n cs
 first-means n cs = (held-first n cs, first-held n)
 
+-- The numbers of conditions.
+abbrev pub numbersOf : List (ℕ × Bool) → List ℕ
+numbersOf cs = map (λ (c : ℕ × Bool). c .0) cs
+
+number-first : {n : ℕ} {cs : List (ℕ × Bool)} → First n cs → List·Memᴰ n (0 ∷ numbersOf cs)
+number-first (here e h) = List·Memᴰ·tail (List·Memᴰ·head (sym e))
+number-first (later h f) = one-more (number-first f)
+  where
+    one-more : {n m : ℕ} {ms : List ℕ} → List·Memᴰ n (0 ∷ ms) → List·Memᴰ n (0 ∷ m ∷ ms)
+    one-more (List·Memᴰ·head e) = List·Memᴰ·head e
+    one-more (List·Memᴰ·tail i) = List·Memᴰ·tail (List·Memᴰ·tail i)
+number-first (none e) = List·Memᴰ·head e
+
+-- the number of the first that holds is 0 or one of theirs
+pub held-number : (cs : List (ℕ × Bool)) → List·Memᴰ (firstHeld cs) (0 ∷ numbersOf cs)
+held-number cs = number-first (held-first (firstHeld cs) cs refl)
+
 -- a condition that holds comes before all that are added
 pub first-before : {n : ℕ} {cs : List (ℕ × Bool)} (ds : List (ℕ × Bool)) → 0 < n → First n cs → First n (cs ++ ds)
 first-before ds h (here e q) = here e q
 first-before ds h (later q f) = later q (first-before ds h f)
 first-before ds h (none e) = absurd (omega arith)
 
+-- Conditions with numbers above 0.
+abbrev pub Numbered : List (ℕ × Bool) → Type 0
+Numbered cs = every (ltb 0) (numbersOf cs) ≡ true
+
+above : (c : ℕ × Bool) (cs : List (ℕ × Bool)) → Numbered (c ∷ cs) → 0 < c .0
+above c cs a = ltb-true 0 (c .0) (and-true-left (ltb 0 (c .0)) (every (ltb 0) (numbersOf cs)) a)
+
+others : (c : ℕ × Bool) (cs : List (ℕ × Bool)) → Numbered (c ∷ cs) → Numbered cs
+others c cs a = and-true-right (ltb 0 (c .0)) (every (ltb 0) (numbersOf cs)) a
+
+-- where none of them holds, the first that holds is among those that are added
+pub first-after : {n : ℕ} (cs ds : List (ℕ × Bool)) → Numbered cs → First 0 cs → First n ds → First n (cs ++ ds)
+first-after [] ds a z f = f
+first-after (c ∷ cs) ds a (here e h) f = absurd (omega (arith, above c cs a, e))
+first-after (c ∷ cs) ds a (later h z) f = later h (first-after cs ds (others c cs a) z f)
+
+none-apart : (cs ds : List (ℕ × Bool)) → Numbered cs → First 0 (cs ++ ds) → First 0 cs × First 0 ds
+none-apart [] ds a z = (none refl, z)
+none-apart (c ∷ cs) ds a (here e h) = absurd (omega (arith, above c cs a, e))
+none-apart (c ∷ cs) ds a (later h z) = let r = none-apart cs ds (others c cs a) z in (later h (r .0), r .1)
+
+-- none of two lists holds exactly if none of either does
+pub none-both : (cs ds : List (ℕ × Bool)) → Numbered cs → First 0 (cs ++ ds) ↔ (First 0 cs × First 0 ds)
+none-both cs ds a = (none-apart cs ds a, λ z. first-after cs ds a (z .0) (z .1))
+
+-- and where none holds, the first does not, and none of the others
+pub pass : {n : ℕ} {b : Bool} {cs : List (ℕ × Bool)} → First 0 ((suc n, b) ∷ cs) → (b ≡ false) × First 0 cs
+pass (here e h) = absurd (omega arith)
+pass (later h f) = (h, f)
+
 -- refusal n is given exactly if condition n holds and none before it
 pub refused : (t : List ℕ) (n : ℕ) → refusal t ≡ n ↔ First n (conditions t)
 unfolding refusal
 refused t n = first-means n (conditions t)
 
--- where no condition has a number above top, the first that holds has none above it: one condition at a time
-pub most : {n m top : ℕ} {b : Bool} {cs : List (ℕ × Bool)} → m ≤ top → (First n cs → n ≤ top) → First n ((m, b) ∷ cs) → n ≤ top
-most h f (here e z) = omega arith
-most h f (later z r) = f r
-
--- and where none holds it is 0
-pub most-none : {n top : ℕ} → First n [] → n ≤ top
-most-none (none e) = omega arith
+pub conditions-numbered : (t : List ℕ) → Numbered (conditions t)
+unfolding conditions
+conditions-numbered t = refl
 
 -- checking a table gives none of the refusals that other operations add
 pub refusal-most : (t : List ℕ) → refusal t ≤ 7
-unfolding conditions
-refusal-most t =
-    most (omega arith) (most (omega arith) (most (omega arith) (most (omega arith) (most (omega arith) (most (omega arith) (most (omega arith) most-none)))))) (refused t (refusal t) .0 refl)
+unfolding refusal conditions
+refusal-most t = leb-true (refusal t) 7 (every-has (λ (n : ℕ). leb n 7) refl (held-number (conditions t)))
 
 -- the step from one condition to the next
 pub not-held : (c : ℕ × Bool) (cs : List (ℕ × Bool)) → c .1 ≡ false → firstHeld (c ∷ cs) ≡ firstHeld cs
@@ -68,6 +114,6 @@ pub held : (c : ℕ × Bool) (cs : List (ℕ × Bool)) → c .1 ≡ true → fir
 unfolding firstHeld
 held c cs h = rw h
 
--- none of the first k conditions holds
-abbrev pub Passed : ℕ → List ℕ → Type 0
-Passed k t = refusal t ≡ firstHeld (drop k (conditions t))
+-- None of the first k conditions holds.
+abbrev pub Passed : ℕ → List (ℕ × Bool) → Type 0
+Passed k cs = firstHeld cs ≡ firstHeld (drop k cs)

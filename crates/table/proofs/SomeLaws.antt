@@ -1,13 +1,15 @@
--- `someBelow n p` is true exactly if p holds of some number below n. By induction on n. Assumes nothing.
+-- `someBelow n p` is true exactly if p holds of some number below n. By induction on n. A test of every number of a list holds of
+-- each. Assumes nothing.
 use Prim.Native.Nat.{ℕ, zero, suc, _+_, _<_, _≤_}
-use mathlib.Core.Bool.{Bool, true, false, _||_, or-true}
+use mathlib.Core.Bool.{Bool, true, false, _&&_, _||_, or-true}
+use mathlib.Core.List.{List, [], _∷_, List·Memᴰ, List·Memᴰ·head, List·Memᴰ·tail}
 use mathlib.Core.Path.{_≡_, refl, sym, ap, _∙_}
 use mathlib.Core.Logic.{_↔_}
 use native.Mathlib.Decide.{decLt}
 use native.Mathlib.Numerals.{add-one}
 use native.Mathlib.Omega.{arith}
 use Rattle.table.specs.Some.{someBelow}
-use Rattle.table.proofs.BoolLaws.{or-false-left, or-false-right, or-both-false}
+use Rattle.table.proofs.BoolLaws.{or-false-left, or-false-right, or-both-false, and-true-left, and-true-right}
 
 -- found
 pub some-here : (p : ℕ → Bool) (i n : ℕ) → i < n → p i ≡ true → someBelow n p ≡ true
@@ -56,3 +58,12 @@ some-found p (suc n) e = go (someBelow n p) refl (some-found p n)
 -- the test is true exactly if p holds of some number below n
 pub some-means : (p : ℕ → Bool) (n : ℕ) → someBelow n p ≡ true ↔ ((i : ℕ) × (i < n) × (p i ≡ true))
 some-means p n = (some-found p n, (λ r. some-here p (r .0) n (r .1) (r .2)))
+
+-- Every number of a list has the property, as a test that computes.
+abbrev pub every : (ℕ → Bool) → List ℕ → Bool
+every p [] = true
+every p (n ∷ ns) = p n && every p ns
+
+pub every-has : (p : ℕ → Bool) {n : ℕ} {ns : List ℕ} → every p ns ≡ true → List·Memᴰ n ns → p n ≡ true
+every-has p {n} e (List·Memᴰ·head {x} {xs} q) = ap p q ∙ and-true-left (p x) (every p xs) e
+every-has p {n} e (List·Memᴰ·tail {x} {xs} m) = every-has p (and-true-right (p x) (every p xs) e) m
