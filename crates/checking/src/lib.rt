@@ -5,6 +5,7 @@ ghost use Rattle.table.specs.Answer.{told};
 use table::Checked;
 use table::Refusal;
 use table::limits::HEADER_WORDS;
+use table::limits::SECTIONS;
 
 // The conditions of the refusals, each over the whole table.
 mod conditions;
@@ -22,7 +23,7 @@ pub fn check(table: &[u32]) -> Checked
     if table.len() < HEADER_WORDS {
         return Checked::Refused(Refusal::TooFewWords);
     }
-    if conditions::broken_pair(table) {
+    if conditions::broken_pair(table, SECTIONS) {
         return Checked::Refused(Refusal::BrokenPair);
     }
     if conditions::over_limit(table) {

@@ -3,9 +3,8 @@ ghost use mathlib.Core.Path.{_≡_};
 ghost use Prim.Native.Nat.{_+_, _*_, _≤_, _<_};
 ghost use lib.ListN.{length};
 ghost use Rattle.table.specs.Limits.{nodeWords, maxNodes};
-ghost use Rattle.table.specs.Some.{someBelow};
 ghost use Rattle.table.specs.Layout.{nodeCount, firstOf, countOf};
-ghost use Rattle.table.specs.Conditions.{rightNode, startOf, nodesAreWrong, runIsWrong};
+ghost use Rattle.table.specs.Conditions.{rightNode, startOf, wrongNode, runIsWrong, wrongArgument};
 ghost use Rattle.table.specs.Code.Reading.{RunsInside};
 use table::Node;
 use table::Variable;
@@ -40,10 +39,10 @@ fn right_node(kind: u32, name: u32, first: u32, count: u32, earlier: u32) -> boo
     }
 }
 
-// A node has a wrong kind, name, first or count, or the counts do not add up to the size of the arguments section.
-pub fn wrong_nodes(nodes: &[u32], arguments: usize) -> bool
+// A node has a wrong kind, name, first or count, or the counts do not add up to the arguments section.
+pub fn wrong_nodes(nodes: &[u32], arguments: &[u32]) -> bool
     requires { ⌜ length (now nodes) ≤ nodeWords * maxNodes ⌝ }
-    ensures { λ r. ⌜ r ≡ nodesAreWrong (now (nodes .entry)) arguments ⌝ }
+    ensures { λ r. ⌜ r ≡ wrongNode (now (nodes .entry)) (now (arguments .entry)) ⌝ }
 {
     let n = layout::node_count(nodes);
     let mut earlier: u32 = 0;
@@ -63,7 +62,7 @@ pub fn wrong_nodes(nodes: &[u32], arguments: usize) -> bool
         earlier += count;
         i += 1;
     }
-    index(earlier) != arguments
+    index(earlier) != arguments.len()
 }
 
 // Some argument of a node is not smaller than it.
@@ -89,7 +88,7 @@ fn wrong_run(nodes: &[u32], arguments: &[u32], node: Node) -> bool
 pub fn wrong_arguments(nodes: &[u32], arguments: &[u32]) -> bool
     requires { ⌜ length (now nodes) ≤ nodeWords * maxNodes ⌝ }
     requires { ⌜ RunsInside (now nodes) (now arguments) ⌝ }
-    ensures { λ r. ⌜ r ≡ someBelow (nodeCount (now (nodes .entry))) (runIsWrong (now (nodes .entry)) (now (arguments .entry))) ⌝ }
+    ensures { λ r. ⌜ r ≡ wrongArgument (now (nodes .entry)) (now (arguments .entry)) ⌝ }
 {
     let n = layout::node_count(nodes);
     let mut i: u32 = 0;

@@ -5,13 +5,13 @@ ghost use Prim.Native.Nat.{_+_, _≤_, _<_};
 ghost use lib.ListN.{length};
 ghost use Rattle.table.specs.Limits.{maxLabels};
 ghost use Rattle.table.specs.Some.{someBelow};
-ghost use Rattle.table.specs.Conditions.{termIsWrong, labelsAreEqual, labelIsWrong};
+ghost use Rattle.table.specs.Conditions.{wrongTerm, labelsAreEqual, wrongLabel};
 use table::layout;
 use table::limits::MAX_LABEL;
 
 // A term of a side is none of the n nodes.
 pub fn wrong_terms(terms: &[u32], n: u32) -> bool
-    ensures { λ r. ⌜ r ≡ someBelow (length (now (terms .entry))) (termIsWrong (now (terms .entry)) n) ⌝ }
+    ensures { λ r. ⌜ r ≡ wrongTerm n (now (terms .entry)) ⌝ }
 {
     let mut i: usize = 0;
     while i < terms.len() {
@@ -44,7 +44,7 @@ fn repeated_label(left: &[u32], right: &[u32], i: usize) -> bool
 // A label of either side is 0, above 65535, or repeated.
 pub fn wrong_labels(left: &[u32], right: &[u32]) -> bool
     requires { ⌜ (length (now left) ≤ maxLabels) × (length (now right) ≤ maxLabels) ⌝ }
-    ensures { λ r. ⌜ r ≡ someBelow (length (now (left .entry) ++ now (right .entry))) (labelIsWrong (now (left .entry) ++ now (right .entry))) ⌝ }
+    ensures { λ r. ⌜ r ≡ wrongLabel (now (left .entry) ++ now (right .entry)) ⌝ }
 {
     let n = left.len() + right.len();
     let mut i: usize = 0;

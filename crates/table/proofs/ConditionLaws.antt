@@ -1,84 +1,81 @@
 -- What it means that a condition does not hold, and back: each is a test of some of what acceptance means. Assumes nothing.
-use Prim.Native.Nat.{ℕ, zero, suc, _+_, _-_, _%_, _<_, _≤_}
-use mathlib.Core.Bool.{Bool, false, not, _||_}
+use Prim.Native.Nat.{ℕ, zero, suc, _+_, _-_, _*_, _%_, _<_, _≤_}
+use mathlib.Core.Bool.{false, not, _||_}
+use mathlib.Core.Logic.{_↔_}
 use mathlib.Core.Path.{_≡_, ap, subst}
 use mathlib.Core.List.{List}
 use native.Mathlib.Omega.{arith}
 use borrow.Author.Tests.{eq-eqb, ne-eqb, le-ltb, lt-leb, ltb-false, leb-false, eqb-true, eqb-false, not-false}
 use lib.Dec.{eqb, ltb}
-use lib.ListN.{length, length-take, length-drop}
-use Rattle.table.specs.Limits.{sections, nodeWords, maxLabel}
+use lib.ListN.{length}
+use Rattle.table.specs.Limits.{Section, maxLabel}
 use Rattle.table.specs.Some.{someBelow}
-use Rattle.table.specs.Layout.{nodesOf, argumentsOf, leftTermsOf, rightTermsOf, word, offset, size, section, labelsOf, firstOf, countOf, nodeCount, countsBefore, argumentOf}
-use Rattle.table.specs.Code.Sections.{nodes, leftTerms, rightTerms, rightLabels}
+use Rattle.table.specs.Layout.{word, offset, size, firstOf, countOf, nodeCount, countsBefore, argumentOf}
 use Rattle.table.specs.Code.Reading.{RunsInside}
-use Rattle.table.specs.Conditions.{endBefore, offsetIsWrong, brokenPair, limitOf, sectionIsLong, overLimit, nodeIsWrong, nodesAreWrong, argumentIsWrong, runIsWrong, wrongArgument, termIsWrong, wrongTerm, labelsAreEqual, labelIsWrong, wrongLabel}
-use Rattle.table.specs.Code.Accepted.{RightNode, variable, constant, application, NodeIsRight}
+use Rattle.table.specs.Conditions.{endBefore, offsetIsWrong, brokenPair, wordsAreWrong, sectionAt, sizeIsWrong, overLimit, nodeIsWrong, wrongNode, argumentIsWrong, runIsWrong, wrongArgument, termIsWrong, wrongTerm, labelsAreEqual, labelIsWrong, wrongLabel}
+use Rattle.table.specs.Code.Accepted.{RightNode, variable, constant, application, NodeIsRight, NodesRight, SidesRight}
 use Rattle.table.proofs.BoolLaws.{or-false-left, or-false-right, or-both-false}
 use Rattle.table.proofs.SomeLaws.{some-none, none-some}
 use Rattle.table.proofs.NodeLaws.{right-node-means, right-node-holds}
 
 -- Refusal 2.
-pub offsets-right : (t : List ℕ) → brokenPair t ≡ false → (k : ℕ) → k < sections → offset t k ≡ endBefore t k
-unfolding brokenPair offsetIsWrong
-offsets-right t e k h =
-    eqb-true _ _ (not-false _ (none-some (offsetIsWrong t) sections (or-false-left _ (not (eqb (endBefore t sections) (length t))) e) k h))
+module _ (ss : List Section) (t : List ℕ) where
+  pub offsets-kept : brokenPair ss t ≡ false → (k : ℕ) → k < length ss → offset t k ≡ endBefore ss t k
+  unfolding brokenPair offsetIsWrong
+  offsets-kept e k h =
+      eqb-true _ _ (not-false _ (none-some (offsetIsWrong ss t) (length ss) (or-false-left _ (not (eqb (endBefore ss t (length ss)) (length t))) e) k h))
 
-pub end-right : (t : List ℕ) → brokenPair t ≡ false → endBefore t sections ≡ length t
-unfolding brokenPair
-end-right t e = eqb-true _ _ (not-false _ (or-false-right (someBelow sections (offsetIsWrong t)) _ e))
+  pub end-kept : brokenPair ss t ≡ false → endBefore ss t (length ss) ≡ length t
+  unfolding brokenPair
+  end-kept e = eqb-true _ _ (not-false _ (or-false-right (someBelow (length ss) (offsetIsWrong ss t)) _ e))
 
-pub pairs-right : (t : List ℕ) → ((k : ℕ) → k < sections → offset t k ≡ endBefore t k) → endBefore t sections ≡ length t → brokenPair t ≡ false
-unfolding brokenPair offsetIsWrong
-pairs-right t f e =
-    or-both-false _ _ (some-none (offsetIsWrong t) sections (λ k h. ap not (eq-eqb _ _ (f k h)))) (ap not (eq-eqb _ _ e))
+  pub pairs-right : ((k : ℕ) → k < length ss → offset t k ≡ endBefore ss t k) → endBefore ss t (length ss) ≡ length t → brokenPair ss t ≡ false
+  unfolding brokenPair offsetIsWrong
+  pairs-right f e =
+      or-both-false _ _ (some-none (offsetIsWrong ss t) (length ss) (λ k h. ap not (eq-eqb _ _ (f k h)))) (ap not (eq-eqb _ _ e))
 
--- A section ends where the next one starts, and the last at the table's end, so each lies inside.
-module _ (t : List ℕ) (follows : (k : ℕ) → k < rightLabels → offset t (k + 1) ≡ offset t k + size t k) (ends : offset t rightLabels + size t rightLabels ≡ length t) where
-  inside-by : (d k : ℕ) → k + d ≡ rightLabels → offset t k + size t k ≤ length t
-  inside-by zero k e = let s : k ≡ rightLabels = omega arith in rw s (let z : offset t rightLabels + size t rightLabels ≤ length t = omega arith in z)
-  inside-by (suc d) k e =
-      let i : offset t (k + 1) + size t (k + 1) ≤ length t = inside-by d (k + 1) (omega arith) in
-      omega (arith, follows k (omega arith))
+-- Refusal 3, of one section and of all.
+pub words-mean : (s : Section) (n : ℕ) → wordsAreWrong s n ≡ false ↔ ((n % s .item ≡ 0) × (n ≤ s .item * s .most))
+unfolding wordsAreWrong
+words-mean s n = (
+  (λ e. (eqb-true _ _ (not-false _ (or-false-left _ (ltb (s .item * s .most) n) e)), ltb-false _ _ (or-false-right (not (eqb (n % s .item) 0)) _ e))),
+  (λ r. or-both-false _ _ (ap not (eq-eqb _ _ (r .0))) (le-ltb _ _ (r .1))),
+)
 
-  pub inside : (k : ℕ) → k < sections → offset t k + size t k ≤ length t
-  inside k h = inside-by (rightLabels - k) k (omega arith)
+-- where an item is one word, only the limit counts
+pub single-words : (most n : ℕ) → wordsAreWrong (record { item = 1; most = most }) n ≡ ltb most n
+unfolding wordsAreWrong
+single-words most n =
+    let z : n % 1 ≡ 0 = omega arith in
+    let o : 1 * most ≡ most = omega arith in
+    rw (z, o)
 
-pub section-size : (t : List ℕ) (k : ℕ) → offset t k + size t k ≤ length t → length (section t k) ≡ size t k
-section-size t k h = simp (length-take, length-drop) (omega arith)
+pub sizes-kept : (ss : List Section) (t : List ℕ) → overLimit ss t ≡ false → (k : ℕ) → k < length ss → (size t k % sectionAt ss k .item ≡ 0) × (size t k ≤ sectionAt ss k .item * sectionAt ss k .most)
+unfolding overLimit sizeIsWrong
+sizes-kept ss t e k h = words-mean (sectionAt ss k) (size t k) .0 (none-some (sizeIsWrong ss t) (length ss) e k h)
 
--- Refusal 3.
-pub whole-kept : (t : List ℕ) → overLimit t ≡ false → size t nodes % nodeWords ≡ 0
-unfolding overLimit
-whole-kept t e = eqb-true _ _ (not-false _ (or-false-left _ (someBelow sections (sectionIsLong t)) e))
-
-pub limits-kept : (t : List ℕ) → overLimit t ≡ false → (k : ℕ) → k < sections → size t k ≤ limitOf k
-unfolding overLimit sectionIsLong
-limits-kept t e k h =
-    ltb-false _ _ (none-some (sectionIsLong t) sections (or-false-right (not (eqb (size t nodes % nodeWords) 0)) _ e) k h)
-
-pub limits-right : (t : List ℕ) → size t nodes % nodeWords ≡ 0 → ((k : ℕ) → k < sections → size t k ≤ limitOf k) → overLimit t ≡ false
-unfolding overLimit sectionIsLong
-limits-right t e f =
-    or-both-false _ _ (ap not (eq-eqb _ _ e)) (some-none (sectionIsLong t) sections (λ k h. le-ltb _ _ (f k h)))
+pub sizes-right : (ss : List Section) (t : List ℕ) → ((k : ℕ) → k < length ss → (size t k % sectionAt ss k .item ≡ 0) × (size t k ≤ sectionAt ss k .item * sectionAt ss k .most)) → overLimit ss t ≡ false
+unfolding overLimit sizeIsWrong
+sizes-right ss t f = some-none (sizeIsWrong ss t) (length ss) (λ k h. words-mean (sectionAt ss k) (size t k) .1 (f k h))
 
 -- Refusal 4.
-pub nodes-kept : (ns : List ℕ) (n : ℕ) → nodesAreWrong ns n ≡ false → (i : ℕ) → i < nodeCount ns → NodeIsRight ns i
-unfolding nodesAreWrong nodeIsWrong
-nodes-kept ns n e i h =
-    right-node-means _ _ _ _ _
-    (not-false _ (none-some (nodeIsWrong ns) (nodeCount ns) (or-false-left _ (not (eqb (countsBefore ns (nodeCount ns)) n)) e) i h))
+module _ (ns args : List ℕ) where
+  pub nodes-kept : wrongNode ns args ≡ false → (i : ℕ) → i < nodeCount ns → NodeIsRight ns i
+  unfolding wrongNode nodeIsWrong
+  nodes-kept e i h =
+      right-node-means _ _ _ _ _
+      (not-false _ (none-some (nodeIsWrong ns) (nodeCount ns) (or-false-left _ (not (eqb (countsBefore ns (nodeCount ns)) (length args))) e) i h))
 
-pub counts-kept : (ns : List ℕ) (n : ℕ) → nodesAreWrong ns n ≡ false → countsBefore ns (nodeCount ns) ≡ n
-unfolding nodesAreWrong
-counts-kept ns n e = eqb-true _ _ (not-false _ (or-false-right (someBelow (nodeCount ns) (nodeIsWrong ns)) _ e))
+  pub counts-kept : wrongNode ns args ≡ false → countsBefore ns (nodeCount ns) ≡ length args
+  unfolding wrongNode
+  counts-kept e = eqb-true _ _ (not-false _ (or-false-right (someBelow (nodeCount ns) (nodeIsWrong ns)) _ e))
 
-pub nodes-right : (ns : List ℕ) (n : ℕ) → ((i : ℕ) → i < nodeCount ns → NodeIsRight ns i) → countsBefore ns (nodeCount ns) ≡ n → nodesAreWrong ns n ≡ false
-unfolding nodesAreWrong nodeIsWrong
-nodes-right ns n f e =
-    or-both-false _ _
-    (some-none (nodeIsWrong ns) (nodeCount ns) (λ i h. ap not (right-node-holds _ _ _ _ _ (f i h))))
-    (ap not (eq-eqb _ _ e))
+  pub nodes-right : ((i : ℕ) → i < nodeCount ns → NodeIsRight ns i) → countsBefore ns (nodeCount ns) ≡ length args → wrongNode ns args ≡ false
+  unfolding wrongNode nodeIsWrong
+  nodes-right f e =
+      or-both-false _ _
+      (some-none (nodeIsWrong ns) (nodeCount ns) (λ i h. ap not (right-node-holds _ _ _ _ _ (f i h))))
+      (ap not (eq-eqb _ _ e))
 
 -- The sum of the earlier counts never falls, so each node's arguments are a run inside the section.
 counts-rise : (ns : List ℕ) (i d : ℕ) → countsBefore ns i ≤ countsBefore ns (i + d)
@@ -105,45 +102,37 @@ runs-inside ns args f e = record { run = go }
         let r : countsBefore ns i + countOf ns i ≤ countsBefore ns (nodeCount ns) = subst (λ (k : ℕ). countsBefore ns i + countOf ns i ≤ countsBefore ns k) s (counts-rise ns (suc i) (nodeCount ns - suc i)) in
         run-inside (f i h) (length args) (omega arith)
 
+-- so they are where refusal 4 is not given
+pub runs-kept : (ns args : List ℕ) → wrongNode ns args ≡ false → RunsInside ns args
+runs-kept ns args e = runs-inside ns args (nodes-kept ns args e) (counts-kept ns args e)
+
 -- Refusal 5.
-pub arguments-kept : (t : List ℕ) → wrongArgument t ≡ false → (i j : ℕ) → i < nodeCount (nodesOf t) → j < countOf (nodesOf t) i → argumentOf (nodesOf t) (argumentsOf t) i j < i
-unfolding wrongArgument runIsWrong argumentIsWrong
-arguments-kept t e i j h g =
-    let ns = nodesOf t in
-    let args = argumentsOf t in
-    leb-false _ _ (none-some (argumentIsWrong ns args i) (countOf ns i) (none-some (runIsWrong ns args) (nodeCount ns) e i h) j g)
+module _ (ns args : List ℕ) where
+  arguments-kept : wrongArgument ns args ≡ false → (i j : ℕ) → i < nodeCount ns → j < countOf ns i → argumentOf ns args i j < i
+  unfolding wrongArgument runIsWrong argumentIsWrong
+  arguments-kept e i j h g =
+      leb-false _ _ (none-some (argumentIsWrong ns args i) (countOf ns i) (none-some (runIsWrong ns args) (nodeCount ns) e i h) j g)
 
-pub arguments-right : (t : List ℕ) → ((i j : ℕ) → i < nodeCount (nodesOf t) → j < countOf (nodesOf t) i → argumentOf (nodesOf t) (argumentsOf t) i j < i) → wrongArgument t ≡ false
-unfolding wrongArgument runIsWrong argumentIsWrong
-arguments-right t f =
-    let ns = nodesOf t in
-    let args = argumentsOf t in
-    some-none (runIsWrong ns args) (nodeCount ns) (λ i h. some-none (argumentIsWrong ns args i) (countOf ns i) (λ j g. lt-leb _ _ (f i j h g)))
+  arguments-right : ((i j : ℕ) → i < nodeCount ns → j < countOf ns i → argumentOf ns args i j < i) → wrongArgument ns args ≡ false
+  unfolding wrongArgument runIsWrong argumentIsWrong
+  arguments-right f =
+      some-none (runIsWrong ns args) (nodeCount ns) (λ i h. some-none (argumentIsWrong ns args i) (countOf ns i) (λ j g. lt-leb _ _ (f i j h g)))
 
--- Refusal 6, on one side and on both.
-side-kept : (ts : List ℕ) (n : ℕ) → someBelow (length ts) (termIsWrong ts n) ≡ false → (i : ℕ) → i < length ts → word ts i < n
-unfolding termIsWrong
-side-kept ts n e i h = leb-false _ _ (none-some (termIsWrong ts n) (length ts) e i h)
+  -- neither refusal 4 nor 5 is given exactly if nodes and arguments are right
+  pub right-nodes-mean : ((wrongNode ns args ≡ false) × (wrongArgument ns args ≡ false)) ↔ NodesRight ns args
+  right-nodes-mean = (
+    (λ r. record { each-node = nodes-kept ns args (r .0); counts = counts-kept ns args (r .0); each-argument = arguments-kept (r .1) }),
+    (λ n. (nodes-right ns args (n .each-node) (n .counts), arguments-right (n .each-argument))),
+  )
 
-side-right : (ts : List ℕ) (n : ℕ) → ((i : ℕ) → i < length ts → word ts i < n) → someBelow (length ts) (termIsWrong ts n) ≡ false
-unfolding termIsWrong
-side-right ts n f = some-none (termIsWrong ts n) (length ts) (λ i h. lt-leb _ _ (f i h))
+-- Refusal 6.
+terms-kept : (n : ℕ) (ts : List ℕ) → wrongTerm n ts ≡ false → (i : ℕ) → i < length ts → word ts i < n
+unfolding wrongTerm termIsWrong
+terms-kept n ts e i h = leb-false _ _ (none-some (termIsWrong n ts) (length ts) e i h)
 
-module _ (t : List ℕ) where
-  wrongOn : ℕ → Bool
-  wrongOn k = someBelow (length (section t k)) (termIsWrong (section t k) (nodeCount (nodesOf t)))
-
-  pub left-terms-kept : wrongTerm t ≡ false → (i : ℕ) → i < length (leftTermsOf t) → word (leftTermsOf t) i < nodeCount (nodesOf t)
-  unfolding wrongTerm wrongOn
-  left-terms-kept e = side-kept (leftTermsOf t) _ (or-false-left _ (wrongOn rightTerms) e)
-
-  pub right-terms-kept : wrongTerm t ≡ false → (i : ℕ) → i < length (rightTermsOf t) → word (rightTermsOf t) i < nodeCount (nodesOf t)
-  unfolding wrongTerm wrongOn
-  right-terms-kept e = side-kept (rightTermsOf t) _ (or-false-right (wrongOn leftTerms) _ e)
-
-  pub terms-right : ((i : ℕ) → i < length (leftTermsOf t) → word (leftTermsOf t) i < nodeCount (nodesOf t)) → ((i : ℕ) → i < length (rightTermsOf t) → word (rightTermsOf t) i < nodeCount (nodesOf t)) → wrongTerm t ≡ false
-  unfolding wrongTerm wrongOn
-  terms-right f g = or-both-false (wrongOn leftTerms) (wrongOn rightTerms) (side-right (leftTermsOf t) _ f) (side-right (rightTermsOf t) _ g)
+terms-right : (n : ℕ) (ts : List ℕ) → ((i : ℕ) → i < length ts → word ts i < n) → wrongTerm n ts ≡ false
+unfolding wrongTerm termIsWrong
+terms-right n ts f = some-none (termIsWrong n ts) (length ts) (λ i h. lt-leb _ _ (f i h))
 
 -- Refusal 7, at one label and at all.
 record LabelIsRight (ls : List ℕ) (i : ℕ) : Type 0 where
@@ -168,16 +157,27 @@ label-right ls i r =
     let z : eqb (word ls i) 0 ≡ false = ne-eqb _ _ (λ (q : word ls i ≡ 0). omega arith) in
     rw (z, le-ltb _ _ (r .range .1)) (some-none (labelsAreEqual ls i) i (λ j h. ne-eqb _ _ (r .new j h)))
 
-module _ (t : List ℕ) where
-  pub labels-kept : wrongLabel t ≡ false → (i : ℕ) → i < length (labelsOf t) → (0 < word (labelsOf t) i) × (word (labelsOf t) i ≤ maxLabel)
+module _ (ls : List ℕ) where
+  labels-kept : wrongLabel ls ≡ false → (i : ℕ) → i < length ls → LabelIsRight ls i
   unfolding wrongLabel
-  labels-kept e i h = label-kept (labelsOf t) i (none-some (labelIsWrong (labelsOf t)) (length (labelsOf t)) e i h) .range
+  labels-kept e i h = label-kept ls i (none-some (labelIsWrong ls) (length ls) e i h)
 
-  pub labels-new : wrongLabel t ≡ false → (i j : ℕ) → i < j → j < length (labelsOf t) → word (labelsOf t) i ≡ word (labelsOf t) j → ⊥
+  labels-right : ((i : ℕ) → i < length ls → LabelIsRight ls i) → wrongLabel ls ≡ false
   unfolding wrongLabel
-  labels-new e i j g h = label-kept (labelsOf t) j (none-some (labelIsWrong (labelsOf t)) (length (labelsOf t)) e j h) .new i g
+  labels-right f = some-none (labelIsWrong ls) (length ls) (λ i h. label-right ls i (f i h))
 
-  pub labels-right : ((i : ℕ) → i < length (labelsOf t) → (0 < word (labelsOf t) i) × (word (labelsOf t) i ≤ maxLabel)) → ((i j : ℕ) → i < j → j < length (labelsOf t) → word (labelsOf t) i ≡ word (labelsOf t) j → ⊥) → wrongLabel t ≡ false
-  unfolding wrongLabel
-  labels-right f g =
-      some-none (labelIsWrong (labelsOf t)) (length (labelsOf t)) (λ i h. label-right (labelsOf t) i (record { range = f i h; new = λ j l. g j i l h }))
+-- neither refusal 6 nor 7 is given exactly if the terms of both sides and the labels are right
+pub right-sides-mean : (n : ℕ) (left right labels : List ℕ) → (((wrongTerm n left || wrongTerm n right) ≡ false) × (wrongLabel labels ≡ false)) ↔ SidesRight n left right labels
+right-sides-mean n left right labels = (
+  (λ r.
+      record {
+        each-left-term = terms-kept n left (or-false-left _ (wrongTerm n right) (r .0));
+        each-right-term = terms-kept n right (or-false-right (wrongTerm n left) _ (r .0));
+        each-label = λ i h. labels-kept labels (r .1) i h .range;
+        once = λ i j g h. labels-kept labels (r .1) j h .new i g;
+      }),
+  (λ s. (
+    or-both-false _ _ (terms-right n left (s .each-left-term)) (terms-right n right (s .each-right-term)),
+    labels-right labels (λ i h. record { range = s .each-label i h; new = λ j l. s .once j i l h }),
+  )),
+)

@@ -1,42 +1,47 @@
--- The conditions of document 01's refusals 1 to 7, each a test over the whole table.
+-- The conditions of document 01's refusals 1 to 7, each a test: 1 to 3 of a table with some sections, 4 and 5 of nodes and
+-- arguments, 6 of terms, 7 of labels.
 use Prim.Native.Nat.{ℕ, zero, suc, _+_, _*_, _%_}
 use mathlib.Core.Bool.{Bool, false, not, cond, _&&_, _||_}
-use mathlib.Core.List.{List, [], _∷_}
+use mathlib.Core.List.{List}
 use lib.Dec.{eqb, leb, ltb}
 use lib.ListN.{length, getD}
-use Rattle.table.specs.Limits.{headerWords, sections, nodeWords, maxNodes, maxArguments, maxTerms, maxLabels, maxVariable, maxName, maxCount, maxLabel}
+use Rattle.table.specs.Limits.{Section, headerWords, maxVariable, maxName, maxCount, maxLabel}
 use Rattle.table.specs.Some.{someBelow}
-use Rattle.table.specs.Layout.{word, offset, size, nodesOf, argumentsOf, leftTermsOf, rightTermsOf, labelsOf, kindOf, nameOf, firstOf, countOf, nodeCount, countsBefore, argumentOf}
+use Rattle.table.specs.Layout.{word, offset, size, kindOf, nameOf, firstOf, countOf, nodeCount, countsBefore, argumentOf}
 
 -- 1: "fewer than 12 words"
-unfoldable pub tooFewWords : List ℕ → Bool
-tooFewWords t = ltb (length t) headerWords
+unfoldable pub tooFewWords : List Section → List ℕ → Bool
+tooFewWords ss t = ltb (length t) (headerWords ss)
 
--- Where section k should start: at word 12, or at the end of the section before it.
-unfoldable pub endBefore : List ℕ → ℕ → ℕ
-endBefore t zero = headerWords
-endBefore t (suc k) = offset t k + size t k
+-- Where section k should start: after the pairs, or at the end of the section before it.
+unfoldable pub endBefore : List Section → List ℕ → ℕ → ℕ
+endBefore ss t zero = headerWords ss
+endBefore ss t (suc k) = offset t k + size t k
 
 -- The offset of section k is not as it should be: "The first offset is 12. Each next offset is the end of the section before it."
-unfoldable pub offsetIsWrong : List ℕ → ℕ → Bool
-offsetIsWrong t k = not (eqb (offset t k) (endBefore t k))
+unfoldable pub offsetIsWrong : List Section → List ℕ → ℕ → Bool
+offsetIsWrong ss t k = not (eqb (offset t k) (endBefore ss t k))
 
 -- 2: "a pair breaks the rule of offsets or ends". "The last section ends at the end of the slice."
-unfoldable pub brokenPair : List ℕ → Bool
-brokenPair t = someBelow sections (offsetIsWrong t) || not (eqb (endBefore t sections) (length t))
+unfoldable pub brokenPair : List Section → List ℕ → Bool
+brokenPair ss t =
+    someBelow (length ss) (offsetIsWrong ss t) || not (eqb (endBefore ss t (length ss)) (length t))
 
--- "At most 256 nodes, 512 arguments, 8 terms a side, 4 labels a side.": the most words that section k may have.
-abbrev pub limitOf : ℕ → ℕ
-limitOf k =
-    getD (nodeWords * maxNodes ∷ maxArguments ∷ maxTerms ∷ maxLabels ∷ maxTerms ∷ maxLabels ∷ []) k 0
+-- n words are not whole items of a section, or are over its limit.
+unfoldable pub wordsAreWrong : Section → ℕ → Bool
+wordsAreWrong s n = not (eqb (n % s .item) 0) || ltb (s .item * s .most) n
 
--- Section k is over its limit.
-unfoldable pub sectionIsLong : List ℕ → ℕ → Bool
-sectionIsLong t k = ltb (limitOf k) (size t k)
+-- Section k; after the last one there is none.
+abbrev pub sectionAt : List Section → ℕ → Section
+sectionAt ss k = getD ss k (record { item = 1; most = 0 })
 
--- 3: "the nodes section is not a multiple of 4 words, or a section is over its limit"
-unfoldable pub overLimit : List ℕ → Bool
-overLimit t = not (eqb (size t 0 % nodeWords) 0) || someBelow sections (sectionIsLong t)
+-- Section k does not have whole items, or is over its limit.
+unfoldable pub sizeIsWrong : List Section → List ℕ → ℕ → Bool
+sizeIsWrong ss t k = wordsAreWrong (sectionAt ss k) (size t k)
+
+-- 3: "the nodes section is not a multiple of 4 words, or a section is over its limit". Items of one word are always whole.
+unfoldable pub overLimit : List Section → List ℕ → Bool
+overLimit ss t = someBelow (length ss) (sizeIsWrong ss t)
 
 -- "Kind 0 is a variable. Its name is 0 to 63; first and count are 0."
 unfoldable pub rightVariable : ℕ → ℕ → ℕ → Bool
@@ -61,14 +66,10 @@ rightNode kind name first count earlier =
 unfoldable pub nodeIsWrong : List ℕ → ℕ → Bool
 nodeIsWrong ns i = not (rightNode (kindOf ns i) (nameOf ns i) (firstOf ns i) (countOf ns i) (countsBefore ns i))
 
--- Some node is wrong, or the counts do not add up to n.
-unfoldable pub nodesAreWrong : List ℕ → ℕ → Bool
-nodesAreWrong ns n =
-    someBelow (nodeCount ns) (nodeIsWrong ns) || not (eqb (countsBefore ns (nodeCount ns)) n)
-
 -- 4: "a node has a wrong kind, name, first or count, or the counts do not add up to the arguments section"
-unfoldable pub wrongNode : List ℕ → Bool
-wrongNode t = nodesAreWrong (nodesOf t) (length (argumentsOf t))
+unfoldable pub wrongNode : List ℕ → List ℕ → Bool
+wrongNode ns args =
+    someBelow (nodeCount ns) (nodeIsWrong ns) || not (eqb (countsBefore ns (nodeCount ns)) (length args))
 
 -- Argument j of node i is not smaller than i.
 unfoldable pub argumentIsWrong : List ℕ → List ℕ → ℕ → ℕ → Bool
@@ -79,18 +80,16 @@ unfoldable pub runIsWrong : List ℕ → List ℕ → ℕ → Bool
 runIsWrong ns args i = someBelow (countOf ns i) (argumentIsWrong ns args i)
 
 -- 5: "an argument is not smaller than its node"
-unfoldable pub wrongArgument : List ℕ → Bool
-wrongArgument t = someBelow (nodeCount (nodesOf t)) (runIsWrong (nodesOf t) (argumentsOf t))
+unfoldable pub wrongArgument : List ℕ → List ℕ → Bool
+wrongArgument ns args = someBelow (nodeCount ns) (runIsWrong ns args)
 
--- Term i of a side is none of n nodes.
-unfoldable pub termIsWrong : List ℕ → ℕ → ℕ → Bool
-termIsWrong ts n i = leb n (word ts i)
+-- Term i is none of n nodes.
+unfoldable pub termIsWrong : ℕ → List ℕ → ℕ → Bool
+termIsWrong n ts i = leb n (word ts i)
 
--- 6: "a term is not a node number"
-unfoldable pub wrongTerm : List ℕ → Bool
-wrongTerm t =
-    someBelow (length (leftTermsOf t)) (termIsWrong (leftTermsOf t) (nodeCount (nodesOf t))) ||
-    someBelow (length (rightTermsOf t)) (termIsWrong (rightTermsOf t) (nodeCount (nodesOf t)))
+-- 6: "a term is not a node number", of the terms of a side, where there are n nodes
+unfoldable pub wrongTerm : ℕ → List ℕ → Bool
+wrongTerm n ts = someBelow (length ts) (termIsWrong n ts)
 
 -- Labels i and j are equal.
 unfoldable pub labelsAreEqual : List ℕ → ℕ → ℕ → Bool
@@ -100,6 +99,6 @@ labelsAreEqual ls i j = eqb (word ls j) (word ls i)
 unfoldable pub labelIsWrong : List ℕ → ℕ → Bool
 labelIsWrong ls i = eqb (word ls i) 0 || ltb maxLabel (word ls i) || someBelow i (labelsAreEqual ls i)
 
--- 7: "a label is 0, above 65535, or repeated", in the whole table
+-- 7: "a label is 0, above 65535, or repeated", of the labels of the whole table
 unfoldable pub wrongLabel : List ℕ → Bool
-wrongLabel t = someBelow (length (labelsOf t)) (labelIsWrong (labelsOf t))
+wrongLabel ls = someBelow (length ls) (labelIsWrong ls)

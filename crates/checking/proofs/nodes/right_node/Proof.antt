@@ -1,4 +1,4 @@
--- `table::nodes::right_node` meets its contract, case by case of the kind. Assumes nothing.
+-- `checking::nodes::right_node` meets its contract, case by case of the kind. Assumes nothing.
 use mathlib.Core.Path.{sym}
 use borrow.Author.Needs.{needs}
 use borrow.Author.Tests.{ne-eqb}

@@ -1,4 +1,4 @@
--- `table::nodes::start` meets its contract, by its test. Assumes nothing.
+-- `checking::nodes::start` meets its contract, by its test. Assumes nothing.
 use mathlib.Core.Path.{sym}
 use borrow.Author.Tests.{eq-eqb, ne-eqb}
 use Rattle.table.specs.Conditions.{startOf}

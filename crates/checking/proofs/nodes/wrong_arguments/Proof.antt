@@ -1,10 +1,10 @@
--- `table::nodes::wrong_arguments` meets its contract: no node so far has a wrong argument. Assumes nothing.
+-- `checking::nodes::wrong_arguments` meets its contract: no node so far has a wrong argument. Assumes nothing.
 use Prim.Native.Nat.{_≤_, _-_}
 use mathlib.Core.Path.{_≡_, refl, sym, _∙_}
 use mathlib.Core.Bool.{false}
 use borrow.Author.Needs.{needs}
 use Rattle.table.specs.Some.{someBelow}
-use Rattle.table.specs.Conditions.{runIsWrong}
+use Rattle.table.specs.Conditions.{runIsWrong, wrongArgument}
 use Rattle.table.proofs.SomeLaws.{some-here, some-next, some-end}
 use Rattle.checking.proofs.nodes.wrong_arguments.Statement.{statement}
 use Rattle.checking.proofs.nodes.wrong_arguments.Tie as tie
@@ -28,6 +28,7 @@ wrong-run-requires c κs =
     (search needs, s .pre .1 .run _ (search needs))
 
 returns : tie.Need-returns Inv-loop μ-loop
+unfolding wrongArgument
 returns c =
     let l = c .before .before .before in
     sym (some-here _ (l .loop .i) _ (search needs) (sym (c .before .wrong-run .ensures) ∙ c .if1 .taken))
@@ -44,6 +45,7 @@ loop-again c =
     (search needs, some-next _ _ (l .loop .inv .1) (sym (c .before .wrong-run .ensures) ∙ c .if1 .left))
 
 returns-2 : tie.Need-returns-2 Inv-loop μ-loop
+unfolding wrongArgument
 returns-2 c =
     let l = c .before .loop in
     sym (some-end _ (l .i) _ (search needs) (search needs) (l .inv .1))

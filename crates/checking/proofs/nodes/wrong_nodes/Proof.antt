@@ -1,4 +1,4 @@
--- `table::nodes::wrong_nodes` meets its contract: `earlier` is the sum of the counts so far, and no node so far is wrong. Assumes nothing.
+-- `checking::nodes::wrong_nodes` meets its contract: `earlier` is the sum of the counts so far, and no node so far is wrong. Assumes nothing.
 use Prim.Native.Nat.{_≤_, _-_, _*_}
 use mathlib.Core.Path.{_≡_, refl, _∙_}
 use mathlib.Core.Bool.{true, false}
@@ -19,7 +19,7 @@ Inv-loop nodes arguments n earlier₀ i₀ earlier i = (i ≤ n) × (earlier ≡
 abbrev μ-loop : tie.MeasureT-loop
 μ-loop nodes arguments n earlier₀ i₀ earlier i = n - i
 
-tested : (c : tie.After-right-node Inv-loop μ-loop) → let l = c .before .before .before .before .before .before in NodeTested (l .before .before .before .args .nodes .now) (l .loop .i) (c .before .before .before .before .count .result) (l .loop .earlier) (c .right-node .result)
+tested : (c : tie.After-right-node Inv-loop μ-loop) → let l = c .before .before .before .before .before .before in NodeTested (l .before .before .before .before .args .nodes .now) (l .loop .i) (c .before .before .before .before .count .result) (l .loop .earlier) (c .right-node .result)
 tested c =
     record {
       kind = c .before .before .before .kind .result;
@@ -79,7 +79,7 @@ index-requires c κs = search needs
 returns-2 : tie.Need-returns-2 Inv-loop μ-loop
 returns-2 c =
     let l = c .before .before in
-    nodes-end _ (l .loop .i) _ _ (c .index .ensures .0 ∙ l .loop .inv .1) (search needs) (search needs) (l .loop .inv .3)
+    nodes-end _ _ (l .loop .i) _ (c .index .ensures .0 ∙ l .loop .inv .1) (search needs) (search needs) (l .loop .inv .3)
 
 pub wrong-nodes-spec : {M : Type 1} → statement M
 wrong-nodes-spec =

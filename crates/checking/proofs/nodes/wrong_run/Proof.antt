@@ -1,4 +1,4 @@
--- `table::nodes::wrong_run` meets its contract: no argument of the node so far is wrong. Assumes nothing.
+-- `checking::nodes::wrong_run` meets its contract: no argument of the node so far is wrong. Assumes nothing.
 use Prim.Native.Nat.{_≤_, _-_}
 use mathlib.Core.Path.{_≡_, refl, _∙_}
 use mathlib.Core.Bool.{false}

@@ -1,4 +1,4 @@
--- `table::sides::repeated_label` meets its contract: no label so far is equal to label i. Assumes nothing.
+-- `checking::sides::repeated_label` meets its contract: no label so far is equal to label i. Assumes nothing.
 use Prim.Native.Nat.{_≤_, _-_}
 use mathlib.Core.Path.{_≡_, refl, sym, _∙_}
 use mathlib.Core.Bool.{false}

@@ -1,4 +1,4 @@
--- `table::sides::wrong_labels` meets its contract: no label so far is wrong. Assumes nothing.
+-- `checking::sides::wrong_labels` meets its contract: no label so far is wrong. Assumes nothing.
 use Prim.Native.Nat.{_≤_, _-_}
 use mathlib.Core.Path.{_≡_, refl, sym, _∙_}
 use mathlib.Core.Bool.{false, _||_}
@@ -9,7 +9,7 @@ use lib.Dec.{eqb, ltb}
 use lib.ListN.{length, length-append}
 use Rattle.table.specs.Limits.{maxLabel}
 use Rattle.table.specs.Some.{someBelow}
-use Rattle.table.specs.Conditions.{labelIsWrong}
+use Rattle.table.specs.Conditions.{labelIsWrong, wrongLabel}
 use Rattle.table.proofs.SomeLaws.{some-here, some-next, some-end}
 use Rattle.checking.proofs.LoopLaws.{label-tested}
 use Rattle.checking.proofs.sides.wrong_labels.Statement.{statement}
@@ -40,6 +40,7 @@ repeated-label-requires : tie.Need-repeated-label-requires Inv-loop μ-loop
 repeated-label-requires c κs = search needs
 
 returns : tie.Need-returns Inv-loop μ-loop
+unfolding wrongLabel
 returns c =
     let l = c .before .before .before .before .before in
     sym (some-here _ (l .before .loop .i) _ (omega (arith, l .before .loop .inv .0)) (sym (tested (c .before)) ∙ c .if1 .taken))
@@ -56,6 +57,7 @@ loop-again c =
     (l .inv .0, search needs, some-next _ _ (l .inv .2) (sym (tested (c .before)) ∙ c .if1 .left))
 
 returns-2 : tie.Need-returns-2 Inv-loop μ-loop
+unfolding wrongLabel
 returns-2 c =
     let l = c .before .loop in
     sym (some-end _ (l .i) _ (omega (arith, l .inv .0)) (omega (arith, l .inv .0)) (l .inv .2))

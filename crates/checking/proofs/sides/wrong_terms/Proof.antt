@@ -1,18 +1,18 @@
--- `table::sides::wrong_terms` meets its contract: no term so far is wrong. Assumes nothing.
+-- `checking::sides::wrong_terms` meets its contract: no term so far is wrong. Assumes nothing.
 use Prim.Native.Nat.{_≤_, _-_}
 use mathlib.Core.Path.{_≡_, refl, sym}
 use mathlib.Core.Bool.{false}
 use borrow.Author.Needs.{needs}
 use lib.ListN.{length}
 use Rattle.table.specs.Some.{someBelow}
-use Rattle.table.specs.Conditions.{termIsWrong}
+use Rattle.table.specs.Conditions.{termIsWrong, wrongTerm}
 use Rattle.table.proofs.SomeLaws.{some-end}
 use Rattle.checking.proofs.LoopLaws.{term-wrong, term-right}
 use Rattle.checking.proofs.sides.wrong_terms.Statement.{statement}
 use Rattle.checking.proofs.sides.wrong_terms.Tie as tie
 
 abbrev Inv-loop : tie.InvT-loop
-Inv-loop terms n i₀ i = (i ≤ length terms) × (someBelow i (termIsWrong terms n) ≡ false)
+Inv-loop terms n i₀ i = (i ≤ length terms) × (someBelow i (termIsWrong n terms) ≡ false)
 
 abbrev μ-loop : tie.MeasureT-loop
 μ-loop terms n i₀ i = length terms - i
@@ -41,6 +41,7 @@ loop-again c =
     (search needs, term-right _ _ (b .before .before .loop .i) _ (b .node-at .ensures) (c .if1 .left) (b .before .before .loop .inv .1))
 
 returns-2 : tie.Need-returns-2 Inv-loop μ-loop
+unfolding wrongTerm
 returns-2 c = sym (some-end _ _ _ (c .before .loop .inv .0) (c .loop-test .left) (c .before .loop .inv .1))
 
 pub wrong-terms-spec : {M : Type 1} → statement M
