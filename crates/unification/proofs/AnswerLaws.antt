@@ -1,7 +1,7 @@
 -- What a call answers and leaves in the lent words, for any table: whether it is refused is settled by the conditions, and the rest by what unifying the two nodes comes to.
 -- By cases on the answer. Assumes nothing.
 use Prim.Native.Nat.{ℕ, zero, suc, _+_, _<_, _≤_}
-use mathlib.Core.List.{List, [], _∷_, _++_, List·Memᴰ·head, List·Memᴰ·eq-of-singleton}
+use mathlib.Core.List.{List, [], _∷_, _++_, map, List·Memᴰ, List·Memᴰ·head, List·Memᴰ·tail, List·Memᴰ·eq-of-singleton}
 use mathlib.Core.Logic.{_↔_}
 use mathlib.Core.Path.{_≡_, refl, sym, ap, _∙_}
 use native.Mathlib.Omega.{arith}
@@ -15,9 +15,9 @@ use Rattle.table.specs.Answer.{numberOf}
 use Rattle.table.specs.Refusal.{conditions, firstHeld, refusal}
 use Rattle.table.specs.Code.Accepted.{Accepted}
 use Rattle.table.proofs.BoolLaws.{or-false-left, or-false-right, or-both-false}
-use Rattle.table.proofs.RefusalLaws.{First, later, none, first-means, most, most-none}
-use Rattle.table.proofs.AcceptedLaws.{pass, accepted, accepted-first}
-use Rattle.table.proofs.AnswerLaws.{number-apart, numbered}
+use Rattle.table.proofs.RefusalLaws.{First, later, none, first-means, pass, held-number}
+use Rattle.table.proofs.AcceptedLaws.{accepted, accepted-first}
+use Rattle.table.proofs.AnswerLaws.{refusals, number-apart, numbered}
 use Rattle.terms.specs.Substitution.{Substitution}
 use Rattle.unification.specs.declared.Unification.{Unification}
 use Rattle.unification.specs.Node.{Node, nodesIn, Present}
@@ -252,18 +252,14 @@ told-apart Unification.Clash s e = ended-apart clash s e
 told-apart Unification.Occurs s e = ended-apart occurs s e
 told-apart (Unification.Refused r) s e = refused-apart r s e
 
-conditions-most : (t : List ℕ) (a b lent : ℕ) → firstHeld (unifyConditions t a b lent) ≤ 9
-unfolding unifyConditions conditions
-conditions-most t a b lent =
-    most (omega arith) (most (omega arith) (most (omega arith) (most (omega arith) (most (omega arith) (most (omega arith) (most (omega arith) (most (omega arith) (most (omega arith) most-none)))))))) (first-means _ (unifyConditions t a b lent) .0 refl)
-
 -- whatever a call comes to, some answer stands for it
 pub told-there : (t : List ℕ) (a b lent : ℕ) → (r : Unification) × (told r ≡ unification t a b lent)
-unfolding unification answerAfter
-told-there t a b lent = go (firstHeld (unifyConditions t a b lent)) (conditions-most t a b lent) (outcome (nodesIn t) ((a, b) ∷ []))
+unfolding unification answerAfter unifyConditions conditions
+told-there t a b lent = go (firstHeld (unifyConditions t a b lent)) (held-number (unifyConditions t a b lent)) (outcome (nodesIn t) ((a, b) ∷ []))
   where
-    go : (n : ℕ) → n ≤ 9 → (o : Outcome) → (r : Unification) × (told r ≡ answerAfter n o)
+    go : (n : ℕ) → List·Memᴰ n (0 ∷ map numberOf refusals) → (o : Outcome) → (r : Unification) × (told r ≡ answerAfter n o)
     go zero h unified = (Unification.Unified, refl)
     go zero h clash = (Unification.Clash, refl)
     go zero h occurs = (Unification.Occurs, refl)
-    go (suc n) h o = let r = numbered (suc n) (omega arith) h in (Unification.Refused (r .0), ap refused (r .1))
+    go (suc n) (List·Memᴰ·head e) o = absurd (omega arith)
+    go (suc n) (List·Memᴰ·tail m) o = let r = numbered (suc n) .0 m in (Unification.Refused (r .0), ap refused (r .1))

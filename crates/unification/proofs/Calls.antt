@@ -6,7 +6,7 @@ use native.Mathlib.Decide.{ℕ-discrete}
 use lib.ListN.{length}
 use Rattle.table.specs.Layout.{countsBefore}
 use Rattle.table.specs.Some.{someBelow}
-use Rattle.table.specs.Conditions.{tooFewWords, endBefore, offsetIsWrong, brokenPair, sectionIsLong, overLimit, rightVariable, startOf, rightApplication, rightNode, nodeIsWrong, nodesAreWrong, wrongNode, argumentIsWrong, runIsWrong, wrongArgument, termIsWrong, wrongTerm, labelsAreEqual, labelIsWrong, wrongLabel}
+use Rattle.table.specs.Conditions.{tooFewWords, endBefore, offsetIsWrong, brokenPair, wordsAreWrong, sizeIsWrong, overLimit, rightVariable, startOf, rightApplication, rightNode, nodeIsWrong, wrongNode, argumentIsWrong, runIsWrong, wrongArgument, termIsWrong, wrongTerm, labelsAreEqual, labelIsWrong, wrongLabel}
 use Rattle.table.specs.Refusal.{conditions, firstHeld}
 use Rattle.terms.specs.Term.{equal}
 use Rattle.terms.specs.Substitution.{sub}
@@ -88,7 +88,7 @@ computed e = (unification (e .0) (e .1) (e .2) (length (e .3)), lentAfter (e .0)
 
 -- what the definitions compute is what stands beside each call
 pub further : map computed calls ≡ map (λ e. (e .4, e .5)) calls
-unfolding ℕ-discrete countsBefore someBelow tooFewWords endBefore offsetIsWrong brokenPair sectionIsLong overLimit rightVariable startOf rightApplication rightNode nodeIsWrong nodesAreWrong wrongNode argumentIsWrong runIsWrong wrongArgument termIsWrong wrongTerm labelsAreEqual labelIsWrong wrongLabel conditions firstHeld equal sub tabulate readNode nodesIn each spell termWithin termOf zip zipWith insert variablesOf renamed join joinAll sameSymbol asks gather asked round rounds classes differ clashAt clashWith clashes someMarked leads leadsAt leadsFrom walks cyclic firstWith leastNode isApplication isVariable isNodeOf nodeOf resolved solution isApplicationIn isVariableIn headIn isBoundTo hasValue wordFor wordOf bindingWords outcome unifier wordsOf variableCount unifyConditions answerAfter unification wordsAfter lentAfter
+unfolding ℕ-discrete countsBefore someBelow tooFewWords endBefore offsetIsWrong brokenPair wordsAreWrong sizeIsWrong overLimit rightVariable startOf rightApplication rightNode nodeIsWrong wrongNode argumentIsWrong runIsWrong wrongArgument termIsWrong wrongTerm labelsAreEqual labelIsWrong wrongLabel conditions firstHeld equal sub tabulate readNode nodesIn each spell termWithin termOf zip zipWith insert variablesOf renamed join joinAll sameSymbol asks gather asked round rounds classes differ clashAt clashWith clashes someMarked leads leadsAt leadsFrom walks cyclic firstWith leastNode isApplication isVariable isNodeOf nodeOf resolved solution isApplicationIn isVariableIn headIn isBoundTo hasValue wordFor wordOf bindingWords outcome unifier wordsOf variableCount unifyConditions answerAfter unification wordsAfter lentAfter
 further = refl
 
 -- x with a and x with b, together: {x, x} and {a, b} has no entry

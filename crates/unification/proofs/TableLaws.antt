@@ -44,13 +44,13 @@ module _ {kind name first count earlier : ℕ} where
 pub sections-of : (t : List ℕ) → Accepted t → Sections (nodesOf t) (argumentsOf t)
 sections-of t g =
     record {
-      limit = g .within-limits nodes (omega arith);
-      kind = λ i h. known-kind (g .each-node i h);
-      variable-name = λ i h z. variable-words (g .each-node i h) z .0;
-      variable-count = λ i h z. variable-words (g .each-node i h) z .1;
-      count = λ i h. small-count (g .each-node i h);
+      limit = g .laid-out .within-limits nodes (omega arith);
+      kind = λ i h. known-kind (g .right-nodes .each-node i h);
+      variable-name = λ i h z. variable-words (g .right-nodes .each-node i h) z .0;
+      variable-count = λ i h z. variable-words (g .right-nodes .each-node i h) z .1;
+      count = λ i h. small-count (g .right-nodes .each-node i h);
       run = arguments-inside t g .run;
-      smaller = g .each-argument;
+      smaller = g .right-nodes .each-argument;
     }
 
 module _ (t : List ℕ) (i : ℕ) (h : i < length (nodesIn t)) (g : Accepted t) where
@@ -81,8 +81,8 @@ well-formed t g =
 
 -- the terms of an accepted table are nodes
 pub left-node : (t : List ℕ) → Accepted t → (i : ℕ) → i < length (leftTermsOf t) → word (leftTermsOf t) i < length (nodesIn t)
-left-node t a i h = rw (nodes-long t) (a .each-left-term i h)
+left-node t a i h = rw (nodes-long t) (a .right-sides .each-left-term i h)
 
 -- on both sides
 pub right-node : (t : List ℕ) → Accepted t → (j : ℕ) → j < length (rightTermsOf t) → word (rightTermsOf t) j < length (nodesIn t)
-right-node t a j h = rw (nodes-long t) (a .each-right-term j h)
+right-node t a j h = rw (nodes-long t) (a .right-sides .each-right-term j h)

@@ -18,9 +18,9 @@ use Rattle.table.specs.Answer.{numberOf}
 use Rattle.table.specs.Refusal.{conditions, refusal}
 use Rattle.table.specs.Code.Accepted.{Accepted}
 use Rattle.table.proofs.BoolLaws.{or-false-left, or-false-right, or-both-false}
-use Rattle.table.proofs.RefusalLaws.{First, here, later, first-before, refused}
-use Rattle.table.proofs.AcceptedLaws.{accepted, first-after}
-use Rattle.table.proofs.AnswerLaws.{number-within}
+use Rattle.table.proofs.RefusalLaws.{First, here, later, first-before, first-after, refused, conditions-numbered}
+use Rattle.table.proofs.AcceptedLaws.{accepted}
+use Rattle.table.proofs.AnswerLaws.{number-above}
 use Rattle.terms.specs.Substitution.{Substitution}
 use Rattle.unification.specs.declared.Unification.{Unification}
 use Rattle.unification.specs.Node.{Node, nodesIn}
@@ -53,8 +53,8 @@ module _ (t : List ℕ) (a b : ℕ) where
   refused-table : (lent : ℕ) (r : Refusal) → numberOf r ≡ refusal t → unification t a b lent ≡ answer.refused (numberOf r)
   unfolding unifyConditions
   refused-table lent r e =
-      let h = number-within r in
-      refused-exactly t a b lent (numberOf r) .1 (h .0, first-before _ (h .0) (refused t (numberOf r) .0 (sym e)))
+      let h = number-above r in
+      refused-exactly t a b lent (numberOf r) .1 (h, first-before _ h (refused t (numberOf r) .0 (sym e)))
 
   module _ (g : Accepted t) where
     clear : First 0 (conditions t)
@@ -66,8 +66,8 @@ module _ (t : List ℕ) (a b : ℕ) where
     accepted-table lent = pick (leb (length (nodesIn t)) a || leb (length (nodesIn t)) b) refl (ltb lent (length (variablesOf (nodesIn t)))) refl
       where
         pick : (x : Bool) → (leb (length (nodesIn t)) a || leb (length (nodesIn t)) b) ≡ x → (y : Bool) → ltb lent (length (variablesOf (nodesIn t))) ≡ y → unification t a b lent ≡ called (nodesIn t) a b lent
-        pick true e y f = rw e (refused-exactly t a b lent 8 .1 (omega arith, first-after 8 t _ clear (here refl e)))
-        pick false e true f = rw (e, f) (refused-exactly t a b lent 9 .1 (omega arith, first-after 9 t _ clear (later e (here refl f))))
+        pick true e y f = rw e (refused-exactly t a b lent 8 .1 (omega arith, first-after _ _ (conditions-numbered t) clear (here refl e)))
+        pick false e true f = rw (e, f) (refused-exactly t a b lent 9 .1 (omega arith, first-after _ _ (conditions-numbered t) clear (later e (here refl f))))
         pick false e false f =
             rw (e, f)
             (answered-exactly t a b lent (outcome (nodesIn t) ((a, b) ∷ [])) .1 (
