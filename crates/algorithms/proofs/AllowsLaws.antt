@@ -136,13 +136,13 @@ module _ (t e : List ℕ) (ok : Accepted t) (m : List·Memᴰ e (completeListing
       left-rest : (p : ℕ) → p < length (leftLabelsOf t) → flatMap rests (restsIn t e (word (leftLabelsOf t) p)) ≡ f .leftRest p
       left-rest p h =
           rest-stands (f .leftRest p) restIn (λ z. f .no-right (length-none (rightLabelsOf t) (eqb-true (length (rightLabelsOf t)) 0 z)) p h)
-          (held-left (leftLabelsOf t) (rightLabelsOf t) (f .leftRest) (f .rightRest) (ok .once) p h)
+          (held-left (leftLabelsOf t) (rightLabelsOf t) (f .leftRest) (f .rightRest) (ok .right-sides .once) p h)
           (left-maps t e ok .rests p h)
 
       right-rest : (q : ℕ) → q < length (rightLabelsOf t) → flatMap rests (restsIn t e (word (rightLabelsOf t) q)) ≡ f .rightRest q
       right-rest q h =
           rest-stands (f .rightRest q) restIn (λ z. f .no-left (length-none (leftLabelsOf t) (eqb-true (length (leftLabelsOf t)) 0 z)) q h)
-          (held-right (leftLabelsOf t) (rightLabelsOf t) (f .leftRest) (f .rightRest) (ok .once) q h)
+          (held-right (leftLabelsOf t) (rightLabelsOf t) (f .leftRest) (f .rightRest) (ok .right-sides .once) q h)
           (right-maps t e ok .rests q h)
 
       Held : ℕ → Type 0

@@ -117,7 +117,7 @@ module _ (t e : List ℕ) where
         let ks = leftLabelsOf t in
         let qs = rightLabelsOf t in
         let b = eqb (length qs) 0 in
-        image-at t b ks (tabulate (length ks) leftTagsAt) _ (sym (tabulate-length (length ks) leftTagsAt)) (left-different ks qs (ok .once)) p h
+        image-at t b ks (tabulate (length ks) leftTagsAt) _ (sym (tabulate-length (length ks) leftTagsAt)) (left-different ks qs (ok .right-sides .once)) p h
         ∙ ap (λ (us : List ℕ). standing t (context b (word ks p) us .1)) (tabulate-at (length ks) leftTagsAt [] p h)
 
     right-image : (q : ℕ) → q < length (rightLabelsOf t) → image t (entryResult t e .contexts) (word (rightLabelsOf t) q) ≡ standing t (context (eqb (length (leftLabelsOf t)) 0) (word (rightLabelsOf t) q) (rightTagsAt q) .1)
@@ -126,9 +126,9 @@ module _ (t e : List ℕ) where
         let ks = leftLabelsOf t in
         let qs = rightLabelsOf t in
         let b = eqb (length ks) 0 in
-        image-after t (eqb (length qs) 0) ks _ _ (word qs q) (λ p l. sides-different ks qs (ok .once) p q l h)
+        image-after t (eqb (length qs) 0) ks _ _ (word qs q) (λ p l. sides-different ks qs (ok .right-sides .once) p q l h)
         ∙ ap (λ (cs : Contexts). image t cs (word qs q)) (sym (append-nil (zipWith (context b) qs (tabulate (length qs) rightTagsAt))))
-        ∙ image-at t b qs (tabulate (length qs) rightTagsAt) [] (sym (tabulate-length (length qs) rightTagsAt)) (right-different ks qs (ok .once)) q h
+        ∙ image-at t b qs (tabulate (length qs) rightTagsAt) [] (sym (tabulate-length (length qs) rightTagsAt)) (right-different ks qs (ok .right-sides .once)) q h
         ∙ ap (λ (us : List ℕ). standing t (context b (word qs q) us .1)) (tabulate-at (length qs) rightTagsAt [] q h)
 
     -- the labels of both sides are mapped to the terms that the digits put there; there is no rest where the other side has no label

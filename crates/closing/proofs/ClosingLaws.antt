@@ -4,14 +4,14 @@ use Prim.Native.Nat.{ℕ, _≤_}
 use mathlib.Core.Bool.{Bool, true, false, false≢true}
 use mathlib.Core.List.{List}
 use mathlib.Core.Logic.{_⊎_, inl, inr}
-use mathlib.Core.Path.{_≡_, ap}
+use mathlib.Core.Path.{_≡_, refl, sym, ap, _∙_}
 use native.Mathlib.Omega.{arith}
 use borrow.Author.Tests.{eqb-true, eqb-false}
 use lib.Dec.{eqb}
 use Rattle.table.specs.declared.Refusal.{Refusal}
 use Rattle.table.specs.Answer.{numberOf}
 use Rattle.table.specs.Refusal.{refusal}
-use Rattle.table.proofs.AnswerLaws.{number-within}
+use Rattle.table.proofs.AnswerLaws.{number-above, number-not}
 use Rattle.multiset_unification.specs.Assignment.{Assignment, EqualSides}
 use Rattle.multiset_unification.specs.Answer.{listed}
 use Rattle.multiset_unification.specs.Page14.{Page14}
@@ -44,6 +44,6 @@ module _ (t : List ℕ) (lent : ℕ) where
 
       go : (listed t lent .0 ≤ 7) ⊎ (listed t lent .0 ≡ 10) → refusal t ≡ 0 → ⊥
       go (inl l) r =
-          let q = refused-exactly t lent (numberOf s) 0 (number-within s .0) (omega (arith, l, n)) .0 e in
-          omega (arith, q .0, r, number-within s .0)
-      go (inr l) r = omega (arith, l, n, number-within s .1)
+          let q = refused-exactly t lent (numberOf s) 0 (number-above s) (omega (arith, l, n)) .0 e in
+          omega (arith, q .0, r, number-above s)
+      go (inr l) r = number-not 10 refl s (sym n ∙ l)

@@ -19,7 +19,7 @@ use Rattle.table.specs.Refusal.{refusal}
 use Rattle.table.specs.Code.Accepted.{Accepted}
 use Rattle.table.proofs.AcceptedLaws.{accepted}
 use Rattle.table.proofs.BoolLaws.{or-false-left}
-use Rattle.table.proofs.AnswerLaws.{number-within}
+use Rattle.table.proofs.AnswerLaws.{number-not}
 use Rattle.unification.proofs.ListLaws.{length-none}
 use Rattle.unification.specs.Outcome.{Outcome, unified, clash, occurs}
 use Rattle.multiset_unification.specs.Answer.{entriesLeft, listed, lentAfter, entryWords, entriesIn}
@@ -103,9 +103,8 @@ module _ (t lent words : List ℕ) (k width : ℕ) (long : length lent ≡ 16384
 pub refused-printed : (t : List ℕ) (lent : ℕ) (r : Refusal) (n : ℕ) {o p : List ℕ} {j : ℕ} → lent ≡ 16384 → (numberOf r, 0) ≡ listed t lent → n ≡ numberOf r → Wrote o 0 (titled refusedText n) p j → Wrote o 0 (printedTable t) p j
 unfolding printedTable title listed lines flatMap
 refused-printed t lent r n long e f w =
-    let h = number-within r in
     let z = length-none (entriesLeft t lent) (sym (ap (λ (p : ℕ × ℕ). p .1) e)) in
-    rw (← long, z, ← ap (λ (p : ℕ × ℕ). p .0) e, ne-eqb (numberOf r) 0 (λ q. omega arith), ne-eqb (numberOf r) 10 (λ q. omega arith), ← f)
+    rw (← long, z, ← ap (λ (p : ℕ × ℕ). p .0) e, ne-eqb (numberOf r) 0 (number-not 0 refl r), ne-eqb (numberOf r) 10 (number-not 10 refl r), ← f)
     (rw (append-nil (titled refusedText n)) w)
 
 -- what is written from the first place on is all that is printed

@@ -18,7 +18,7 @@ use Rattle.table.specs.Answer.{numberOf}
 use Rattle.table.specs.Refusal.{refusal}
 use Rattle.table.specs.Code.Accepted.{Accepted}
 use Rattle.table.proofs.AcceptedLaws.{accepted}
-use Rattle.table.proofs.AnswerLaws.{number-within}
+use Rattle.table.proofs.AnswerLaws.{number-above}
 use Rattle.unification.specs.Computed.Variables.{variablesOf}
 use Rattle.unification.specs.Computed.Solution.{nodeOf}
 use Rattle.unification.specs.Computed.Unifying.{wordsOf}
@@ -261,12 +261,12 @@ pub listable : (t : List ℕ) → Accepted t → {labels : Labels} → labels .l
 listable t g k l =
     record {
       sections = sections-of t g;
-      left-few = g .within-limits 2 (omega arith);
-      right-few = g .within-limits 4 (omega arith);
-      left-nodes = g .each-left-term;
-      right-nodes = g .each-right-term;
-      left-labels = rw k (g .within-limits 3 (omega arith));
-      right-labels = rw l (g .within-limits 5 (omega arith));
+      left-few = g .laid-out .within-limits 2 (omega arith);
+      right-few = g .laid-out .within-limits 4 (omega arith);
+      left-nodes = g .right-sides .each-left-term;
+      right-nodes = g .right-sides .each-right-term;
+      left-labels = rw k (g .laid-out .within-limits 3 (omega arith));
+      right-labels = rw l (g .laid-out .within-limits 5 (omega arith));
     }
 
 -- and its entries are the complete listing
@@ -286,8 +286,8 @@ module _ (t lent lent′ : List ℕ) (r : Listing) where
   pub refused-promised : (refused : Refusal) → numberOf refused ≡ refusal t → r ≡ Refused refused → lent′ ≡ lent → Promised
   refused-promised refused n e w =
       promised
-      (ap told e ∙ sym (answered-refused t (length lent) (numberOf refused) (number-within refused .0) (sym n)))
-      (w ∙ sym (refused-nothing t lent (λ g. omega (arith, n, number-within refused .0, accepted t .1 g))))
+      (ap told e ∙ sym (answered-refused t (length lent) (numberOf refused) (number-above refused) (sym n)))
+      (w ∙ sym (refused-nothing t lent (λ g. omega (arith, n, number-above refused, accepted t .1 g))))
 
   -- an accepted one
   pub accepted-promised : Accepted t → Answers (completeListing t) lent r lent′ → Promised

@@ -12,7 +12,7 @@ use Rattle.table.specs.declared.Refusal.{Refusal}
 use Rattle.table.specs.Answer.{numberOf}
 use Rattle.table.specs.Layout.{nodesOf, argumentsOf, leftTermsOf, rightTermsOf}
 use Rattle.table.specs.Refusal.{refusal}
-use Rattle.table.proofs.AnswerLaws.{number-within}
+use Rattle.table.proofs.AnswerLaws.{number-above}
 use Rattle.unification.specs.Answer.{variableCount}
 use Rattle.unification.proofs.TableLaws.{nodes-of-sections}
 use Rattle.values.specs.declared.Variables.{Variables}
@@ -27,7 +27,7 @@ entry-counted t nodes arguments left right v e f g h l = rw (nodes-of-sections t
 module _ (t : List ℕ) (n : ℕ) where
   -- a refused table has no entry
   pub refused-none : (r : Refusal) → numberOf r ≡ refusal t → 0 ≡ cond (eqb (refusal t) 0) n 0
-  refused-none r e = rw (ne-eqb (refusal t) 0 (λ z. omega (arith, number-within r))) refl
+  refused-none r e = rw (ne-eqb (refusal t) 0 (λ z. omega (arith, number-above r))) refl
 
   -- one that is accepted has n words an entry
   pub accepted-all : refusal t ≡ 0 → n ≡ cond (eqb (refusal t) 0) n 0

@@ -13,9 +13,9 @@ use lib.ListN.{length, take, drop, length-append, length-drop}
 use lib.Seq.{take-length, take-append-seam, drop-append-seam}
 use Rattle.table.specs.Code.Accepted.{Accepted}
 use Rattle.table.specs.Refusal.{firstHeld, refusal}
-use Rattle.table.proofs.RefusalLaws.{here, later, none, first-means, first-before, refused, refusal-most}
-use Rattle.table.proofs.AcceptedLaws.{accepted, first-after}
-use Rattle.table.proofs.AnswerLaws.{number-apart, number-within, numbered}
+use Rattle.table.proofs.RefusalLaws.{here, later, none, first-means, first-before, first-after, refused, conditions-numbered, refusal-most}
+use Rattle.table.proofs.AcceptedLaws.{accepted}
+use Rattle.table.proofs.AnswerLaws.{number-apart, number-above, number-not, refusal-numbered}
 use Rattle.multiset_unification.specs.declared.Listing.{Listing}
 use Rattle.multiset_unification.specs.declared.Listing.the-variants.{Finished, Full, Refused}
 use Rattle.multiset_unification.specs.Computed.Listing.{completeListing}
@@ -125,7 +125,7 @@ module _ (t : List ℕ) (lent : ℕ) where
   unfolding listed listConditions
   answered-finished a h =
       let q = le-ltb lent (length (flatten (completeListing t))) h in
-      let f : firstHeld (listConditions t lent) ≡ 0 = first-means 0 (listConditions t lent) .1 (first-after 0 t _ (refused t 0 .0 (accepted t .1 a)) (later q (none refl))) in
+      let f : firstHeld (listConditions t lent) ≡ 0 = first-means 0 (listConditions t lent) .1 (first-after _ _ (conditions-numbered t) (refused t 0 .0 (accepted t .1 a)) (later q (none refl))) in
       let l = fitting-left a ∙ fitting-all lent (completeListing t) h in
       rw (f, l)
 
@@ -133,7 +133,7 @@ module _ (t : List ℕ) (lent : ℕ) where
   unfolding listed listConditions
   answered-full a h =
       let q = lt-ltb lent (length (flatten (completeListing t))) h in
-      let f : firstHeld (listConditions t lent) ≡ 10 = first-means 10 (listConditions t lent) .1 (first-after 10 t _ (refused t 0 .0 (accepted t .1 a)) (here refl q)) in
+      let f : firstHeld (listConditions t lent) ≡ 10 = first-means 10 (listConditions t lent) .1 (first-after _ _ (conditions-numbered t) (refused t 0 .0 (accepted t .1 a)) (here refl q)) in
       rw (f, fitting-left a)
 
   -- the three ways in which a call can end
@@ -258,12 +258,12 @@ told-apart r s e = go r s (ap (λ (p : ℕ × ℕ). p .0) e) (ap (λ (p : ℕ ×
     go : (r s : Listing) → told r .0 ≡ told s .0 → told r .1 ≡ told s .1 → r ≡ s
     go (Finished j) (Finished k) n e = ap Finished e
     go (Finished j) (Full k) n e = absurd (omega (arith, n))
-    go (Finished j) (Refused s) n e = absurd (omega (arith, n, number-within s .0))
+    go (Finished j) (Refused s) n e = absurd (omega (arith, n, number-above s))
     go (Full j) (Finished k) n e = absurd (omega (arith, n))
     go (Full j) (Full k) n e = ap Full e
-    go (Full j) (Refused s) n e = absurd (omega (arith, n, number-within s .1))
-    go (Refused r) (Finished k) n e = absurd (omega (arith, n, number-within r .0))
-    go (Refused r) (Full k) n e = absurd (omega (arith, n, number-within r .1))
+    go (Full j) (Refused s) n e = absurd (number-not 10 refl s (sym n))
+    go (Refused r) (Finished k) n e = absurd (omega (arith, n, number-above r))
+    go (Refused r) (Full k) n e = absurd (number-not 10 refl r n)
     go (Refused r) (Refused s) n e = ap Refused (number-apart r s n)
 
 -- every call has an answer that stands for what it comes to
@@ -272,7 +272,7 @@ told-there t lent = go (answered t lent)
   where
     go : Answered t lent → (r : Listing) × (told r ≡ listed t lent)
     go (refusing h q) =
-        let r = numbered (refusal t) h (omega (arith, refusal-most t)) in
+        let r = refusal-numbered t h in
         (Refused (r .0), ap (λ (n : ℕ). (n, 0)) (r .1) ∙ sym q)
     go (finishing a l q) = (Finished (length (completeListing t)), sym q)
     go (filling a l q) = (Full (length (fitting lent (completeListing t))), sym q)

@@ -192,8 +192,8 @@ pub entry-most : (t : List ℕ) → refusal t ≡ 0 → entryWords t ≤ 80
 unfolding entryWords
 entry-most t r =
     let a = accepted t .0 r in
-    let l = a .within-limits leftTerms (omega arith) in
-    let m = a .within-limits rightTerms (omega arith) in
+    let l = a .laid-out .within-limits leftTerms (omega arith) in
+    let m = a .laid-out .within-limits rightTerms (omega arith) in
     omega (arith, l, m, variables-most t r)
 
 module _ (t e : List ℕ) (g : Accepted t) (m : List·Memᴰ e (completeListing t)) where

@@ -64,7 +64,7 @@ entry-instance t r e m =
         read = entry-readable t e ok m;
         after = var;
         variables = λ x p. sym (sub-var (σ x));
-        labels = put-filled (leftTermsOf t) (leftLabelsOf t) (rightTermsOf t) (rightLabelsOf t) (digitsOf t e) v (ok .once);
+        labels = put-filled (leftTermsOf t) (leftLabelsOf t) (rightTermsOf t) (rightLabelsOf t) (digitsOf t e) v (ok .right-sides .once);
       },
     )
 

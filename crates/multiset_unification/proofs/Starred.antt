@@ -6,7 +6,7 @@ use lib.ListN.{length}
 use native.Mathlib.Decide.{ℕ-discrete}
 use Rattle.table.specs.Layout.{countsBefore}
 use Rattle.table.specs.Some.{someBelow}
-use Rattle.table.specs.Conditions.{tooFewWords, endBefore, offsetIsWrong, brokenPair, sectionIsLong, overLimit, rightVariable, startOf, rightApplication, rightNode, nodeIsWrong, nodesAreWrong, wrongNode, argumentIsWrong, runIsWrong, wrongArgument, termIsWrong, wrongTerm, labelsAreEqual, labelIsWrong, wrongLabel}
+use Rattle.table.specs.Conditions.{tooFewWords, endBefore, offsetIsWrong, brokenPair, wordsAreWrong, sizeIsWrong, overLimit, rightVariable, startOf, rightApplication, rightNode, nodeIsWrong, wrongNode, argumentIsWrong, runIsWrong, wrongArgument, termIsWrong, wrongTerm, labelsAreEqual, labelIsWrong, wrongLabel}
 use Rattle.table.specs.Refusal.{conditions, firstHeld, refusal}
 use Rattle.table.specs.declared.Refusal.the-variants.{WrongLabel}
 use Rattle.terms.specs.Term.{equal}
@@ -162,5 +162,5 @@ computed (unify t a b) lent = (outcome-is (unification t a b (length lent)), Rat
 
 -- what they compute is what stands beside each call: for 1 to 12, what document 01 says
 pub starred : map (λ e. computed (e .0) (e .1)) examples ≡ map (λ e. (stands-for (e .2), e .3)) examples
-unfolding flatten flatMap ℕ-discrete countsBefore someBelow tooFewWords endBefore offsetIsWrong brokenPair sectionIsLong overLimit rightVariable startOf rightApplication rightNode nodeIsWrong nodesAreWrong wrongNode argumentIsWrong runIsWrong wrongArgument termIsWrong wrongTerm labelsAreEqual labelIsWrong wrongLabel conditions firstHeld refusal equal sub tabulate readNode nodesIn each spell termWithin termOf zip zipWith insert variablesOf renamed join joinAll sameSymbol asks gather asked round rounds classes differ clashAt clashWith clashes someMarked leads leadsAt leadsFrom walks cyclic firstWith leastNode isApplication isVariable isNodeOf nodeOf resolved solution isApplicationIn isVariableIn headIn isBoundTo hasValue wordFor wordOf bindingWords outcome unifier wordsOf variableCount unifyConditions answerAfter unification wordsAfter pairs entryOf among branch rights lefts choices kept choicesOf completeListing listConditions fitting entriesLeft listed lentAfter Rattle.unification.specs.Answer.lentAfter
+unfolding flatten flatMap ℕ-discrete countsBefore someBelow tooFewWords endBefore offsetIsWrong brokenPair wordsAreWrong sizeIsWrong overLimit rightVariable startOf rightApplication rightNode nodeIsWrong wrongNode argumentIsWrong runIsWrong wrongArgument termIsWrong wrongTerm labelsAreEqual labelIsWrong wrongLabel conditions firstHeld refusal equal sub tabulate readNode nodesIn each spell termWithin termOf zip zipWith insert variablesOf renamed join joinAll sameSymbol asks gather asked round rounds classes differ clashAt clashWith clashes someMarked leads leadsAt leadsFrom walks cyclic firstWith leastNode isApplication isVariable isNodeOf nodeOf resolved solution isApplicationIn isVariableIn headIn isBoundTo hasValue wordFor wordOf bindingWords outcome unifier wordsOf variableCount unifyConditions answerAfter unification wordsAfter pairs entryOf among branch rights lefts choices kept choicesOf completeListing listConditions fitting entriesLeft listed lentAfter Rattle.unification.specs.Answer.lentAfter
 starred = refl

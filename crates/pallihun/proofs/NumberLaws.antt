@@ -1,10 +1,11 @@
 -- What the numbers of answers say: each is the number of one answer only. Assumes nothing.
-use Prim.Native.Nat.{ℕ, _≤_}
+use Prim.Native.Nat.{ℕ}
 use mathlib.Core.Path.{_≡_, refl, sym, ap, _∙_}
 use mathlib.Core.Logic.{_⊎_, inl, inr}
-use mathlib.Core.List.{List}
+use mathlib.Core.List.{List, _∷_, map, List·Memᴰ, List·Memᴰ·head, List·Memᴰ·tail}
 use native.Mathlib.Omega.{arith}
-use Rattle.table.proofs.AnswerLaws.{number-within, number-apart}
+use Rattle.table.specs.Answer.{numberOf as refusalNumber}
+use Rattle.table.proofs.AnswerLaws.{refusals, numbered, number-apart, number-above, number-not}
 use Rattle.unification.specs.declared.Unification.{Unification}
 use Rattle.unification.specs.declared.Unification.the-variants.{Unified, Clash, Occurs, Refused}
 use Rattle.unification.specs.Answer.{told, unification}
@@ -21,18 +22,18 @@ pub number-of-one : (u w : Unification) → numberOf (told u) ≡ numberOf (told
 number-of-one Unified Unified e = refl
 number-of-one Unified Clash e = absurd (omega (arith, e))
 number-of-one Unified Occurs e = absurd (omega (arith, e))
-number-of-one Unified (Refused s) e = absurd (omega (arith, e, number-within s .0))
+number-of-one Unified (Refused s) e = absurd (omega (arith, e, number-above s))
 number-of-one Clash Unified e = absurd (omega (arith, e))
 number-of-one Clash Clash e = refl
 number-of-one Clash Occurs e = absurd (omega (arith, e))
-number-of-one Clash (Refused s) e = absurd (omega (arith, e, number-within s .1))
+number-of-one Clash (Refused s) e = absurd (number-not 1000 refl s (sym e))
 number-of-one Occurs Unified e = absurd (omega (arith, e))
 number-of-one Occurs Clash e = absurd (omega (arith, e))
 number-of-one Occurs Occurs e = refl
-number-of-one Occurs (Refused s) e = absurd (omega (arith, e, number-within s .1))
-number-of-one (Refused r) Unified e = absurd (omega (arith, e, number-within r .0))
-number-of-one (Refused r) Clash e = absurd (omega (arith, e, number-within r .1))
-number-of-one (Refused r) Occurs e = absurd (omega (arith, e, number-within r .1))
+number-of-one Occurs (Refused s) e = absurd (number-not 1001 refl s (sym e))
+number-of-one (Refused r) Unified e = absurd (omega (arith, e, number-above r))
+number-of-one (Refused r) Clash e = absurd (number-not 1000 refl r e)
+number-of-one (Refused r) Occurs e = absurd (number-not 1001 refl r e)
 number-of-one (Refused r) (Refused s) e = ap Refused (number-apart r s e)
 
 -- so 0 is the number of unified alone
@@ -50,13 +51,13 @@ is-finished l p e z = told-apart l (Finished (p .entries)) (sym e ∙ ap (λ (n 
 
 -- The numbers that unifying answers.
 abbrev pub Known : ℕ → Type 0
-Known n = (n ≤ 9) ⊎ ((n ≡ 1000) ⊎ (n ≡ 1001))
+Known n = List·Memᴰ n (0 ∷ 1000 ∷ 1001 ∷ map refusalNumber refusals)
 
 number-told : (u : Unification) → Known (numberOf (told u))
-number-told Unified = inl (omega arith)
-number-told Clash = inr (inl refl)
-number-told Occurs = inr (inr refl)
-number-told (Refused r) = inl (number-within r .1)
+number-told Unified = List·Memᴰ·head refl
+number-told Clash = List·Memᴰ·tail (List·Memᴰ·head refl)
+number-told Occurs = List·Memᴰ·tail (List·Memᴰ·tail (List·Memᴰ·head refl))
+number-told (Refused r) = List·Memᴰ·tail (List·Memᴰ·tail (List·Memᴰ·tail (numbered (refusalNumber r) .1 (r, refl))))
 
 -- no other number is answered
 pub number-known : (t : List ℕ) (a b lent : ℕ) → Known (numberOf (unification t a b lent))

@@ -3,7 +3,6 @@
 use mathlib.Core.Path.{sym, ap, _∙_}
 use native.Mathlib.Omega.{arith}
 use borrow.Author.Needs.{needs}
-use Rattle.table.proofs.AnswerLaws.{number-within}
 use Rattle.multiset_unification.specs.Answer.{told}
 use Rattle.list.proofs.LengthLaws.{title-fits}
 use Rattle.list.proofs.PrintLaws.{refused-printed, full-printable, full-printed, finished-printable, finished-printed}
@@ -27,7 +26,7 @@ number-requires c κs = search needs
 
 write-title-requires : tie.Need-write-title-requires
 write-title-requires c κs =
-    title-fits _ _ _ (omega arith) (omega (arith, c .before .number .ensures, number-within (c .before .before .before .before .answer .given .0 .0))) (c .before .before .before .before .before .before .before .before .before .before .before .before .before .before .pre .1)
+    title-fits _ _ _ (omega arith) (search needs) (c .before .before .before .before .before .before .before .before .before .before .before .before .before .before .pre .1)
 
 enum-known-answer-2 : tie.Need-enum-known-answer-2
 enum-known-answer-2 c = search needs
