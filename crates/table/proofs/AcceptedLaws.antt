@@ -11,7 +11,7 @@ use Rattle.table.specs.Layout.{nodesOf, argumentsOf, leftTermsOf, leftLa
 use Rattle.table.specs.Code.Sections.{sectionsTo, limitsTo}
 use Rattle.table.specs.Code.Reading.{HasSection, RunsInside}
 use Rattle.table.specs.Refusal.{conditions, refusal}
-use Rattle.table.specs.Code.Accepted.{Accepted}
+use Rattle.table.specs.Code.Accepted.{NodesRight, Accepted}
 use Rattle.table.proofs.ConditionLaws.{runs-inside, right-nodes-mean, right-sides-mean}
 use Rattle.table.proofs.SectionLaws.{laid-out-means, has-section, section-length, sections-whole, words-most}
 use Rattle.table.proofs.RefusalLaws.{First, later, none, refused, pass, none-both, conditions-numbered}
@@ -50,6 +50,10 @@ accepted-first t cs =
     let b = none-both (conditions t) cs (conditions-numbered t) in
     ((λ z. let r = b .0 z in (accepts t (r .0), r .1)), (λ a. b .1 (none-held t (a .0), a .1)))
 
+-- where nodes and arguments are right, the arguments of each node are a run inside their section
+pub arguments-inside : (ns args : List ℕ) → NodesRight ns args → RunsInside ns args
+arguments-inside ns args r = runs-inside ns args (r .each-node) (r .counts)
+
 module _ (t : List ℕ) (a : Accepted t) where
   -- each section of an accepted table can be read, and is as long as its pair says
   pub readable : (k : ℕ) → k < length sections → HasSection t k
@@ -57,10 +61,6 @@ module _ (t : List ℕ) (a : Accepted t) where
 
   pub section-long : (k : ℕ) → k < length sections → length (section t k) ≡ size t k
   section-long = section-length sections t (a .laid-out)
-
-  -- the arguments of each node are a run inside the section
-  pub arguments-inside : RunsInside (nodesOf t) (argumentsOf t)
-  arguments-inside = runs-inside _ _ (a .right-nodes .each-node) (a .right-nodes .counts)
 
   -- the header and the six sections, one after the other, are the table
   pub end-to-end : take 12 t ++ nodesOf t ++ argumentsOf t ++ leftTermsOf t ++ leftLabelsOf t ++ rightTermsOf t ++ rightLabelsOf t ≡ t

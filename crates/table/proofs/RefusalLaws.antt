@@ -55,6 +55,10 @@ number-first (none e) = List·Memᴰ·head e
 pub held-number : (cs : List (ℕ × Bool)) → List·Memᴰ (firstHeld cs) (0 ∷ numbersOf cs)
 held-number cs = number-first (held-first (firstHeld cs) cs refl)
 
+-- and so it has what 0 and all of theirs have
+pub held-has : (p : ℕ → Bool) (cs : List (ℕ × Bool)) → every p (0 ∷ numbersOf cs) ≡ true → p (firstHeld cs) ≡ true
+held-has p cs e = every-has p e (held-number cs)
+
 -- a condition that holds comes before all that are added
 pub first-before : {n : ℕ} {cs : List (ℕ × Bool)} (ds : List (ℕ × Bool)) → 0 < n → First n cs → First n (cs ++ ds)
 first-before ds h (here e q) = here e q
@@ -103,7 +107,7 @@ conditions-numbered t = refl
 -- checking a table gives none of the refusals that other operations add
 pub refusal-most : (t : List ℕ) → refusal t ≤ 7
 unfolding refusal conditions
-refusal-most t = leb-true (refusal t) 7 (every-has (λ (n : ℕ). leb n 7) refl (held-number (conditions t)))
+refusal-most t = leb-true (refusal t) 7 (held-has (λ (n : ℕ). leb n 7) (conditions t) refl)
 
 -- the step from one condition to the next
 pub not-held : (c : ℕ × Bool) (cs : List (ℕ × Bool)) → c .1 ≡ false → firstHeld (c ∷ cs) ≡ firstHeld cs

@@ -1,4 +1,5 @@
 -- `checking::conditions::wrong_words` meets its contract, which is what it computes. Assumes nothing.
+use mathlib.Core.Path.{refl}
 use borrow.Author.Needs.{needs}
 use Rattle.table.specs.Conditions.{wordsAreWrong}
 use Rattle.checking.proofs.conditions.wrong_words.Statement.{statement}
@@ -12,7 +13,7 @@ mul-result c = search needs
 
 returns : tie.Need-returns
 unfolding wordsAreWrong
-returns c = search needs
+returns c = refl
 
 pub wrong-words-spec : {M : Type 1} → statement M
 wrong-words-spec = tie.close (tie.spec rem-result mul-result returns)
