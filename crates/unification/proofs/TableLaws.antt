@@ -1,14 +1,15 @@
 -- What the nodes of an accepted table are: those of its two sections. Assumes nothing.
-use Prim.Native.Nat.{ℕ, _<_, _≤_}
+use Prim.Native.Nat.{ℕ, _*_, _<_, _≤_}
 use mathlib.Core.List.{List}
 use mathlib.Core.Logic.{_↔_}
 use mathlib.Core.Path.{_≡_, refl}
 use native.Mathlib.Omega.{arith}
 use lib.ListN.{length, getD}
-use Rattle.table.specs.Limits.{maxVariable, maxCount}
+use Rattle.table.specs.Limits.{nodeWords, maxNodes, maxVariable}
 use Rattle.table.specs.Layout.{word, nodesOf, argumentsOf, leftTermsOf, rightTermsOf, kindOf, nameOf, countOf, nodeCount, argumentOf}
 use Rattle.table.specs.Code.Sections.{nodes}
-use Rattle.table.specs.Code.Accepted.{Accepted, RightNode}
+use Rattle.table.specs.Code.Accepted.{RightNode, NodesRight, Accepted}
+use Rattle.table.proofs.NodeLaws.{right-count}
 use Rattle.table.proofs.AcceptedLaws.{arguments-inside}
 use Rattle.unification.specs.Node.{variable, application, nodesIn, nodeAt, Present}
 use Rattle.unification.specs.Code.Given.{WellFormed}
@@ -30,28 +31,27 @@ module _ {kind name first count earlier : ℕ} where
   known-kind (RightNode.constant e a b c) = omega arith
   known-kind (RightNode.application e a b c d) = omega arith
 
-  small-count : RightNode kind name first count earlier → count ≤ maxCount
-  small-count (RightNode.variable e a b c) = omega arith
-  small-count (RightNode.constant e a b c) = omega arith
-  small-count (RightNode.application e a b c d) = d
-
   variable-words : RightNode kind name first count earlier → kind ≡ 0 → (name ≤ maxVariable) × (count ≡ 0)
   variable-words (RightNode.variable e a b c) z = (a, c)
   variable-words (RightNode.constant e a b c) z = absurd (omega arith)
   variable-words (RightNode.application e a b c d) z = absurd (omega arith)
 
--- the sections of an accepted table are what the code needs
-pub sections-of : (t : List ℕ) → Accepted t → Sections (nodesOf t) (argumentsOf t)
-sections-of t g =
+-- nodes and arguments that are right, within the limit, are what the code needs
+pub right-sections : (ns args : List ℕ) → length ns ≤ nodeWords * maxNodes → NodesRight ns args → Sections ns args
+right-sections ns args l r =
     record {
-      limit = g .laid-out .within-limits nodes (omega arith);
-      kind = λ i h. known-kind (g .right-nodes .each-node i h);
-      variable-name = λ i h z. variable-words (g .right-nodes .each-node i h) z .0;
-      variable-count = λ i h z. variable-words (g .right-nodes .each-node i h) z .1;
-      count = λ i h. small-count (g .right-nodes .each-node i h);
-      run = arguments-inside t g .run;
-      smaller = g .right-nodes .each-argument;
+      limit = l;
+      kind = λ i h. known-kind (r .each-node i h);
+      variable-name = λ i h z. variable-words (r .each-node i h) z .0;
+      variable-count = λ i h z. variable-words (r .each-node i h) z .1;
+      count = λ i h. right-count (r .each-node i h);
+      run = arguments-inside ns args r .run;
+      smaller = r .each-argument;
     }
+
+-- and so are the two sections of an accepted table
+pub sections-of : (t : List ℕ) → Accepted t → Sections (nodesOf t) (argumentsOf t)
+sections-of t g = right-sections _ _ (g .laid-out .within-limits nodes (omega arith)) (g .right-nodes)
 
 module _ (t : List ℕ) (i : ℕ) (h : i < length (nodesIn t)) (g : Accepted t) where
   inside : i < nodeCount (nodesOf t)
