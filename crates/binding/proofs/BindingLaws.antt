@@ -19,7 +19,7 @@ use Rattle.unification.specs.Computed.Binding.{wordOf, bindingWords}
 use Rattle.unification.specs.Computed.Unifying.{unifier, wordsOf}
 use Rattle.unification.specs.Code.Sections.{nodesFrom, Sections}
 use Rattle.unification.specs.Code.Heads.{Partition}
-use Rattle.unification.specs.Code.Solved.{Closed}
+use Rattle.unification.specs.Code.Solved.{IsClosure}
 use Rattle.unification.specs.Code.Valued.{NamedVariable, IsNamed, bound, free}
 use Rattle.unification.proofs.MatchedLaws.{matched-by}
 use Rattle.unification.proofs.VariableLaws.{variables-rise, variables-present, present-variables}
@@ -77,7 +77,7 @@ module _ (words args list : List ℕ) (e : list ≡ leastNodes (nodesFrom words 
             rw (list-at k (rw list-long at h)) (rw (nodes-long words args) at (l .holds .0));
       }
 
-  module _ (cs names : List ℕ) (m : HeadNames words args cs names) (ps : List (ℕ × ℕ)) (c : Closed ns ps (classOf cs)) (by all : List ℕ) (a : ApplicationsNoted words cs names by) (f : FreeFrom words cs names list by all 0) where
+  module _ (cs names : List ℕ) (m : HeadNames words args cs names) (ps : List (ℕ × ℕ)) (c : IsClosure ns ps (classOf cs)) (by all : List ℕ) (a : ApplicationsNoted words cs names by) (f : FreeFrom words cs names list by all 0) where
     -- What stands at the name of variable x is its word by names.
     abbrev IsFound : ℕ → Type 0
     IsFound x = IsNamed ns (classOf cs) (valueName cs names) x (word all (valueName cs names (nodeOf ns x)))
@@ -177,7 +177,7 @@ pub heads-named : (words args cs names : List ℕ) → Named words args cs names
 heads-named words args cs names m s p l = record { readable = record { sections = s; partition = p; long = l }; named = m }
 
 -- the name of an application names itself
-name-itself : (words args counts cs names : List ℕ) → HeadNames words args cs names → NamesLeast words args counts cs names → (ps : List (ℕ × ℕ)) → Closed (nodesFrom words args) ps (classOf cs) → (i : ℕ) → i < nodeCount words → Applied words cs i → valueName cs names (valueName cs names i) ≡ valueName cs names i
+name-itself : (words args counts cs names : List ℕ) → HeadNames words args cs names → NamesLeast words args counts cs names → (ps : List (ℕ × ℕ)) → IsClosure (nodesFrom words args) ps (classOf cs) → (i : ℕ) → i < nodeCount words → Applied words cs i → valueName cs names (valueName cs names i) ≡ valueName cs names i
 name-itself words args counts cs names m t ps c i h n =
     let v = valueName cs names i in
     let l = m .named .node i h in
@@ -190,7 +190,7 @@ found-leaves words args counts cs names opens list out out′ f m l k o g e ps t
     let s = m .readable .sections in
     let p = m .readable .partition in
     let h = t .inside in
-    let c = t .closed in
+    let c = t .closure in
     let a = noted-all words args cs names m opens counts (f .applications) o l (name-itself words args counts cs names m l ps c) (f .noted) in
     let d : wordsOf (nodesFrom words args) ps ≡ readAt cs names (f .all) list = names-decide (nodesFrom words args) (sections-well-formed words args s) ps h (classOf cs) (rank words counts (g .order)) (ordered-solved words args s counts k cs p (g .closed) ps h c (g .order) (g .ordered)) (suc (nodeCount words + suc (length (g .order)))) (ordered-enough words args s counts k cs p (g .closed) ps h c (g .order) (g .ordered)) (valueName cs names) (named-valued words args cs names s p (m .named)) (readAt cs names (f .all) list) (named-read words args list e cs names m ps c (f .applications) (f .all) a (f .free)) in
     f .words-read ∙ ap (λ (n : List ℕ). n ++ drop (length list) out) (sym d) ∙ ap (λ (n : ℕ). wordsOf (nodesFrom words args) ps ++ drop n out) (ap length e ∙ least-long words args)

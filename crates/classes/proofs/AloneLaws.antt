@@ -72,7 +72,7 @@ module _ (words args counts : List ℕ) (s : Sections words args) (cs : List ℕ
   -- a node has the value of its head
   head-value : (σ : Substitution) (i : ℕ) → i < nodeCount words → value ns σ i ≡ value ns σ (classOf cs i)
   head-value σ i h =
-      joined-equal ns (sections-well-formed words args s) (z .pairs) (z .stands .inside) σ (z .same σ) (z .stands .closed .joined i (is-node words args i h))
+      joined-equal ns (sections-well-formed words args s) (z .pairs) (z .stands .inside) σ (z .same σ) (z .stands .closure .joined i (is-node words args i h))
 
   -- closed applications of different terms
   pub never-closed : Counts words args counts (nodeCount words) → (g h : ℕ) → g ≡ classOf cs a → h ≡ classOf cs b → (g ≡ h → ⊥) → (r : Bool) → r ≡ (markedTest words counts g && markedTest words counts h) → r ≡ true → Never ns a b

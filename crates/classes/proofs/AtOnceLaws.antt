@@ -15,7 +15,7 @@ use Rattle.unification.proofs.CountLaws.{in-list}
 use Rattle.unification.proofs.SectionLaws.{is-node, application-from, symbols-differ}
 use Rattle.nodes.specs.Code.Open.{Counts}
 use Rattle.nodes.specs.Code.Formed.{Formed, Stands}
-use Rattle.classes.proofs.ClosingLaws.{already, heads-clash, closed-at-last}
+use Rattle.classes.proofs.ClosureLaws.{already, heads-clash, closure-at-last}
 use Rattle.classes.proofs.OrderedLaws.{ordered-unified}
 use Rattle.classes.proofs.ExtensionLaws.{longer, waiting}
 
@@ -36,7 +36,7 @@ module _ (words args counts cs : List ℕ) (s : Sections words args) (f : Formed
     together e ps d =
         record {
           inside = longer words args counts s cs f a b p q ps d;
-          closed = closed-at-last (nodesFrom words args) ((a, b) ∷ ps) cs (already (nodesFrom words args) ((a, b) ∷ ps) cs a b [] (in-list (f .partition) a p) (in-list (f .partition) b q) e (waiting words args counts s cs f a b p q ps d));
+          closure = closure-at-last (nodesFrom words args) ((a, b) ∷ ps) cs (already (nodesFrom words args) ((a, b) ∷ ps) cs a b [] (in-list (f .partition) a p) (in-list (f .partition) b q) e (waiting words args counts s cs f a b p q ps d));
         }
 
     -- applications of different symbols: a clash
@@ -50,4 +50,4 @@ module _ (words args counts cs : List ℕ) (s : Sections words args) (f : Formed
   -- classes stand for pairs that have a unifier
   pub formed-unified : Counts words args counts (nodeCount words) → (ps : List (ℕ × ℕ)) → Stands words args cs ps → outcome (nodesFrom words args) ps ≡ unified
   formed-unified k ps d =
-      ordered-unified words args s counts k cs (f .partition) (f .closed) ps (d .inside) (d .closed) (f .order) (f .ordered)
+      ordered-unified words args s counts k cs (f .partition) (f .closed) ps (d .inside) (d .closure) (f .order) (f .ordered)

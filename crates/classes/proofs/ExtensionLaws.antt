@@ -13,19 +13,19 @@ use Rattle.unification.specs.Computed.Classes.{classOf}
 use Rattle.unification.specs.Computed.Unifying.{outcome}
 use Rattle.unification.specs.Code.Given.{Inside}
 use Rattle.unification.specs.Code.Sections.{nodesFrom, Sections}
-use Rattle.unification.specs.Code.Solved.{Closed}
+use Rattle.unification.specs.Code.Solved.{IsClosure}
 use Rattle.unification.proofs.OutcomeLaws.{outcome-clash, cycle-decides}
 use Rattle.unification.proofs.SectionLaws.{nodes-long, is-node, sections-well-formed}
 use Rattle.classes.specs.declared.Extended.{Extended}
 use Rattle.classes.specs.declared.Extended.the-variants.{Unified, Clash, Occurs}
 use Rattle.nodes.specs.Code.Open.{Counts, ClosedHeads, KeepsClosed}
 use Rattle.nodes.specs.Code.Trail.{none}
-use Rattle.classes.specs.Code.Closing.{Closing, Joins}
+use Rattle.classes.specs.Code.Closure.{ClosureUpTo, Joins}
 use Rattle.nodes.specs.Code.Order.{Ordered, Searched}
 use Rattle.nodes.specs.Code.Formed.{Formed, Stands}
 use Rattle.classes.specs.Code.Stands.{Extends, extended}
 use Rattle.nodes.proofs.OpenLaws.{closed-kept}
-use Rattle.classes.proofs.ClosingLaws.{opened, closed-at-last}
+use Rattle.classes.proofs.ClosureLaws.{opened, closure-at-last}
 use Rattle.classes.proofs.OrderedLaws.{leads-reaches, ordered-unified}
 use Rattle.classes.proofs.MendLaws.{still-one, mended}
 
@@ -64,9 +64,9 @@ module _ (words args counts : List ℕ) (s : Sections words args) (cs : List ℕ
     longer = inside-more (nodesFrom words args) ps a b (is-node words args a p) (is-node words args b q) (d .inside)
 
     -- the pair is still to be joined
-    pub waiting : Closing (nodesFrom words args) ((a, b) ∷ ps) cs ((a, b) ∷ [])
+    pub waiting : ClosureUpTo (nodesFrom words args) ((a, b) ∷ ps) cs ((a, b) ∷ [])
     waiting =
-        opened (nodesFrom words args) (sections-well-formed words args s) ps (d .inside) cs (rw (nodes-long words args) (f .partition)) a b (d .closed)
+        opened (nodesFrom words args) (sections-well-formed words args s) ps (d .inside) cs (rw (nodes-long words args) (f .partition)) a b (d .closure)
 
   module _ (next : List ℕ) (fine : Bool) (cs′ next′ : List ℕ) (j : Joins words args counts cs next a b fine cs′ next′) where
     -- a clash
@@ -77,8 +77,8 @@ module _ (words args counts : List ℕ) (s : Sections words args) (cs : List ℕ
 
     module _ (t : fine ≡ true) (k : Counts words args counts (nodeCount words)) where
       -- classes of the longer list
-      closed-after : (ps : List (ℕ × ℕ)) → Stands words args cs ps → Closed (nodesFrom words args) ((a, b) ∷ ps) (classOf cs′)
-      closed-after ps d = closed-at-last (nodesFrom words args) ((a, b) ∷ ps) cs′ (j .closes t ((a, b) ∷ ps) [] (waiting ps d))
+      closure-after : (ps : List (ℕ × ℕ)) → Stands words args cs ps → IsClosure (nodesFrom words args) ((a, b) ∷ ps) (classOf cs′)
+      closure-after ps d = closure-at-last (nodesFrom words args) ((a, b) ∷ ps) cs′ (j .done t ((a, b) ∷ ps) [] (waiting ps d))
 
       module _ (r : Bool) (x : Searched words args (word counts) cs′ a r) where
         -- a cycle
@@ -87,7 +87,7 @@ module _ (words args counts : List ℕ) (s : Sections words args) (cs : List ℕ
             extends-failed words args counts cs next a b cs″ next″ Occurs u (λ z. let w : _≡_ {A = ℕ} 0 1 = cc in omega arith)
             (λ ps d.
             let l = x .cycle y in
-            cycle-decides (nodesFrom words args) (sections-well-formed words args s) ((a, b) ∷ ps) (longer ps d) (classOf cs′) (closed-after ps d) (l .0) (leads-reaches words args s cs′ ((a, b) ∷ ps) (longer ps d) (closed-after ps d) counts k (l .2)))
+            cycle-decides (nodesFrom words args) (sections-well-formed words args s) ((a, b) ∷ ps) (longer ps d) (classOf cs′) (closure-after ps d) (l .0) (leads-reaches words args s cs′ ((a, b) ∷ ps) (longer ps d) (closure-after ps d) counts k (l .2)))
 
         module _ (y : r ≡ false) (ps : List (ℕ × ℕ)) (d : Stands words args cs ps) where
           -- closed applications have closed heads
@@ -96,14 +96,14 @@ module _ (words args counts : List ℕ) (s : Sections words args) (cs : List ℕ
 
           order-after : (order : List ℕ) × Ordered words args (word counts) cs′ order
           order-after =
-              mended words args s ps (d .inside) a b (longer ps d) cs (d .closed) cs′ (closed-after ps d) counts k heads-after (x .ordered y) (j .partition) (j .heads) (f .order) (f .ordered)
+              mended words args s ps (d .inside) a b (longer ps d) cs (d .closure) cs′ (closure-after ps d) counts k heads-after (x .ordered y) (j .partition) (j .heads) (f .order) (f .ordered)
 
           formed-after : Formed words args counts cs′
           formed-after =
               record {
                 partition = j .partition;
                 constants = λ i h u v e.
-                    still-one words args s ps (d .inside) a b (longer ps d) cs (d .closed) cs′ (closed-after ps d) i h (is-node words args i (u .node)) (is-node words args h (v .node)) (f .constants i h u v e);
+                    still-one words args s ps (d .inside) a b (longer ps d) cs (d .closure) cs′ (closure-after ps d) i h (is-node words args i (u .node)) (is-node words args h (v .node)) (f .constants i h u v e);
                 closed = heads-after;
                 order = order-after .0;
                 ordered = order-after .1;
@@ -111,7 +111,7 @@ module _ (words args counts : List ℕ) (s : Sections words args) (cs : List ℕ
 
           unified-after : outcome (nodesFrom words args) ((a, b) ∷ ps) ≡ extended Unified
           unified-after =
-              ordered-unified words args s counts k cs′ (j .partition) heads-after ((a, b) ∷ ps) (longer ps d) (closed-after ps d) (order-after .0) (order-after .1)
+              ordered-unified words args s counts k cs′ (j .partition) heads-after ((a, b) ∷ ps) (longer ps d) (closure-after ps d) (order-after .0) (order-after .1)
 
         -- classes of the longer list, in order
         pub extends-unified : r ≡ false → Extends words args counts cs next a b Unified cs′ next′
@@ -119,7 +119,7 @@ module _ (words args counts : List ℕ) (s : Sections words args) (cs : List ℕ
             record {
               answers = λ ps d. sym (unified-after y ps d);
               formed = λ z ps d. formed-after y ps d;
-              stands = λ z ps d. record { inside = longer ps d; closed = closed-after ps d };
+              stands = λ z ps d. record { inside = longer ps d; closure = closure-after ps d };
               merges = j .merges;
               failed = λ f. absurd (f refl);
               kept = λ z. j .kept;

@@ -2,8 +2,8 @@
 pub mod RelabelLaws
 pub mod TrailLaws
 pub mod ClosedClashLaws
-pub mod ClosingLaws
-pub mod ClosingStepLaws
+pub mod ClosureLaws
+pub mod JoinLaws
 pub mod OrderedLaws
 pub mod OrderLaws
 pub mod MendLaws

@@ -15,10 +15,10 @@ use Rattle.unification.specs.Computed.Classes.{classOf}
 use Rattle.unification.specs.Code.Given.{Inside}
 use Rattle.unification.specs.Code.Heads.{Partition}
 use Rattle.unification.specs.Code.Sections.{nodesFrom, Sections}
-use Rattle.unification.specs.Code.Solved.{Closed, HeadFits}
+use Rattle.unification.specs.Code.Solved.{IsClosure, HeadFits}
 use Rattle.unification.proofs.ListLaws.{zip-right, zip-through}
 use Rattle.unification.proofs.JoinedLaws.{more-joined, joined-inside}
-use Rattle.unification.proofs.SolvedLaws.{closed-inside, joined-head}
+use Rattle.unification.proofs.SolvedLaws.{closure-inside, joined-head}
 use Rattle.unification.proofs.SectionLaws.{is-node, counted, argument-place, sections-well-formed}
 use Rattle.nodes.specs.Code.Open.{Counts, ClosedHeads}
 use Rattle.nodes.specs.Code.Order.{Met, leaf, before, Listed, Ordered, OrderedBelow}
@@ -93,7 +93,7 @@ listed-more words args due cs order l h inside some new first = record { node = 
     firsts p q (inl r) = rw (old p r) (λ j b. met-longer due order h p _ (omega arith) (l .first p r j b))
     firsts p q (inr r) = rw (r, last) (λ j b. met-longer due order h (length order) _ (omega arith) (first j b))
 
-module _ (words args : List ℕ) (s : Sections words args) (ps : List (ℕ × ℕ)) (inside : Inside (nodesFrom words args) ps) (a b : ℕ) (inside′ : Inside (nodesFrom words args) ((a, b) ∷ ps)) (old : List ℕ) (c : Closed (nodesFrom words args) ps (classOf old)) (cs : List ℕ) (c′ : Closed (nodesFrom words args) ((a, b) ∷ ps) (classOf cs)) where
+module _ (words args : List ℕ) (s : Sections words args) (ps : List (ℕ × ℕ)) (inside : Inside (nodesFrom words args) ps) (a b : ℕ) (inside′ : Inside (nodesFrom words args) ((a, b) ∷ ps)) (old : List ℕ) (c : IsClosure (nodesFrom words args) ps (classOf old)) (cs : List ℕ) (c′ : IsClosure (nodesFrom words args) ((a, b) ∷ ps) (classOf cs)) where
   abbrev ns : List Node
   ns = nodesFrom words args
 
@@ -155,7 +155,7 @@ module _ (words args : List ℕ) (s : Sections words args) (ps : List (ℕ × �
         go : HeadFits ns (classOf cs) i f us → Reached x
         go h =
             let t = zip-through us (h .arguments) vs (h .as-long) (sym (h .as-long) ∙ l) x y m in
-            let g : classOf cs i < nodeCount words = counted words args (classOf cs i) (closed-inside ns (sections-well-formed words args s) ((a, b) ∷ ps) inside′ (classOf cs) c′ i p) in
+            let g : classOf cs i < nodeCount words = counted words args (classOf cs i) (closure-inside ns (sections-well-formed words args s) ((a, b) ∷ ps) inside′ (classOf cs) c′ i p) in
             let q = argument-place words args s (classOf cs i) g f (h .arguments) (h .applied) (t .0) (zip-right us (h .arguments) x (t .0) (t .1)) in
             reached-same (argumentOf words args (classOf cs i) (q .0)) x (ap (classOf cs) (sym (q .2)) ∙ sym (h .one-head x (t .0) (t .1))) (reached-argument (classOf cs i) g r (q .0) (q .1))
 

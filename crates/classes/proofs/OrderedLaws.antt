@@ -19,7 +19,7 @@ use Rattle.unification.specs.Computed.Unifying.{outcome}
 use Rattle.unification.specs.Code.Given.{Inside}
 use Rattle.unification.specs.Code.Heads.{Partition}
 use Rattle.unification.specs.Code.Sections.{nodesFrom, Sections}
-use Rattle.unification.specs.Code.Solved.{Closed, Solved}
+use Rattle.unification.specs.Code.Solved.{IsClosure, Solved}
 use Rattle.unification.proofs.OutcomeLaws.{solved-decides}
 use Rattle.unification.proofs.SectionLaws.{nodes-long, counted, application-from, argument-place, place-argument, counted-application, sections-well-formed}
 use Rattle.nodes.specs.Code.Open.{Marked, Counts, ClosedHeads}
@@ -117,7 +117,7 @@ module _ (words args : List ℕ) (s : Sections words args) (counts : List ℕ) (
         omega arith
 
 -- what leads reaches
-pub leads-reaches : (words args : List ℕ) (s : Sections words args) (cs : List ℕ) (ps : List (ℕ × ℕ)) (h : Inside (nodesFrom words args) ps) (c : Closed (nodesFrom words args) ps (classOf cs)) (counts : List ℕ) (k : Counts words args counts (nodeCount words)) {i j : ℕ} → Leads words args (word counts) cs i j → Reaches (nodesFrom words args) ps i j
+pub leads-reaches : (words args : List ℕ) (s : Sections words args) (cs : List ℕ) (ps : List (ℕ × ℕ)) (h : Inside (nodesFrom words args) ps) (c : IsClosure (nodesFrom words args) ps (classOf cs)) (counts : List ℕ) (k : Counts words args counts (nodeCount words)) {i j : ℕ} → Leads words args (word counts) cs i j → Reaches (nodesFrom words args) ps i j
 leads-reaches words args s cs ps h c counts k (next {h = i} {g = g} j b l e) =
     let n : j < countOf words i = looked-at k i j b l in
     let a : argumentOf words args i j < length (nodesFrom words args) = rw (nodes-long words args) (looked-node words args s counts k i j b l) in
@@ -127,7 +127,7 @@ leads-reaches words args s cs ps h c counts k (next {h = i} {g = g} j b l e) =
 leads-reaches words args s cs ps h c counts k (further p q) =
     steps (leads-reaches words args s cs ps h c counts k p) (leads-reaches words args s cs ps h c counts k q)
 
-module _ (words args : List ℕ) (s : Sections words args) (counts : List ℕ) (k : Counts words args counts (nodeCount words)) (cs : List ℕ) (partition : Partition (nodeCount words) cs) (heads : ClosedHeads words args counts cs) (ps : List (ℕ × ℕ)) (h : Inside (nodesFrom words args) ps) (c : Closed (nodesFrom words args) ps (classOf cs)) (order : List ℕ) (o : Ordered words args (word counts) cs order) where
+module _ (words args : List ℕ) (s : Sections words args) (counts : List ℕ) (k : Counts words args counts (nodeCount words)) (cs : List ℕ) (partition : Partition (nodeCount words) cs) (heads : ClosedHeads words args counts cs) (ps : List (ℕ × ℕ)) (h : Inside (nodesFrom words args) ps) (c : IsClosure (nodesFrom words args) ps (classOf cs)) (order : List ℕ) (o : Ordered words args (word counts) cs order) where
   -- the ranks of heads are small
   pub ordered-enough : (i : ℕ) → i < length (nodesFrom words args) → rank words counts order (classOf cs i) < suc (nodeCount words + suc (length order))
   ordered-enough i b =
@@ -163,7 +163,7 @@ module _ (words args : List ℕ) (s : Sections words args) (counts : List ℕ) (
   pub ordered-solved : Solved (nodesFrom words args) ps (classOf cs) (rank words counts order)
   ordered-solved =
       record {
-        closed = c;
+        closure = c;
         falls = λ i f us b e a m.
             let q : i < nodeCount words = counted words args i b in
             let r = argument-place words args s (classOf cs i) (partition .below i q) f us e a m in

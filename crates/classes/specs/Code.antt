@@ -1,4 +1,4 @@
 -- What contracts of inner functions and laws speak of.
 pub mod Ordering
-pub mod Closing
+pub mod Closure
 pub mod Stands

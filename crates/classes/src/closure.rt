@@ -1,11 +1,11 @@
-// Classes of nodes, closed under one pair of nodes more.
+// The closure of a list of pairs of nodes, with one pair more.
 ghost use mathlib.Core.Path.{_≡_};
 ghost use mathlib.Core.Bool.{true, false};
 ghost use mathlib.Core.Logic.{_⊎_};
 ghost use Prim.Native.Nat.{ℕ, _<_, _≤_};
 ghost use lib.ListN.{length};
 ghost use Rattle.table.specs.Layout.{nodeCount};
-ghost use Rattle.classes.specs.Code.Closing.{Joinable, Joins};
+ghost use Rattle.classes.specs.Code.Closure.{Joinable, Joins};
 ghost use Rattle.nodes.specs.Code.Uniting.{strengthOf, Circling, TwoHeads};
 ghost use Rattle.nodes.specs.Code.Trail.{Trailed, Goes};
 use crate::trail::merge;

@@ -3,7 +3,7 @@
 // Joins that can be undone: `undo`.
 pub mod trail;
 
-// The classes, closed under one pair more.
+// The closure of a list of pairs, with one pair more.
 mod closure;
 
 // An order of the classes, and cycles.

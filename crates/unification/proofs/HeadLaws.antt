@@ -152,7 +152,7 @@ module _ (ns : List Node) (w : WellFormed ns) (ps : List (ℕ × ℕ)) (cs : Lis
   pub classes-solved : Solved ns ps (headIn ns cs) (longest ns cs)
   classes-solved =
       record {
-        closed = record {
+        closure = record {
           joined = joined-to;
           given = λ a b m. head-same ns cs a b (from a b (given m));
           one-variable = λ i j x p q d e. head-same ns cs i j (from i j (one-variable p q d e));

@@ -19,11 +19,11 @@ use Rattle.unification.specs.Computed.Solution.{solution, headIn}
 use Rattle.unification.specs.Computed.Binding.{bindingWords}
 use Rattle.unification.specs.Outcome.{Outcome, unified, clash, occurs}
 use Rattle.unification.specs.Computed.Unifying.{outcome, unifier, wordsOf}
-use Rattle.unification.specs.Code.Solved.{Closed, Solved}
+use Rattle.unification.specs.Code.Solved.{IsClosure, Solved}
 use Rattle.unification.proofs.JoinedLaws.{joined-inside, clash-none, cycle-none}
 use Rattle.unification.proofs.ClassLaws.{class-joined, joined-class, clash-found, found-clash}
 use Rattle.unification.proofs.WalkLaws.{longest, longest-bound, cycle-found}
-use Rattle.unification.proofs.SolvedLaws.{closed-no-clash, solution-first, solution-most-general}
+use Rattle.unification.proofs.SolvedLaws.{closure-no-clash, solution-first, solution-most-general}
 use Rattle.unification.proofs.HeadLaws.{head-lowest, classes-solved}
 use Rattle.unification.proofs.PresentLaws.{restricted, restricted-present, restricted-absent, present-or-not, most-general-agree}
 use Rattle.unification.proofs.ReadingLaws.{reads-one}
@@ -116,8 +116,8 @@ module _ (ns : List Node) (w : WellFormed ns) (ps : List (ℕ × ℕ)) (h : Insi
       back-to (solved s) c = absurd (no-occurs (solved-unifiable s) c)
 
   -- a class that reaches itself, found where heads leave no clash, decides: occurs
-  pub cycle-decides : (head : ℕ → ℕ) → Closed ns ps head → (i : ℕ) → Reaches ns ps i i → outcome ns ps ≡ occurs
-  cycle-decides head c i r = outcome-occurs .1 (record { no-clash = closed-no-clash ns w ps h head c; class = i; itself = r })
+  pub cycle-decides : (head : ℕ → ℕ) → IsClosure ns ps head → (i : ℕ) → Reaches ns ps i i → outcome ns ps ≡ occurs
+  cycle-decides head c i r = outcome-occurs .1 (record { no-clash = closure-no-clash ns w ps h head c; class = i; itself = r })
 
   to-solved : {o : Outcome} → Tested o → o ≡ unified → SolvedForm
   to-solved (clashed k) e = let z : _≡_ {A = ℕ} 0 1 = cc in absurd (omega arith)

@@ -12,7 +12,7 @@ use Rattle.unification.specs.Unifier.{value, Unifies, MostGeneral}
 use Rattle.unification.specs.Code.Given.{WellFormed, Inside}
 use Rattle.unification.specs.Closure.{Joined, given, one-variable, arguments, same, back, on, Clash, different}
 use Rattle.unification.specs.Computed.Solution.{nodeOf, resolved, solution}
-use Rattle.unification.specs.Code.Solved.{HeadFits, Closed, Solved}
+use Rattle.unification.specs.Code.Solved.{HeadFits, IsClosure, Solved}
 use Rattle.unification.proofs.ListLaws.{zip-back, zip-through}
 use Rattle.unification.proofs.NodeLaws.{each-same, each-equal, subs-each, spell-same, value-variable, value-application, values-same}
 use Rattle.unification.proofs.JoinedLaws.{joined-inside, joined-equal}
@@ -24,10 +24,10 @@ unfolding resolved
 resolved-head zero ns head i j e = refl
 resolved-head (suc k) ns head i j e = ap (λ (c : ℕ). spell (resolved k ns head) (nodeAt ns c)) e
 
-module _ (ns : List Node) (w : WellFormed ns) (ps : List (ℕ × ℕ)) (h : Inside ns ps) (head : ℕ → ℕ) (s : Closed ns ps head) where
+module _ (ns : List Node) (w : WellFormed ns) (ps : List (ℕ × ℕ)) (h : Inside ns ps) (head : ℕ → ℕ) (s : IsClosure ns ps head) where
   -- a head is a node
-  pub closed-inside : (i : ℕ) → i < length ns → head i < length ns
-  closed-inside i p = joined-inside ns w ps h (s .joined i p) .1
+  pub closure-inside : (i : ℕ) → i < length ns → head i < length ns
+  closure-inside i p = joined-inside ns w ps h (s .joined i p) .1
 
   -- one head is one application
   one-application : (i j f g : ℕ) (us vs : List ℕ) → head i ≡ head j → (x : HeadFits ns head i f us) (y : HeadFits ns head j g vs) → (f ≡ g) × (x .arguments ≡ y .arguments)
@@ -60,8 +60,8 @@ module _ (ns : List Node) (w : WellFormed ns) (ps : List (ℕ × ℕ)) (h : Insi
   joined-head (on p q) = joined-head p ∙ joined-head q
 
   -- heads leave no clash
-  pub closed-no-clash : Clash ns ps → ⊥
-  closed-no-clash (different {i} {j} {f} {g} {us} {vs} q d e n) =
+  pub closure-no-clash : Clash ns ps → ⊥
+  closure-no-clash (different {i} {j} {f} {g} {us} {vs} q d e n) =
       go (s .applications i f us (p .0) d) (s .applications j g vs (p .1) e)
     where
       p : (i < length ns) × (j < length ns)
@@ -74,7 +74,7 @@ module _ (ns : List Node) (w : WellFormed ns) (ps : List (ℕ × ℕ)) (h : Insi
 
 module _ (ns : List Node) (w : WellFormed ns) (ps : List (ℕ × ℕ)) (h : Inside ns ps) (head order : ℕ → ℕ) (s : Solved ns ps head order) where
   inside : (i : ℕ) → i < length ns → head i < length ns
-  inside = closed-inside ns w ps h head (s .closed)
+  inside = closure-inside ns w ps h head (s .closure)
 
   -- an argument of a head is a node
   pub argument-inside : (i f : ℕ) (us : List ℕ) → i < length ns → nodeAt ns (head i) ≡ application f us → (a : ℕ) → List·Memᴰ a us → a < length ns
@@ -101,7 +101,7 @@ module _ (ns : List Node) (w : WellFormed ns) (ps : List (ℕ × ℕ)) (h : Insi
   after τ u (suc k) i p l = go (λ a q m. after τ u k a q m) (nodeAt ns (head i)) refl
     where
       to-head : value ns τ (head i) ≡ value ns τ i
-      to-head = sym (joined-equal ns w ps h τ u (s .closed .joined i p))
+      to-head = sym (joined-equal ns w ps h τ u (s .closure .joined i p))
 
       go : ((a : ℕ) → a < length ns → order (head a) < k → sub τ (resolved k ns head a) ≡ value ns τ a) → (n : Node) → nodeAt ns (head i) ≡ n → sub τ (spell (resolved k ns head) (nodeAt ns (head i))) ≡ value ns τ i
       go r (variable y) e =
@@ -117,7 +117,7 @@ module _ (ns : List Node) (w : WellFormed ns) (ps : List (ℕ × ℕ)) (h : Insi
 
     resolved-application : (i f : ℕ) (us : List ℕ) → i < length ns → nodeAt ns i ≡ application f us → app f (each (resolved k ns head) us) ≡ resolved k ns head i
     unfolding spell
-    resolved-application i f us p e = go (s .closed .applications i f us p e)
+    resolved-application i f us p e = go (s .closure .applications i f us p e)
       where
         go : HeadFits ns head i f us → app f (each (resolved k ns head) us) ≡ resolved k ns head i
         go x =
@@ -127,7 +127,7 @@ module _ (ns : List Node) (w : WellFormed ns) (ps : List (ℕ × ℕ)) (h : Insi
     unfolding solution
     resolved-variable i x p e =
         let l = node-of ns x (i, p, e) in
-        resolved-head k ns head (nodeOf ns x) i (s .closed .one-variable (nodeOf ns x) i x (l .holds .0) p (l .holds .1) e)
+        resolved-head k ns head (nodeOf ns x) i (s .closure .one-variable (nodeOf ns x) i x (l .holds .0) p (l .holds .1) e)
 
     -- the value of a node under the solution is what it is resolved to
     pub value-resolved : (i : ℕ) → i < length ns → value ns (solution k ns head) i ≡ resolved k ns head i
@@ -144,6 +144,6 @@ module _ (ns : List Node) (w : WellFormed ns) (ps : List (ℕ × ℕ)) (h : Insi
     pub solution-most-general : MostGeneral ns ps (solution k ns head)
     solution-most-general =
         record {
-          unifies = λ a b m. value-resolved a (h a b m .0) ∙ resolved-head k ns head a b (s .closed .given a b m) ∙ sym (value-resolved b (h a b m .1));
+          unifies = λ a b m. value-resolved a (h a b m .0) ∙ resolved-head k ns head a b (s .closure .given a b m) ∙ sym (value-resolved b (h a b m .1));
           factors = λ τ u. (τ, solution-first τ u);
         }

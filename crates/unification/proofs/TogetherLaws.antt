@@ -1,5 +1,5 @@
 -- Pairs of nodes of one term change nothing of what unifying a pair comes to.
--- Chains of nodes that the pair joins and nodes of one term are closed under the rules of the closure: whatever a chain leads to from
+-- Chains of nodes that the pair joins and nodes of one term keep to the rules of the closure: whatever a chain leads to from
 -- an application is joined with an application of its symbol, whose arguments are chained with its own. Assumes nothing.
 use Prim.Native.Nat.{ℕ, _<_}
 use mathlib.Core.List.{List, [], _∷_, List·Memᴰ, List·Memᴰ·head, List·Memᴰ·tail, List·Memᴰ·not-nil, zip}

@@ -19,7 +19,7 @@ use Rattle.unification.specs.Code.Valued.{Valued, NamedApplication, Name
 use Rattle.unification.proofs.ListLaws.{zip-left, zip-right}
 use Rattle.unification.proofs.MatchedLaws.{matched-map}
 use Rattle.unification.proofs.NodeLaws.{each-long, each-at, each-equal, value-variable}
-use Rattle.unification.proofs.SolvedLaws.{closed-inside, joined-head, argument-inside, resolved-node, value-resolved, solution-most-general}
+use Rattle.unification.proofs.SolvedLaws.{closure-inside, joined-head, argument-inside, resolved-node, value-resolved, solution-most-general}
 use Rattle.unification.proofs.OutcomeLaws.{words-decided}
 
 module _ (ns : List Node) (w : WellFormed ns) (ps : List (ℕ × ℕ)) (h : Inside ns ps) (head order : ℕ → ℕ) (s : Solved ns ps head order) (k : ℕ) (enough : (i : ℕ) → i < length ns → order (head i) < k) (name : ℕ → ℕ) (v : Valued ns head name) where
@@ -27,15 +27,15 @@ module _ (ns : List Node) (w : WellFormed ns) (ps : List (ℕ × ℕ)) (h : Insi
   spelt i p n e = resolved-node ns w ps h head order s k enough i p ∙ ap (spell (resolved k ns head)) e
 
   own-head : (i : ℕ) → i < length ns → head i ≡ head (head i)
-  own-head i p = joined-head ns w ps h head (s .closed) (s .closed .joined i p)
+  own-head i p = joined-head ns w ps h head (s .closure) (s .closure .joined i p)
 
   inside : (i : ℕ) → i < length ns → head i < length ns
-  inside = closed-inside ns w ps h head (s .closed)
+  inside = closure-inside ns w ps h head (s .closure)
 
   -- heads that are one variable are one head
   variable-head : (i j x : ℕ) → i < length ns → j < length ns → nodeAt ns (head i) ≡ variable x → nodeAt ns (head j) ≡ variable x → head i ≡ head j
   variable-head i j x p q d e =
-      own-head i p ∙ s .closed .one-variable (head i) (head j) x (inside i p) (inside j q) d e ∙ sym (own-head j q)
+      own-head i p ∙ s .closure .one-variable (head i) (head j) x (inside i p) (inside j q) d e ∙ sym (own-head j q)
 
   -- what is said of i and j below a bound on the order of i
   abbrev Same : ℕ → ℕ → Type 0

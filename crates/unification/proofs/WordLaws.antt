@@ -22,7 +22,7 @@ use Rattle.unification.proofs.MatchedLaws.{matched-map, matched-one, ma
 use Rattle.unification.proofs.NodeLaws.{value-variable, value-after}
 use Rattle.unification.proofs.VariableLaws.{variables-rise, variables-present, present-variables}
 use Rattle.unification.proofs.FirstLaws.{is-application, first-in, first-has, first-least, least-below, least-has, least-least, node-of}
-use Rattle.unification.proofs.SolvedLaws.{closed-inside, resolved-head, joined-head, resolved-node, value-resolved}
+use Rattle.unification.proofs.SolvedLaws.{closure-inside, resolved-head, joined-head, resolved-node, value-resolved}
 
 -- there is one least number
 least-one : {P : ℕ → Type 0} {m n : ℕ} → Least P m → Least P n → m ≡ n
@@ -178,7 +178,7 @@ module _ (ns : List Node) (w : WellFormed ns) (ps : List (ℕ × ℕ)) (h : Insi
   head-value : (x : ℕ) → Present ns x → value ns (solution k ns head) (head (nodeOf ns x)) ≡ solution k ns head x
   unfolding solution
   head-value x q =
-      value-resolved ns w ps h head order s k enough (head (nodeOf ns x)) (closed-inside ns w ps h head (s .closed) (nodeOf ns x) (at x q)) ∙ sym (resolved-head k ns head _ _ (joined-head ns w ps h head (s .closed) (s .closed .joined (nodeOf ns x) (at x q))))
+      value-resolved ns w ps h head order s k enough (head (nodeOf ns x)) (closure-inside ns w ps h head (s .closure) (nodeOf ns x) (at x q)) ∙ sym (resolved-head k ns head _ _ (joined-head ns w ps h head (s .closure) (s .closure .joined (nodeOf ns x) (at x q))))
 
   head-variable : (x z : ℕ) → Present ns x → solution k ns head x ≡ var z → nodeAt ns (head (nodeOf ns x)) ≡ variable z
   unfolding spell
@@ -197,7 +197,7 @@ module _ (ns : List Node) (w : WellFormed ns) (ps : List (ℕ × ℕ)) (h : Insi
     where
       go : (o : Node) → nodeAt ns (head (nodeOf ns x)) ≡ o → BoundTo ns (solution k ns head) (solution k ns head x) (head (nodeOf ns x))
       go (variable y) d = not-both (solution k ns head x) f y ts e (spelt x q ∙ ap (spell (resolved k ns head)) d)
-      go (application g us) d = (g, us, closed-inside ns w ps h head (s .closed) (nodeOf ns x) (at x q), d, head-value x q)
+      go (application g us) d = (g, us, closure-inside ns w ps h head (s .closure) (nodeOf ns x) (at x q), d, head-value x q)
 
   -- what the words ask of the solution of a solved form
   pub solution-held : Held ns (solution k ns head)
@@ -207,7 +207,7 @@ module _ (ns : List Node) (w : WellFormed ns) (ps : List (ℕ × ℕ)) (h : Insi
   pub solution-lowest : ((i x y : ℕ) → i < length ns → nodeAt ns i ≡ variable x → nodeAt ns (head i) ≡ variable y → y ≤ x) → Lowest ns (solution k ns head)
   solution-lowest lowest x z q e =
       let d = head-variable x z q e in
-      let i = closed-inside ns w ps h head (s .closed) (nodeOf ns x) (at x q) in
+      let i = closure-inside ns w ps h head (s .closure) (nodeOf ns x) (at x q) in
       record {
         holds = ((head (nodeOf ns x), i, d), sym (value-variable ns w (solution k ns head) (head (nodeOf ns x)) z i d) ∙ head-value x q);
         least = λ y b. lowest (nodeOf ns y) y z (at y (b .0)) (node-of ns y (b .0) .holds .1) (head-variable y z (b .0) (b .1 ∙ e));

@@ -10,7 +10,7 @@ use Rattle.unification.specs.Closure.{OneSymbol}
 use Rattle.unification.specs.Computed.Classes.{classOf}
 use Rattle.unification.specs.Code.Sections.{nodesFrom, Sections}
 use Rattle.unification.specs.Code.Heads.{Partition}
-use Rattle.unification.specs.Code.Solved.{Closed}
+use Rattle.unification.specs.Code.Solved.{IsClosure}
 use Rattle.unification.specs.Code.Valued.{SameNames, Valued}
 use Rattle.unification.proofs.SectionLaws.{run, is-node, application-from, from-variable, from-application, run-long, pair-place, counted}
 use Rattle.nodes.specs.Code.Named.{valueName, Alike, Applied, Named, Readable}
@@ -78,7 +78,7 @@ module _ (words args cs names : List ℕ) (s : Sections words args) (p : Partiti
       applied i f us h d = from-application words args (classOf cs i) (inside i h) f us d .0
 
 -- an application has a head with its symbol, and arguments with the names of its arguments
-pub head-alike : (words args cs names : List ℕ) → Sections words args → Partition (nodeCount words) cs → (ps : List (ℕ × ℕ)) → Closed (nodesFrom words args) ps (classOf cs) → (i : ℕ) → i < nodeCount words → (kindOf words i ≡ 0 → ⊥) → Applied words cs i × Alike words args cs names i (classOf cs i)
+pub head-alike : (words args cs names : List ℕ) → Sections words args → Partition (nodeCount words) cs → (ps : List (ℕ × ℕ)) → IsClosure (nodesFrom words args) ps (classOf cs) → (i : ℕ) → i < nodeCount words → (kindOf words i ≡ 0 → ⊥) → Applied words cs i × Alike words args cs names i (classOf cs i)
 head-alike words args cs names s p ps c i h n =
     let x = c .applications i (nameOf words i) (run words args i) (is-node words args i h) (application-from words args i h n) in
     let b = p .below i h in

@@ -25,7 +25,7 @@ use Rattle.unification.specs.Computed.Solution.{solution}
 use Rattle.unification.specs.Code.Given.{WellFormed, Inside}
 use Rattle.unification.specs.Code.Sections.{nodesFrom, Sections}
 use Rattle.unification.specs.Code.Heads.{Partition}
-use Rattle.unification.specs.Code.Solved.{HeadFits, Closed}
+use Rattle.unification.specs.Code.Solved.{HeadFits, IsClosure}
 use Rattle.unification.proofs.ListLaws.{tabulate-member, tabulate-from, zip-left, zip-right, map-at, placed, member-place}
 use Rattle.unification.proofs.NodeLaws.{each-long, each-at, value-variable, value-application, value-after}
 use Rattle.unification.proofs.SectionLaws.{counted, is-node, sections-well-formed}
@@ -291,9 +291,9 @@ module _ (words args : List ℕ) (s : Sections words args) (cs order : List ℕ)
           }
 
   -- they have these classes
-  shared-closed : Closed ns pairs (classOf heads)
+  shared-closure : IsClosure ns pairs (classOf heads)
   unfolding pairs
-  shared-closed =
+  shared-closure =
       record {
         joined = λ i h. given (tabulate-member (nodeCount words) (λ j. (j, word heads j)) i (counted words args i h));
         given = λ a b m. let q = pair-from a b m in sym (own a (q .0)) ∙ ap (word heads) (sym (q .1));
@@ -316,7 +316,7 @@ shared-together words args cs order names heads s l d t m e =
       pairs = pairs words args s cs order l d t names m;
       stands = record {
         inside = pairs-inside words args s cs order l d t names m;
-        closed = shared-closed words args s cs order l d t names m;
+        closure = shared-closure words args s cs order l d t names m;
       };
       same = pairs-same words args s cs order l d t names m;
       first = record { first = low; own = own words args s cs order l d t names m };

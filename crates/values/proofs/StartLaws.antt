@@ -19,7 +19,7 @@ use Rattle.unification.specs.Computed.Classes.{classOf}
 use Rattle.unification.specs.Computed.Solution.{nodeOf}
 use Rattle.unification.specs.Code.Sections.{nodesFrom, Sections}
 use Rattle.unification.specs.Code.Heads.{Partition}
-use Rattle.unification.specs.Code.Solved.{Closed, Solved}
+use Rattle.unification.specs.Code.Solved.{IsClosure, Solved}
 use Rattle.unification.proofs.ListLaws.{zip-at}
 use Rattle.unification.proofs.FirstLaws.{node-of}
 use Rattle.unification.proofs.SectionLaws.{nodes-long, section-variable, from-application, variable-from, sections-well-formed}
@@ -112,8 +112,8 @@ module _ (words args : List ℕ) (s : Sections words args) where
         own i h (no k) = ap (classOf cs) (itself i h k)
 
     -- they are the classes of no pair
-    start-closed : Closed (nodesFrom words args) [] (classOf cs)
-    start-closed =
+    start-closure : IsClosure (nodesFrom words args) [] (classOf cs)
+    start-closure =
         record {
           joined = λ i h. joined i (rw (nodes-long words args) at h) (ℕ-discrete (kindOf words i) 0);
           given = λ a b n. absurd (List·Memᴰ·not-nil n);
@@ -139,7 +139,7 @@ module _ (words args : List ℕ) (s : Sections words args) where
     pub start-solved : Solved (nodesFrom words args) [] (classOf cs) (λ i. i)
     start-solved =
         record {
-          closed = start-closed;
+          closure = start-closure;
           falls = λ i f us p e a n.
               let b = below i (rw (nodes-long words args) at p) in
               let q = sections-well-formed words args s .smaller (classOf cs i) f us (omega (arith, b, p)) e a n in

@@ -7,7 +7,7 @@ use Rattle.unification.specs.Computed.Classes.{classOf}
 use Rattle.unification.specs.Code.Given.{Inside}
 use Rattle.unification.specs.Code.Sections.{nodesFrom}
 use Rattle.unification.specs.Code.Heads.{Partition}
-use Rattle.unification.specs.Code.Solved.{Closed}
+use Rattle.unification.specs.Code.Solved.{IsClosure}
 use Rattle.nodes.specs.Code.Open.{ClosedHeads}
 use Rattle.nodes.specs.Code.Order.{Ordered}
 
@@ -33,4 +33,4 @@ pub record Formed (words args counts cs : List ℕ) : Type 0 where
 -- They are the classes of a list of pairs.
 pub record Stands (words args cs : List ℕ) (ps : List (ℕ × ℕ)) : Type 0 where
   pub inside : Inside (nodesFrom words args) ps
-  pub closed : Closed (nodesFrom words args) ps (classOf cs)
+  pub closure : IsClosure (nodesFrom words args) ps (classOf cs)

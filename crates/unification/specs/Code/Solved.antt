@@ -13,8 +13,8 @@ pub record HeadFits (ns : List Node) (head : ℕ → ℕ) (i f : ℕ) (us : List
   pub as-long : length us ≡ length arguments
   pub one-head : (a b : ℕ) → List·Memᴰ (a, b) (zip us arguments) → head a ≡ head b
 
--- Heads that stand for the classes of a list of pairs without clash.
-pub record Closed (ns : List Node) (ps : List (ℕ × ℕ)) (head : ℕ → ℕ) : Type 0 where
+-- Heads that stand for the classes of the closure, where there is no clash.
+pub record IsClosure (ns : List Node) (ps : List (ℕ × ℕ)) (head : ℕ → ℕ) : Type 0 where
   -- a head is joined with its node
   pub joined : (i : ℕ) → i < length ns → Joined ns ps i (head i)
   -- what the closure joins has one head
@@ -24,5 +24,5 @@ pub record Closed (ns : List Node) (ps : List (ℕ × ℕ)) (head : ℕ → ℕ)
 
 -- A solved form: such heads, and an order in which the arguments of a head come before it.
 pub record Solved (ns : List Node) (ps : List (ℕ × ℕ)) (head order : ℕ → ℕ) : Type 0 where
-  pub closed : Closed ns ps head
+  pub closure : IsClosure ns ps head
   pub falls : (i f : ℕ) (us : List ℕ) → i < length ns → nodeAt ns (head i) ≡ application f us → (a : ℕ) → List·Memᴰ a us → order (head a) < order (head i)

@@ -15,7 +15,7 @@ use Rattle.unification.specs.Computed.Classes.{classOf}
 use Rattle.unification.specs.Code.Heads.{roots}
 use Rattle.unification.specs.Code.Sections.{symbolTest}
 use Rattle.nodes.specs.Code.Open.{markedTest}
-use Rattle.classes.proofs.ClosingStepLaws.{variable-tested, applied-tested, clash-tested, alike-tested, tested-by, argument-of, Advances, firstPairs, arguments-none, arguments-next, Meeting, OneSymbolHeads, join-already, meeting-inside, meeting-heads, meeting-trailed, join-clash, join-variable, one-count, applications-united, joinable-on, join-applications, join-stopped}
+use Rattle.classes.proofs.JoinLaws.{variable-tested, applied-tested, clash-tested, alike-tested, tested-by, argument-of, Advances, firstPairs, arguments-none, arguments-next, Meeting, OneSymbolHeads, join-already, meeting-inside, meeting-heads, meeting-trailed, join-clash, join-variable, one-count, applications-united, joinable-on, join-applications, join-stopped}
 use Rattle.classes.proofs.closure.join.Reads as join
 use Rattle.classes.proofs.closure.join.Kinds as join-kinds
 use Rattle.classes.proofs.closure.+join.Lts-join as join-lts

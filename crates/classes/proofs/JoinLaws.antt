@@ -23,11 +23,11 @@ use Rattle.unification.proofs.SectionLaws.{symbols-differ, run, run-long, nodes
 use Rattle.nodes.specs.Code.Open.{Marked, markedTest, KeepsClosed}
 use Rattle.nodes.specs.Code.Uniting.{TwoHeads}
 use Rattle.nodes.specs.Code.Trail.{Trailed, Merges, none, Goes}
-use Rattle.classes.specs.Code.Closing.{Closing, argumentPair, argumentPairs, Joinable, Joins}
+use Rattle.classes.specs.Code.Closure.{ClosureUpTo, argumentPair, argumentPairs, Joinable, Joins}
 use Rattle.classes.proofs.TrailLaws.{one-merged, merges-on, merges-trailed}
 use Rattle.nodes.proofs.OpenLaws.{marked-true, marked-false, weaker-variable, weaker-closed, closed-kept}
 use Rattle.classes.proofs.ClosedClashLaws.{Same, closed-joined}
-use Rattle.classes.proofs.ClosingLaws.{Wanted, HeadsMeet, retold, already, heads-clash, united, classes-joined, variable-meets}
+use Rattle.classes.proofs.ClosureLaws.{Wanted, HeadsMeet, retold, already, heads-clash, united, classes-joined, variable-meets}
 
 module _ (words : List ℕ) (g h : ℕ) (r s : Bool) (p : r ≡ eqb (kindOf words g) 0) (q : s ≡ eqb (kindOf words h) 0) where
   -- what the test of two heads for a variable tells
@@ -101,7 +101,7 @@ pub record Advances (words args counts cs next : List ℕ) (new : List (ℕ × �
   pub fewer : roots (nodeCount words) cs′ ≤ roots (nodeCount words) cs
   pub heads : (i : ℕ) → i < nodeCount words → classOf cs (classOf cs′ i) ≡ classOf cs′ i
   pub kept : KeepsClosed words counts cs cs′
-  pub closes : (ps todo : List (ℕ × ℕ)) → Closing (nodesFrom words args) ps cs (new ++ todo) → Closing (nodesFrom words args) ps cs′ todo
+  pub done : (ps todo : List (ℕ × ℕ)) → ClosureUpTo (nodesFrom words args) ps cs (new ++ todo) → ClosureUpTo (nodesFrom words args) ps cs′ todo
 
 -- Classes ds come of classes cs when those of nodes a and b are made one: the pair is traded for the pairs of new.
 pub record Trades (words args counts cs next : List ℕ) (a b : ℕ) (new : List (ℕ × ℕ)) (ds next′ : List ℕ) : Type 0 where
@@ -110,7 +110,7 @@ pub record Trades (words args counts cs next : List ℕ) (a b : ℕ) (new : List
   pub fewer : roots (nodeCount words) ds < roots (nodeCount words) cs
   pub heads : (i : ℕ) → i < nodeCount words → classOf cs (classOf ds i) ≡ classOf ds i
   pub kept : KeepsClosed words counts cs ds
-  pub trades : (ps todo : List (ℕ × ℕ)) → Closing (nodesFrom words args) ps cs ((a, b) ∷ todo) → Closing (nodesFrom words args) ps ds (new ++ todo)
+  pub trades : (ps todo : List (ℕ × ℕ)) → ClosureUpTo (nodesFrom words args) ps cs ((a, b) ∷ todo) → ClosureUpTo (nodesFrom words args) ps ds (new ++ todo)
 
 -- heads that were heads before, and before that
 heads-on : (n : ℕ) (cs cs′ cs″ : List ℕ) → Partition n cs″ → ((i : ℕ) → i < n → classOf cs (classOf cs′ i) ≡ classOf cs′ i) → ((i : ℕ) → i < n → classOf cs′ (classOf cs″ i) ≡ classOf cs″ i) → (i : ℕ) → i < n → classOf cs (classOf cs″ i) ≡ classOf cs″ i
@@ -143,14 +143,14 @@ module _ (words args counts : List ℕ) (g h : ℕ) where
           fewer = omega arith;
           heads = t .partition .own;
           kept = λ i m. refl;
-          closes = λ ps todo c. c;
+          done = λ ps todo c. c;
         }
 
     module _ (j : ℕ) (cs′ next′ : List ℕ) (v : Advances words args counts cs next (firstPairs words args g h j) cs′ next′) (a b : ℕ) (fine : Bool) (cs″ next″ : List ℕ) (d : a ≡ argumentOf words args g j) (e : b ≡ argumentOf words args h j) (w : Joins words args counts cs′ next′ a b fine cs″ next″) where
       -- the pair that comes next
-      next-waits : (ps todo : List (ℕ × ℕ)) → Closing (nodesFrom words args) ps cs (firstPairs words args g h (j + 1) ++ todo) → Closing (nodesFrom words args) ps cs′ ((a, b) ∷ todo)
+      next-waits : (ps todo : List (ℕ × ℕ)) → ClosureUpTo (nodesFrom words args) ps cs (firstPairs words args g h (j + 1) ++ todo) → ClosureUpTo (nodesFrom words args) ps cs′ ((a, b) ∷ todo)
       unfolding tabulate argumentPair
-      next-waits ps todo c = v .closes ps ((a, b) ∷ todo) (rw (d, e) (rw (append-assoc (firstPairs words args g h j)) at (rw (add-one j) at c)))
+      next-waits ps todo c = v .done ps ((a, b) ∷ todo) (rw (d, e) (rw (append-assoc (firstPairs words args g h j)) at (rw (add-one j) at c)))
 
       -- one pair more
       pub arguments-next : fine ≡ true → Advances words args counts cs next (firstPairs words args g h (j + 1)) cs″ next″
@@ -163,11 +163,11 @@ module _ (words args counts : List ℕ) (g h : ℕ) where
             fewer = omega (arith, p, q);
             heads = heads-on (nodeCount words) cs cs′ cs″ (w .partition) (v .heads) (w .heads);
             kept = λ i k. w .kept i k ∙ v .kept i k;
-            closes = λ ps todo c. w .closes t ps todo (next-waits ps todo c);
+            done = λ ps todo c. w .done t ps todo (next-waits ps todo c);
           }
 
       -- a pair clashes
-      arguments-clash : fine ≡ false → (ps todo : List (ℕ × ℕ)) → j < countOf words g → Closing (nodesFrom words args) ps cs (argumentPairs words args g h ++ todo) → Clash (nodesFrom words args) ps
+      arguments-clash : fine ≡ false → (ps todo : List (ℕ × ℕ)) → j < countOf words g → ClosureUpTo (nodesFrom words args) ps cs (argumentPairs words args g h ++ todo) → Clash (nodesFrom words args) ps
       unfolding argumentPairs
       arguments-clash t ps todo l c =
           w .clashes t ps (argumentPairs words args g h ++ todo)
@@ -235,7 +235,7 @@ join-already {words} {args} {counts} {cs} {next} a b w ha hb e =
       fewer = omega arith;
       heads = w .partition .own;
       kept = λ i m. refl;
-      closes = λ t ps todo c. already (nodesFrom words args) ps cs a b todo (in-list (w .partition) a ha) (in-list (w .partition) b hb) e c;
+      done = λ t ps todo c. already (nodesFrom words args) ps cs a b todo (in-list (w .partition) a ha) (in-list (w .partition) b hb) e c;
       clashes = λ t. absurd (false≢true (sym t));
     }
 
@@ -273,7 +273,7 @@ module _ {words args counts cs next : List ℕ} {a b : ℕ} (m : Meeting words a
   same-long : length cs ≡ length nodes
   same-long = partition .size ∙ sym (nodes-long words args)
 
-  module _ (ps todo : List (ℕ × ℕ)) (c : Closing nodes ps cs ((a, b) ∷ todo)) where
+  module _ (ps todo : List (ℕ × ℕ)) (c : ClosureUpTo nodes ps cs ((a, b) ∷ todo)) where
     -- the two nodes are joined
     pair-joined : Joined nodes ps a b
     pair-joined = c .wanted a b (List·Memᴰ·head refl)
@@ -283,7 +283,7 @@ module _ {words args counts cs next : List ℕ} {a b : ℕ} (m : Meeting words a
     heads-joined = on (on (back (c .joined a (is-node words args a (m .first)))) pair-joined) (c .joined b (is-node words args b (m .second)))
 
   -- no classes are changed where the heads clash
-  refused : ((ps todo : List (ℕ × ℕ)) → Closing nodes ps cs ((a, b) ∷ todo) → Clash nodes ps) → Joins words args counts cs next a b false cs next
+  refused : ((ps todo : List (ℕ × ℕ)) → ClosureUpTo nodes ps cs ((a, b) ∷ todo) → Clash nodes ps) → Joins words args counts cs next a b false cs next
   refused f =
       record {
         partition = partition;
@@ -291,7 +291,7 @@ module _ {words args counts cs next : List ℕ} {a b : ℕ} (m : Meeting words a
         fewer = omega arith;
         heads = partition .own;
         kept = λ i m. refl;
-        closes = λ t. absurd (false≢true t);
+        done = λ t. absurd (false≢true t);
         clashes = λ t. f;
       }
 
@@ -357,7 +357,7 @@ module _ {words args counts cs next : List ℕ} {a b : ℕ} (m : Meeting words a
 
     module _ (new : List (ℕ × ℕ)) (meet : (todo : List (ℕ × ℕ)) → HeadsMeet nodes cs x y (new ++ todo)) (want : (ps : List (ℕ × ℕ)) → Joined nodes ps (classOf cs a) (classOf cs b) → Wanted nodes ps new) where
       -- the new pairs are joined
-      wanted-after : (ps todo : List (ℕ × ℕ)) → Closing nodes ps cs ((a, b) ∷ todo) → Wanted nodes ps (new ++ todo)
+      wanted-after : (ps todo : List (ℕ × ℕ)) → ClosureUpTo nodes ps cs ((a, b) ∷ todo) → Wanted nodes ps (new ++ todo)
       wanted-after ps todo c i j k = go (List·Memᴰ·append-cases new k)
         where
           go : List·Memᴰ (i, j) new ⊎ List·Memᴰ (i, j) todo → Joined nodes ps i j
@@ -365,7 +365,7 @@ module _ {words args counts cs next : List ℕ} {a b : ℕ} (m : Meeting words a
           go (inr q) = c .wanted i j (List·Memᴰ·tail q)
 
       -- the pair is traded for them
-      traded : (ps todo : List (ℕ × ℕ)) → Closing nodes ps cs ((a, b) ∷ todo) → Closing nodes ps (join cs (x, y)) (new ++ todo)
+      traded : (ps todo : List (ℕ × ℕ)) → ClosureUpTo nodes ps cs ((a, b) ∷ todo) → ClosureUpTo nodes ps (join cs (x, y)) (new ++ todo)
       traded ps todo c =
           classes-joined nodes ps cs x y ((a, b) ∷ todo) (new ++ todo) same-long (is-node words args x hx) (is-node words args y hy)
           (either-between (Joined nodes ps) (λ i j q. back q) o (pair-joined ps todo c))
@@ -416,7 +416,7 @@ module _ {words args counts cs next : List ℕ} {a b : ℕ} (m : Meeting words a
               fewer = omega (arith, f);
               heads = t .heads;
               kept = t .kept;
-              closes = λ e ps todo c. t .trades ps todo c;
+              done = λ e ps todo c. t .trades ps todo c;
               clashes = λ e. absurd (false≢true (sym e));
             }
 
@@ -513,7 +513,7 @@ module _ {words args counts cs next : List ℕ} {a b : ℕ} (m : Meeting words a
             fewer = omega (arith, e, f);
             heads = heads-on (nodeCount words) cs ds cs′ (v .partition) (t .heads) (v .heads);
             kept = λ i k. v .kept i k ∙ t .kept i k;
-            closes = λ r ps todo c. rw q at (v .closes) ps todo (t .trades ps todo c);
+            done = λ r ps todo c. rw q at (v .done) ps todo (t .trades ps todo c);
             clashes = λ r. absurd (false≢true (sym r));
           }
 
@@ -529,6 +529,6 @@ module _ {words args counts cs next : List ℕ} {a b : ℕ} (m : Meeting words a
             fewer = omega (arith, e, f, k);
             heads = heads-on (nodeCount words) cs ds cs″ (w .partition) (t .heads) (heads-on (nodeCount words) ds cs′ cs″ (w .partition) (v .heads) (w .heads));
             kept = λ i k. w .kept i k ∙ v .kept i k ∙ t .kept i k;
-            closes = λ q. absurd (false≢true q);
+            done = λ q. absurd (false≢true q);
             clashes = λ q ps todo c. arguments-clash words args counts g h ds next₁ j cs′ next′ v x y fine cs″ next″ dx dy w r ps todo l (t .trades ps todo c);
           }

@@ -1,4 +1,4 @@
--- Classes on the way to being closed under pairs of nodes, and what the functions that close them come to.
+-- Classes on the way to the closure of a list of pairs, and what joining two nodes comes to.
 use Prim.Native.Nat.{ℕ, _<_, _≤_}
 use mathlib.Core.Bool.{Bool, true, false}
 use mathlib.Core.List.{List, _∷_, List·Memᴰ, zip}
@@ -28,8 +28,8 @@ pub record HeadLinks (ns : List Node) (cs : List ℕ) (todo : List (ℕ × ℕ))
   pub as-long : length us ≡ length arguments
   pub linked : (a b : ℕ) → List·Memᴰ (a, b) (zip us arguments) → Linked cs todo a b
 
--- Classes that are `Closed` but for the pairs of todo, which are still to be joined.
-pub record Closing (ns : List Node) (ps : List (ℕ × ℕ)) (cs : List ℕ) (todo : List (ℕ × ℕ)) : Type 0 where
+-- Classes that are the closure but for the pairs of todo, which are still to be joined.
+pub record ClosureUpTo (ns : List Node) (ps : List (ℕ × ℕ)) (cs : List ℕ) (todo : List (ℕ × ℕ)) : Type 0 where
   pub joined : (i : ℕ) → i < length ns → Joined ns ps i (classOf cs i)
   pub wanted : (a b : ℕ) → List·Memᴰ (a, b) todo → Joined ns ps a b
   pub given : (a b : ℕ) → List·Memᴰ (a, b) ps → Linked cs todo a b
@@ -60,5 +60,5 @@ pub record Joins (words args counts cs next : List ℕ) (a b : ℕ) (fine : Bool
   pub fewer : roots (nodeCount words) cs′ ≤ roots (nodeCount words) cs
   pub heads : (i : ℕ) → i < nodeCount words → classOf cs (classOf cs′ i) ≡ classOf cs′ i
   pub kept : KeepsClosed words counts cs cs′
-  pub closes : fine ≡ true → (ps todo : List (ℕ × ℕ)) → Closing (nodesFrom words args) ps cs ((a, b) ∷ todo) → Closing (nodesFrom words args) ps cs′ todo
-  pub clashes : fine ≡ false → (ps todo : List (ℕ × ℕ)) → Closing (nodesFrom words args) ps cs ((a, b) ∷ todo) → Clash (nodesFrom words args) ps
+  pub done : fine ≡ true → (ps todo : List (ℕ × ℕ)) → ClosureUpTo (nodesFrom words args) ps cs ((a, b) ∷ todo) → ClosureUpTo (nodesFrom words args) ps cs′ todo
+  pub clashes : fine ≡ false → (ps todo : List (ℕ × ℕ)) → ClosureUpTo (nodesFrom words args) ps cs ((a, b) ∷ todo) → Clash (nodesFrom words args) ps

@@ -1,4 +1,4 @@
--- How classes come nearer to being closed: a pair of one class is done, and joining two classes trades a pair for the pairs of their
+-- How classes come nearer to the closure: a pair of one class is done, and joining two classes trades a pair for the pairs of their
 -- heads' arguments. Assumes nothing.
 use Prim.Native.Nat.{ℕ, _<_}
 use mathlib.Core.List.{List, [], _∷_, List·Memᴰ, List·Memᴰ·head, List·Memᴰ·tail, List·Memᴰ·not-nil, zip}
@@ -11,11 +11,11 @@ use Rattle.unification.specs.Closure.{OneSymbol, Joined, given, back, on, Clash
 use Rattle.unification.specs.Computed.Classes.{classOf, join}
 use Rattle.unification.specs.Code.Given.{WellFormed, Inside}
 use Rattle.unification.specs.Code.Heads.{Partition, Unites}
-use Rattle.unification.specs.Code.Solved.{HeadFits, Closed}
+use Rattle.unification.specs.Code.Solved.{HeadFits, IsClosure}
 use Rattle.unification.proofs.ListLaws.{zip-left, zip-right, zip-through}
 use Rattle.unification.proofs.JoinedLaws.{more-joined, classes-stay}
 use Rattle.unification.proofs.CountLaws.{join-length, join-second, join-other, join-first, join-stays, unites-front}
-use Rattle.classes.specs.Code.Closing.{Coarser, Linked, HeadLinks, Closing}
+use Rattle.classes.specs.Code.Closure.{Coarser, Linked, HeadLinks, ClosureUpTo}
 
 -- Where the pairs of todo′ are joined, those of todo are.
 abbrev Covers : List ℕ → List (ℕ × ℕ) → List (ℕ × ℕ) → Type 0
@@ -30,7 +30,7 @@ linked-on : (cs cs′ : List ℕ) (todo todo′ : List (ℕ × ℕ)) → length 
 linked-on cs cs′ todo todo′ l h k a b s ds c u = s ds (λ i j p q e. c i j (rw l p) (rw l q) (h i j p q e)) (k ds c u)
 
 -- other pairs may stand for those that are still to be joined
-pub retold : (ns : List Node) (ps : List (ℕ × ℕ)) (cs : List ℕ) (todo todo′ : List (ℕ × ℕ)) → Covers cs todo todo′ → Wanted ns ps todo′ → Closing ns ps cs todo → Closing ns ps cs todo′
+pub retold : (ns : List Node) (ps : List (ℕ × ℕ)) (cs : List ℕ) (todo todo′ : List (ℕ × ℕ)) → Covers cs todo todo′ → Wanted ns ps todo′ → ClosureUpTo ns ps cs todo → ClosureUpTo ns ps cs todo′
 retold ns ps cs todo todo′ k w c =
     record {
       joined = c .joined;
@@ -43,12 +43,12 @@ retold ns ps cs todo todo′ k w c =
     }
 
 -- a pair of one class is done
-pub already : (ns : List Node) (ps : List (ℕ × ℕ)) (cs : List ℕ) (a b : ℕ) (todo : List (ℕ × ℕ)) → a < length cs → b < length cs → classOf cs a ≡ classOf cs b → Closing ns ps cs ((a, b) ∷ todo) → Closing ns ps cs todo
+pub already : (ns : List Node) (ps : List (ℕ × ℕ)) (cs : List ℕ) (a b : ℕ) (todo : List (ℕ × ℕ)) → a < length cs → b < length cs → classOf cs a ≡ classOf cs b → ClosureUpTo ns ps cs ((a, b) ∷ todo) → ClosureUpTo ns ps cs todo
 already ns ps cs a b todo p q e c =
     retold ns ps cs ((a, b) ∷ todo) todo (λ ds h u. unites-front ds a b todo (h a b p q e) u) (λ x y m. c .wanted x y (List·Memᴰ·tail m)) c
 
 -- two applications of different symbols in the classes of a pair clash
-pub heads-clash : (ns : List Node) (ps : List (ℕ × ℕ)) (cs : List ℕ) (a b : ℕ) (todo : List (ℕ × ℕ)) → a < length ns → b < length ns → (f g : ℕ) (us vs : List ℕ) → nodeAt ns (classOf cs a) ≡ application f us → nodeAt ns (classOf cs b) ≡ application g vs → (OneSymbol f us g vs → ⊥) → Closing ns ps cs ((a, b) ∷ todo) → Clash ns ps
+pub heads-clash : (ns : List Node) (ps : List (ℕ × ℕ)) (cs : List ℕ) (a b : ℕ) (todo : List (ℕ × ℕ)) → a < length ns → b < length ns → (f g : ℕ) (us vs : List ℕ) → nodeAt ns (classOf cs a) ≡ application f us → nodeAt ns (classOf cs b) ≡ application g vs → (OneSymbol f us g vs → ⊥) → ClosureUpTo ns ps cs ((a, b) ∷ todo) → Clash ns ps
 heads-clash ns ps cs a b todo p q f g us vs d e n c =
     different (on (on (back (c .joined a p)) (c .wanted a b (List·Memᴰ·head refl))) (c .joined b q)) d e n
 
@@ -60,7 +60,7 @@ HeadsMeet ns cs x y todo = (f : ℕ) (us : List ℕ) → nodeAt ns (classOf cs y
 pub united : (cs : List ℕ) (x y : ℕ) → x < length cs → y < length cs → classOf (join cs (x, y)) x ≡ classOf (join cs (x, y)) y
 united cs x y p q = join-first cs x y x p refl ∙ sym (join-second cs x y y q refl)
 
-module _ (ns : List Node) (ps : List (ℕ × ℕ)) (cs : List ℕ) (x y : ℕ) (todo todo′ : List (ℕ × ℕ)) (l : length cs ≡ length ns) (hx : x < length ns) (hy : y < length ns) (link : Joined ns ps x y) (meet : HeadsMeet ns cs x y todo′) (k : Covers (join cs (x, y)) todo todo′) (w : Wanted ns ps todo′) (c : Closing ns ps cs todo) where
+module _ (ns : List Node) (ps : List (ℕ × ℕ)) (cs : List ℕ) (x y : ℕ) (todo todo′ : List (ℕ × ℕ)) (l : length cs ≡ length ns) (hx : x < length ns) (hy : y < length ns) (link : Joined ns ps x y) (meet : HeadsMeet ns cs x y todo′) (k : Covers (join cs (x, y)) todo todo′) (w : Wanted ns ps todo′) (c : ClosureUpTo ns ps cs todo) where
   in-list : (i : ℕ) → i < length ns → i < length cs
   in-list i p = rw l p
 
@@ -92,7 +92,7 @@ module _ (ns : List Node) (ps : List (ℕ × ℕ)) (cs : List ℕ) (x y : ℕ) (
           }
 
   -- joining two classes
-  pub classes-joined : Closing ns ps (join cs (x, y)) todo′
+  pub classes-joined : ClosureUpTo ns ps (join cs (x, y)) todo′
   classes-joined =
       record {
         joined = classes-stay ns ps cs x y l hx hy link (c .joined);
@@ -109,8 +109,8 @@ variable-meets ns cs x y v todo e f us d =
     let z : _≡_ {A = ℕ} 0 1 = cc in
     absurd (omega arith)
 
--- classes that are closed but for one pair more
-pub opened : (ns : List Node) → WellFormed ns → (ps : List (ℕ × ℕ)) → Inside ns ps → (cs : List ℕ) → Partition (length ns) cs → (a b : ℕ) → Closed ns ps (classOf cs) → Closing ns ((a, b) ∷ ps) cs ((a, b) ∷ [])
+-- the closure of a list of pairs is that of one pair more but for this pair
+pub opened : (ns : List Node) → WellFormed ns → (ps : List (ℕ × ℕ)) → Inside ns ps → (cs : List ℕ) → Partition (length ns) cs → (a b : ℕ) → IsClosure ns ps (classOf cs) → ClosureUpTo ns ((a, b) ∷ ps) cs ((a, b) ∷ [])
 opened ns w ps inside cs p a b s =
     record {
       joined = λ i h. more i (classOf cs i) (s .joined i h);
@@ -147,9 +147,9 @@ opened ns w ps inside cs p a b s =
               linked-now c d (omega arith) (omega arith) (x .one-head c d m);
         }
 
--- with no pair left they are closed
-pub closed-at-last : (ns : List Node) (ps : List (ℕ × ℕ)) (cs : List ℕ) → Closing ns ps cs [] → Closed ns ps (classOf cs)
-closed-at-last ns ps cs c =
+-- with no pair left they are the closure
+pub closure-at-last : (ns : List Node) (ps : List (ℕ × ℕ)) (cs : List ℕ) → ClosureUpTo ns ps cs [] → IsClosure ns ps (classOf cs)
+closure-at-last ns ps cs c =
     record {
       joined = c .joined;
       given = λ a b m. now-linked a b (c .given a b m);
