@@ -22,7 +22,7 @@ use Rattle.nodes.specs.Code.Order.{Met, leaf, before, Ordered}
 use Rattle.nodes.specs.Code.Named.{valueName, Alike, Applied, Named, Themselves}
 use Rattle.values.specs.Code.Naming.{Nameable, IsPlaced, compounds, keyOf, keyAt, NamedBefore, Naming, NamedAlong}
 use Rattle.binding.specs.Code.Binding.{HeadNames, NamesLeast, AllBelow}
-use Rattle.values.specs.Code.Prepared.{ClosedListed, ClosedTable, bucketsIn, earlierIn, openIn, closedIn, Filled, Prepared, nothing, filled}
+use Rattle.values.specs.Code.Prepared.{ClosedListed, ClosedTable, bucketsIn, earlierIn, openIn, closedIn, PreparedOpen, Prepared, nothing, with-open}
 use Rattle.nodes.specs.Code.Formed.{Formed}
 use Rattle.values.proofs.AlikeLaws.{alike-same}
 use Rattle.values.proofs.ChainLaws.{chained-same}
@@ -369,7 +369,7 @@ order-put closed placed xs ys zs start end e d f g =
 
 -- where there are no prepared words there are no open applications
 pub prepared-none : (words args counts cs table : List ℕ) → Prepared words args counts cs table → length table ≡ 0 → OpenListed words counts table
-prepared-none words args counts cs table (filled f) z = let s = f .size in absurd (omega (arith, s, z))
+prepared-none words args counts cs table (with-open f) z = let s = f .size in absurd (omega (arith, s, z))
 prepared-none words args counts cs table (nothing e n) z =
     record {
       node = λ p h. absurd (omega arith);
@@ -377,23 +377,23 @@ prepared-none words args counts cs table (nothing e n) z =
       whole = λ i h l. let x = n i h in absurd (omega (arith, x, l));
     }
 
--- and otherwise they are filled
-pub prepared-filled : (words args counts cs table : List ℕ) → Prepared words args counts cs table → (length table ≡ 0 → ⊥) → Filled words args counts cs table
-prepared-filled words args counts cs table (filled f) n = f
-prepared-filled words args counts cs table (nothing e z) n = absurd (n e)
+-- and otherwise there are open applications
+pub prepared-open : (words args counts cs table : List ℕ) → Prepared words args counts cs table → (length table ≡ 0 → ⊥) → PreparedOpen words args counts cs table
+prepared-open words args counts cs table (with-open f) n = f
+prepared-open words args counts cs table (nothing e z) n = absurd (n e)
 
 -- Their parts, as the code takes them.
-module _ (words args counts cs table : List ℕ) (f : Filled words args counts cs table) where
+module _ (words args counts cs table : List ℕ) (f : PreparedOpen words args counts cs table) where
   -- the open applications
-  pub filled-open : (r : ℕ) → r ≡ word table 1024 → OpenListed words counts (take (512 + r - 512) (drop 512 table))
+  pub prepared-opens : (r : ℕ) → r ≡ word table 1024 → OpenListed words counts (take (512 + r - 512) (drop 512 table))
   unfolding openIn
-  filled-open r e =
+  prepared-opens r e =
       let d : 512 + r - 512 ≡ word table 1024 = omega (arith, e) in
       rw d (f .open-listed)
 
   -- the closed ones, and the table of them
-  pub filled-closed : (r : ℕ) → r ≡ word table 1025 → ClosedListed words counts cs (take (768 + r - 768) (drop 768 table)) × ClosedTable words args cs (take (768 + r - 768) (drop 768 table)) (take 256 table) (take 256 (drop 256 table))
+  pub prepared-closed : (r : ℕ) → r ≡ word table 1025 → ClosedListed words counts cs (take (768 + r - 768) (drop 768 table)) × ClosedTable words args cs (take (768 + r - 768) (drop 768 table)) (take 256 table) (take 256 (drop 256 table))
   unfolding closedIn bucketsIn earlierIn
-  filled-closed r e =
+  prepared-closed r e =
       let d : 768 + r - 768 ≡ word table 1025 = omega (arith, e) in
       rw d (f .closed-listed, f .closed-table)

@@ -22,7 +22,7 @@ use Rattle.unification.proofs.SectionLaws.{counted-application}
 use Rattle.nodes.specs.Code.Open.{Marked, markedTest, Counts, closedHeadTest, KeepsClosed}
 use Rattle.nodes.specs.Code.Named.{valueName, Themselves}
 use Rattle.values.specs.Code.Naming.{keys, keyUpTo, keyOf, keyAt, Representative, Chained}
-use Rattle.values.specs.Code.Prepared.{preparedWords, ClosedListed, ClosedTable, bucketsIn, earlierIn, openIn, closedIn, Filled, Prepared, nothing, filled, ListsOpen, closedNoted, ListsClosed}
+use Rattle.values.specs.Code.Prepared.{preparedWords, ClosedListed, ClosedTable, bucketsIn, earlierIn, openIn, closedIn, PreparedOpen, Prepared, nothing, with-open, ListsOpen, closedNoted, ListsClosed}
 use Rattle.nodes.proofs.OpenLaws.{marked-true, marked-test, looked-at}
 use Rattle.values.proofs.ChainLaws.{chained-add}
 
@@ -479,8 +479,8 @@ module _ (words args counts cs table₀ opened table : List ℕ) (r c : ℕ) (l 
   earlier-part = part-full 256 256 (omega arith)
 
   -- all is prepared
-  pub prepared-filled : Filled words args counts cs (set (set table 1024 r) 1025 c)
-  prepared-filled =
+  pub prepared-whole : PreparedOpen words args counts cs (set (set table 1024 r) 1025 c)
+  prepared-whole =
       record {
         size = length-set (set table 1024 r) 1025 c ∙ length-set table 1024 r ∙ table-size;
         open-few = rw at-open (o .few);
@@ -514,8 +514,8 @@ kept-key words args counts cs cs′ l c k names q m =
 -- what is prepared stays right where closed applications keep their heads
 pub prepared-kept : (words args counts cs cs′ table : List ℕ) → Sections words args → Counts words args counts (nodeCount words) → KeepsClosed words counts cs cs′ → Prepared words args counts cs table → Prepared words args counts cs′ table
 prepared-kept words args counts cs cs′ table s c k (nothing e n) = nothing e n
-prepared-kept words args counts cs cs′ table s c k (filled f) =
-    filled
+prepared-kept words args counts cs cs′ table s c k (with-open f) =
+    with-open
     (record {
       size = f .size;
       open-few = f .open-few;

@@ -8,7 +8,7 @@ ghost use Rattle.table.specs.Layout.{word, nodeCount};
 ghost use Rattle.unification.specs.Code.Sections.{Sections};
 ghost use Rattle.nodes.specs.Code.Open.{Counts, CountedAt, closedHeadTest};
 ghost use Rattle.nodes.specs.Code.Named.{Readable, Themselves};
-ghost use Rattle.values.specs.Code.Prepared.{preparedWords, ListsOpen, closedNoted, ListsClosed, Filled};
+ghost use Rattle.values.specs.Code.Prepared.{preparedWords, ListsOpen, closedNoted, ListsClosed, PreparedOpen};
 ghost use Rattle.nodes.specs.Code.Formed.{Formed};
 use crate::names;
 use nodes::sections;
@@ -159,7 +159,7 @@ fn prepare_with_room(
     requires { ⌜ Sections (now nodes) (now arguments) × Counts (now nodes) (now arguments) (now counts) (nodeCount (now nodes)) ⌝ }
     requires { ⌜ Formed (now nodes) (now arguments) (now counts) (now of) ⌝ }
     requires { ⌜ (length (now names) ≡ nodeCount (now nodes)) × (now prepared ≡ replicate preparedWords 0) ⌝ }
-    ensures { λ r. ⌜ Filled (now (nodes .entry)) (now (arguments .entry)) (now (counts .entry)) (now (of .entry)) (now (prepared .exit)) ⌝ }
+    ensures { λ r. ⌜ PreparedOpen (now (nodes .entry)) (now (arguments .entry)) (now (counts .entry)) (now (of .entry)) (now (prepared .exit)) ⌝ }
 {
     names::name_themselves(names);
     let opens = list_open(nodes, arguments, counts, prepared);
@@ -173,7 +173,7 @@ pub fn prepare(nodes: &[u32], arguments: &[u32], counts: &[u8], of: &[u8], prepa
     requires { ⌜ Sections (now nodes) (now arguments) × Counts (now nodes) (now arguments) (now counts) (nodeCount (now nodes)) ⌝ }
     requires { ⌜ Formed (now nodes) (now arguments) (now counts) (now of) ⌝ }
     requires { ⌜ now prepared ≡ replicate preparedWords 0 ⌝ }
-    ensures { λ r. ⌜ Filled (now (nodes .entry)) (now (arguments .entry)) (now (counts .entry)) (now (of .entry)) (now (prepared .exit)) ⌝ }
+    ensures { λ r. ⌜ PreparedOpen (now (nodes .entry)) (now (arguments .entry)) (now (counts .entry)) (now (of .entry)) (now (prepared .exit)) ⌝ }
 {
     let n = sections::node_count(nodes, arguments);
     let mut names = [0u8; MAX_NODES];

@@ -41,8 +41,8 @@ openIn table = take (word table 1024) (drop 512 table)
 unfoldable pub closedIn : List ℕ → List ℕ
 closedIn table = take (word table 1025) (drop 768 table)
 
--- The words of a table that has open applications.
-pub record Filled (words args counts cs table : List ℕ) : Type 0 where
+-- What is prepared where there are open applications.
+pub record PreparedOpen (words args counts cs table : List ℕ) : Type 0 where
   pub size : length table ≡ preparedWords
   pub open-few : word table 1024 ≤ maxNodes
   pub closed-few : word table 1025 ≤ maxNodes
@@ -50,10 +50,10 @@ pub record Filled (words args counts cs table : List ℕ) : Type 0 where
   pub closed-listed : ClosedListed words counts cs (closedIn table)
   pub closed-table : ClosedTable words args cs (closedIn table) (bucketsIn table) (earlierIn table)
 
--- There are no words where there are no open applications.
+-- What is prepared: no words where there are no open applications.
 pub data Prepared (words args counts cs table : List ℕ) : Type 0 where
   nothing : length table ≡ 0 → ((i : ℕ) → i < nodeCount words → word counts i ≡ 0) → Prepared words args counts cs table
-  filled : Filled words args counts cs table → Prepared words args counts cs table
+  with-open : PreparedOpen words args counts cs table → Prepared words args counts cs table
 
 -- The open applications are listed, r of them; what is not in their part stays.
 pub record ListsOpen (words counts table : List ℕ) (r : ℕ) (table′ : List ℕ) : Type 0 where

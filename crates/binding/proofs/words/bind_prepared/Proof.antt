@@ -2,7 +2,7 @@
 -- parts. Assumes nothing.
 use native.Mathlib.Omega.{arith}
 use borrow.Author.Needs.{needs}
-use Rattle.binding.proofs.PrefixLaws.{prepared-none, prepared-filled, filled-open, filled-closed}
+use Rattle.binding.proofs.PrefixLaws.{prepared-none, prepared-open, prepared-opens, prepared-closed}
 use Rattle.binding.proofs.words.bind_prepared.Statement.{statement}
 use Rattle.binding.proofs.words.bind_prepared.Tie as tie
 
@@ -25,22 +25,22 @@ returns c = search needs
 
 entry-requires : tie.Need-entry-requires
 entry-requires c κs =
-    let z = prepared-filled _ _ _ _ _ (c .before .before .before .before .before .before .before .before .before .before .pre .1 .0 .1) (c .if1 .left) .size in
+    let z = prepared-open _ _ _ _ _ (c .before .before .before .before .before .before .before .before .before .before .pre .1 .0 .1) (c .if1 .left) .size in
     omega (arith, z)
 
 add-open-end : tie.Need-add-open-end
 add-open-end c =
-    let f = prepared-filled _ _ _ _ _ (c .before .before .before .before .before .before .before .before .before .before .before .pre .1 .0 .1) (c .before .if1 .left) in
+    let f = prepared-open _ _ _ _ _ (c .before .before .before .before .before .before .before .before .before .before .before .pre .1 .0 .1) (c .before .if1 .left) in
     omega (arith, f .open-few, c .entry .ensures)
 
 entry-requires-2 : tie.Need-entry-requires-2
 entry-requires-2 c κs =
-    let z = prepared-filled _ _ _ _ _ (c .before .before .before .before .before .before .before .before .before .before .before .pre .1 .0 .1) (c .before .if1 .left) .size in
+    let z = prepared-open _ _ _ _ _ (c .before .before .before .before .before .before .before .before .before .before .before .pre .1 .0 .1) (c .before .if1 .left) .size in
     omega (arith, z)
 
 add-closed-end : tie.Need-add-closed-end
 add-closed-end c =
-    let f = prepared-filled _ _ _ _ _ (c .before .before .before .before .before .before .before .before .before .before .before .before .pre .1 .0 .1) (c .before .before .if1 .left) in
+    let f = prepared-open _ _ _ _ _ (c .before .before .before .before .before .before .before .before .before .before .before .before .pre .1 .0 .1) (c .before .before .if1 .left) in
     omega (arith, f .closed-few, c .entry2 .ensures)
 
 sub-bind-open : tie.Need-sub-bind-open
@@ -51,7 +51,7 @@ part-bind-open-start c = search needs
 
 part-bind-open-end : tie.Need-part-bind-open-end
 part-bind-open-end c =
-    let f = prepared-filled _ _ _ _ _ (c .before .before .before .before .before .before .before .before .before .before .before .before .pre .1 .0 .1) (c .before .before .if1 .left) in
+    let f = prepared-open _ _ _ _ _ (c .before .before .before .before .before .before .before .before .before .before .before .before .pre .1 .0 .1) (c .before .before .if1 .left) in
     omega (arith, f .size, f .open-few, c .before .entry .ensures)
 
 sub-bind-open-2 : tie.Need-sub-bind-open-2
@@ -62,7 +62,7 @@ part-bind-open-start-2 c = search needs
 
 part-bind-open-end-2 : tie.Need-part-bind-open-end-2
 part-bind-open-end-2 c =
-    let f = prepared-filled _ _ _ _ _ (c .before .before .before .before .before .before .before .before .before .before .before .before .before .pre .1 .0 .1) (c .before .before .before .if1 .left) in
+    let f = prepared-open _ _ _ _ _ (c .before .before .before .before .before .before .before .before .before .before .before .before .before .pre .1 .0 .1) (c .before .before .before .if1 .left) in
     omega (arith, f .size, f .closed-few, c .before .entry2 .ensures)
 
 sub-bind-open-3 : tie.Need-sub-bind-open-3
@@ -73,7 +73,7 @@ part-bind-open-start-3 c = search needs
 
 part-bind-open-end-3 : tie.Need-part-bind-open-end-3
 part-bind-open-end-3 c =
-    let z = prepared-filled _ _ _ _ _ (c .before .before .before .before .before .before .before .before .before .before .before .before .before .before .pre .1 .0 .1) (c .before .before .before .before .if1 .left) .size in
+    let z = prepared-open _ _ _ _ _ (c .before .before .before .before .before .before .before .before .before .before .before .before .before .before .pre .1 .0 .1) (c .before .before .before .before .if1 .left) .size in
     omega (arith, z)
 
 sub-bind-open-4 : tie.Need-sub-bind-open-4
@@ -84,14 +84,14 @@ part-bind-open-start-4 c = search needs
 
 part-bind-open-end-4 : tie.Need-part-bind-open-end-4
 part-bind-open-end-4 c =
-    let z = prepared-filled _ _ _ _ _ (c .before .before .before .before .before .before .before .before .before .before .before .before .before .before .before .pre .1 .0 .1) (c .before .before .before .before .before .if1 .left) .size in
+    let z = prepared-open _ _ _ _ _ (c .before .before .before .before .before .before .before .before .before .before .before .before .before .before .before .pre .1 .0 .1) (c .before .before .before .before .before .if1 .left) .size in
     omega (arith, z)
 
 bind-open-requires : tie.Need-bind-open-requires
 bind-open-requires c κs =
     let s = c .before .before .before .before .before .before .before .before .before .before .before .before .before .before .before .before .before .before .before in
-    let f = prepared-filled _ _ _ _ _ (c .before .before .before .before .before .before .before .before .before .before .before .before .before .before .before .before .before .before .before .pre .1 .0 .1) (c .before .before .before .before .before .before .before .before .before .if1 .left) in
-    (s .pre .0, (s .pre .1 .0 .0, (filled-open _ _ _ _ _ f _ (c .before .before .before .before .before .before .before .before .entry .ensures), (filled-closed _ _ _ _ _ f _ (c .before .before .before .before .before .before .before .entry2 .ensures), (s .pre .1 .1 .0, s .pre .1 .1 .1)))))
+    let f = prepared-open _ _ _ _ _ (c .before .before .before .before .before .before .before .before .before .before .before .before .before .before .before .before .before .before .before .pre .1 .0 .1) (c .before .before .before .before .before .before .before .before .before .if1 .left) in
+    (s .pre .0, (s .pre .1 .0 .0, (prepared-opens _ _ _ _ _ f _ (c .before .before .before .before .before .before .before .before .entry .ensures), (prepared-closed _ _ _ _ _ f _ (c .before .before .before .before .before .before .before .entry2 .ensures), (s .pre .1 .1 .0, s .pre .1 .1 .1)))))
 
 same-length-4 : tie.Need-same-length-4
 same-length-4 c = search needs

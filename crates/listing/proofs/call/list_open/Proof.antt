@@ -1,6 +1,6 @@
 -- `listing::call::list_open` meets its contract: what is prepared is all that is asked for beside what it is given. Assumes nothing.
 use borrow.Author.Needs.{needs}
-use Rattle.values.specs.Code.Prepared.{filled}
+use Rattle.values.specs.Code.Prepared.{with-open}
 use Rattle.listing.proofs.call.list_open.Statement.{statement}
 use Rattle.listing.proofs.call.list_open.Tie as tie
 
@@ -16,7 +16,7 @@ slice-aggregate-list-known c = search needs
 list-known-requires : tie.Need-list-known-requires
 list-known-requires c κs =
     let p = c .before .before .before .before .before .before .before .before .before .before .before .before .before .before .before .before .pre in
-    (p .0, (p .1 .0, (p .1 .1 .0, (filled (c .before .before .before .before .before .prepare .ensures), p .1 .1 .1))))
+    (p .0, (p .1 .0, (p .1 .1 .0, (with-open (c .before .before .before .before .before .prepare .ensures), p .1 .1 .1))))
 
 same-length : tie.Need-same-length
 same-length c = search needs

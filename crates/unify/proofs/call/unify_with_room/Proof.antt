@@ -3,7 +3,7 @@ use mathlib.Core.Path.{_≡_, _∙_}
 use native.Mathlib.Omega.{arith}
 use borrow.Author.Needs.{needs}
 use lib.ListN.{length}
-use Rattle.values.specs.Code.Prepared.{filled}
+use Rattle.values.specs.Code.Prepared.{with-open}
 use Rattle.values.specs.Code.Present.{variableNames}
 use Rattle.values.proofs.PreparedLaws.{prepared-kept}
 use Rattle.unify.proofs.CallingLaws.{answers-few, answers-clash, answers-occurs, answers-unified, circles-ready, list-given}
@@ -77,7 +77,7 @@ bind-requires c κs =
     let g = c .before .before .before .before .before .before .before .before .before .before .before .before .before .before .before .before .before .before .before .before .before .before .before .before .before .before .before .before .before .before .before .before .before .before .before .before .begin-shared in
     let x = c .before .before .before .before .before .before .before .before .before .before .before .before .extend .ensures in
     let e = c .before .before .before .before .before .before .enum-told3 .given .1 in
-    ((s .pre .0, k), ((x .formed e (g .ensures .pairs) (g .ensures .stands), prepared-kept _ _ _ _ _ _ (s .pre .0) k (x .kept e) (filled (c .before .before .before .before .before .before .before .before .before .before .before .before .before .before .before .before .before .before .before .prepare .ensures))), list-given _ _ (g .result) _ (g .ensures .lists) (c .before .before .before .before .before .before .before .before .before .before .before .before .before .before .before .before .before .before .before .before .before .before .before .before .before .before .before .before .before .before .before .before .if1 .left)))
+    ((s .pre .0, k), ((x .formed e (g .ensures .pairs) (g .ensures .stands), prepared-kept _ _ _ _ _ _ (s .pre .0) k (x .kept e) (with-open (c .before .before .before .before .before .before .before .before .before .before .before .before .before .before .before .before .before .before .before .prepare .ensures))), list-given _ _ (g .result) _ (g .ensures .lists) (c .before .before .before .before .before .before .before .before .before .before .before .before .before .before .before .before .before .before .before .before .before .before .before .before .before .before .before .before .before .before .before .before .if1 .left)))
 
 same-length-2 : tie.Need-same-length-2
 same-length-2 c = search needs

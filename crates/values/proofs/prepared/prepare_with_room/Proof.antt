@@ -2,7 +2,7 @@
 use mathlib.Core.Path.{_∙_}
 use borrow.Author.Needs.{needs}
 use lib.ListN.{length-set}
-use Rattle.values.proofs.PreparedLaws.{zeros-long, prepared-zero, count-places, prepared-filled}
+use Rattle.values.proofs.PreparedLaws.{zeros-long, prepared-zero, count-places, prepared-whole}
 use Rattle.values.proofs.prepared.prepare_with_room.Statement.{statement}
 use Rattle.values.proofs.prepared.prepare_with_room.Tie as tie
 
@@ -46,7 +46,7 @@ same-length-2 c =
 returns : tie.Need-returns
 returns c =
     let s = c .before .before .before .before .before .before .before .before .before .before .before .before .before .before .before .before .before .before .before in
-    prepared-filled _ _ _ _ _ _ _ _ _ (zeros-long _ (s .pre .1 .1 .1)) (c .before .before .before .before .before .before .before .list-open .ensures) (c .before .before .list-closed .ensures)
+    prepared-whole _ _ _ _ _ _ _ _ _ (zeros-long _ (s .pre .1 .1 .1)) (c .before .before .before .before .before .before .before .list-open .ensures) (c .before .before .list-closed .ensures)
 
 pub prepare-with-room-spec : {M : Type 1} → statement M
 prepare-with-room-spec =
