@@ -44,7 +44,7 @@ use Rattle.nodes.specs.Code.Trail.{links}
 use Rattle.nodes.specs.Code.Formed.{Stands}
 use Rattle.classes.specs.Code.Stands.{extended, Extends}
 use Rattle.values.specs.Code.Begins.{Lists, Leaves, BeginsShared}
-use Rattle.unify.specs.Code.Calling.{called, Answers}
+use Rattle.unify.specs.Code.Calling.{called, AnswersByNodes}
 use Rattle.values.proofs.LeastLaws.{least-long}
 use Rattle.unification.proofs.TogetherLaws.{outcome-together}
 
@@ -88,7 +88,7 @@ module _ (t : List ℕ) (a b : ℕ) where
 -- A number is no node, or both are: n is the number of nodes.
 module _ (words args : List ℕ) (a b n : ℕ) (e : n ≡ nodeCount words) where
   -- a number is no node
-  pub answers-node : (lent : List ℕ) → (leb n a || leb n b) ≡ true → Answers (nodesFrom words args) a b lent (Unification.Refused Refusal.NotANode) lent
+  pub answers-node : (lent : List ℕ) → (leb n a || leb n b) ≡ true → AnswersByNodes (nodesFrom words args) a b lent (Unification.Refused Refusal.NotANode) lent
   unfolding called wordsAfter
   answers-node lent g =
       let h : (leb (length (nodesFrom words args)) a || leb (length (nodesFrom words args)) b) ≡ true = rw (nodes-long words args ∙ sym e) g in
@@ -111,7 +111,7 @@ module _ (words args : List ℕ) (s : Sections words args) (a b : ℕ) (h : (a <
       or-both-false (leb (length ns) a) (leb (length ns) b) (lt-leb (length ns) a (is-node words args a (h .0))) (lt-leb (length ns) b (is-node words args b (h .1)))
 
   -- too few words are lent
-  pub answers-few : length lent < v .count → Answers ns a b lent (Unification.Refused Refusal.TooFewLent) lent
+  pub answers-few : length lent < v .count → AnswersByNodes ns a b lent (Unification.Refused Refusal.TooFewLent) lent
   unfolding called wordsAfter
   answers-few l =
       let d = g .lists .counted in
@@ -137,7 +137,7 @@ module _ (words args : List ℕ) (s : Sections words args) (a b : ℕ) (h : (a <
         x .answers (g .pairs) (g .stands) ∙ outcome-together ns (sections-well-formed words args s) a b (is-node words args a (h .0)) (is-node words args b (h .1)) (g .pairs) (g .stands .inside) (g .same)
 
     -- it is the answer
-    answers-ended : (u : Unification) (lent′ : List ℕ) → told u ≡ ended (extended r) → lent′ ≡ wordsAfter (ended (extended r)) (wordsOf ns ((a, b) ∷ [])) lent → Answers ns a b lent u lent′
+    answers-ended : (u : Unification) (lent′ : List ℕ) → told u ≡ ended (extended r) → lent′ ≡ wordsAfter (ended (extended r)) (wordsOf ns ((a, b) ∷ [])) lent → AnswersByNodes ns a b lent u lent′
     unfolding called
     answers-ended u lent′ t w =
         let d = g .lists .counted in
@@ -145,12 +145,12 @@ module _ (words args : List ℕ) (s : Sections words args) (a b : ℕ) (h : (a <
         record { answer = rw (both, z, ← comes) t; words = rw (both, z, ← comes) w }
 
     -- a clash
-    pub answers-clash : r ≡ Extended.Clash → Answers ns a b lent Unification.Clash lent
+    pub answers-clash : r ≡ Extended.Clash → AnswersByNodes ns a b lent Unification.Clash lent
     unfolding wordsAfter
     answers-clash e = answers-ended Unification.Clash lent (rw e) (rw e)
 
     -- a class that leads to itself
-    pub answers-occurs : r ≡ Extended.Occurs → Answers ns a b lent Unification.Occurs lent
+    pub answers-occurs : r ≡ Extended.Occurs → AnswersByNodes ns a b lent Unification.Occurs lent
     unfolding wordsAfter
     answers-occurs e = answers-ended Unification.Occurs lent (rw e) (rw e)
 
@@ -167,7 +167,7 @@ module _ (words args : List ℕ) (s : Sections words args) (a b : ℕ) (h : (a <
           same-unifiers ns (sections-well-formed words args s) ((a, b) ∷ g .pairs) ((a, b) ∷ []) (unified-stands .inside) one-inside pair-alone (outcome-unified ns (sections-well-formed words args s) ((a, b) ∷ g .pairs) (unified-stands .inside) .0 (sym (x .answers (g .pairs) (g .stands)) ∙ ap extended e))
 
       -- unified: the binding words are left
-      pub answers-unified : (lent′ : List ℕ) → Leaves words args cs′ lent lent′ → Answers ns a b lent Unification.Unified lent′
+      pub answers-unified : (lent′ : List ℕ) → Leaves words args cs′ lent lent′ → AnswersByNodes ns a b lent Unification.Unified lent′
       unfolding wordsAfter
       answers-unified lent′ w =
           answers-ended Unification.Unified lent′ (rw e)
@@ -220,6 +220,6 @@ refused-promised t a b lent c r e z =
     promised t a b lent (Unification.Refused r) lent d (refused-words t a b lent r d)
 
 -- and with an accepted one
-pub accepted-promised : (t : List ℕ) (a b : ℕ) (lent : List ℕ) (r : Unification) (lent′ : List ℕ) → Accepted t → Answers (nodesIn t) a b lent r lent′ → Promised t a b lent r lent′
+pub accepted-promised : (t : List ℕ) (a b : ℕ) (lent : List ℕ) (r : Unification) (lent′ : List ℕ) → Accepted t → AnswersByNodes (nodesIn t) a b lent r lent′ → Promised t a b lent r lent′
 accepted-promised t a b lent r lent′ g k =
     promised t a b lent r lent′ (k .answer ∙ sym (accepted-table t a b g (length lent))) (k .words ∙ sym (accepted-words t a b g lent))

@@ -8,7 +8,7 @@ ghost use Rattle.unification.specs.Node.{nodesIn};
 ghost use Rattle.unification.specs.Code.Sections.{Sections, nodesFrom};
 ghost use Rattle.nodes.specs.Code.Trail.{links};
 ghost use Rattle.values.specs.Code.Prepared.{preparedWords};
-ghost use Rattle.unify.specs.Code.Calling.{Answers};
+ghost use Rattle.unify.specs.Code.Calling.{AnswersByNodes};
 use binding::words::bind;
 use classes::Extended;
 use classes::settle::extend;
@@ -40,7 +40,7 @@ fn unify_with_room(
     requires { ⌜ (a .0 < nodeCount (now nodes)) × (b .0 < nodeCount (now nodes)) ⌝ }
     requires { ⌜ (length (now of) ≡ nodeCount (now nodes)) × (now next ≡ replicate links 0) × (length (now counts) ≡ nodeCount (now nodes)) ⌝ }
     requires { ⌜ now prepared ≡ replicate preparedWords 0 ⌝ }
-    ensures { λ r. ⌜ Answers (nodesFrom (now (nodes .entry)) (now (arguments .entry))) (a .0) (b .0) (now (out .entry)) r (now (out .exit)) ⌝ }
+    ensures { λ r. ⌜ AnswersByNodes (nodesFrom (now (nodes .entry)) (now (arguments .entry))) (a .0) (b .0) (now (out .entry)) r (now (out .exit)) ⌝ }
 {
     let variables = begin_shared(nodes, arguments, of);
     if out.len() < variables.count {
@@ -64,7 +64,7 @@ fn unify_with_room(
 // Unifies two nodes of the sections of an accepted table.
 fn unify_nodes(nodes: &[u32], arguments: &[u32], a: Node, b: Node, out: &mut [u32]) -> Unification
     requires { ⌜ Sections (now nodes) (now arguments) ⌝ }
-    ensures { λ r. ⌜ Answers (nodesFrom (now (nodes .entry)) (now (arguments .entry))) (a .0) (b .0) (now (out .entry)) r (now (out .exit)) ⌝ }
+    ensures { λ r. ⌜ AnswersByNodes (nodesFrom (now (nodes .entry)) (now (arguments .entry))) (a .0) (b .0) (now (out .entry)) r (now (out .exit)) ⌝ }
 {
     let n = layout::node_count(nodes);
     if (a.0 >= n) | (b.0 >= n) {
@@ -91,7 +91,7 @@ fn unify_nodes(nodes: &[u32], arguments: &[u32], a: Node, b: Node, out: &mut [u3
 // Unifies two nodes of an accepted table.
 pub fn unify_accepted(table: &[u32], a: Node, b: Node, out: &mut [u32]) -> Unification
     requires { ⌜ Accepted (now table) ⌝ }
-    ensures { λ r. ⌜ Answers (nodesIn (now (table .entry))) (a .0) (b .0) (now (out .entry)) r (now (out .exit)) ⌝ }
+    ensures { λ r. ⌜ AnswersByNodes (nodesIn (now (table .entry))) (a .0) (b .0) (now (out .entry)) r (now (out .exit)) ⌝ }
 {
     let nodes = layout::section(table, layout::NODES);
     let arguments = layout::section(table, layout::ARGUMENTS);
