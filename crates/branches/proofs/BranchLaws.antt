@@ -18,7 +18,7 @@ use Rattle.unification.specs.Node.{Node}
 use Rattle.unification.specs.Computed.Unifying.{outcome}
 use Rattle.unification.specs.Code.Given.{Inside}
 use Rattle.branches.specs.Code.Branch.{pairedBy, marksIn, FreeMark}
-use Rattle.branches.specs.Code.Memory.{keyOf}
+use Rattle.branches.specs.Code.Memory.{keyOfDigits}
 use Rattle.branches.specs.Code.Walk.{ifUnified, onDigit, unpairedIn, Branching, KeepsBranch}
 use Rattle.branches.proofs.BelowLaws.{inside-more}
 
@@ -129,7 +129,7 @@ module _ {words args left right entry : List ℕ} {key weight unpaired i : ℕ} 
         depth = g .depth;
         positive = positive;
         counted = g .counted ∙ ap unpairedIn (sym (k .marks));
-        keyed = g .keyed ∙ ap (keyOf (length right)) (sym (k .digits));
+        keyed = g .keyed ∙ ap (keyOfDigits (length right)) (sym (k .digits));
         weighed = g .weighed;
       }
     where
@@ -139,14 +139,14 @@ module _ {words args left right entry : List ℕ} {key weight unpaired i : ℕ} 
           rw e (g .positive j h)
 
   -- one with a digit more
-  pub branching-next : {entry′ : List ℕ} {d key′ unpaired′ : ℕ} → i < length left → 0 < d → length entry′ ≡ length entry → take (i + 1) entry′ ≡ take i entry ++ d ∷ [] → key′ ≡ keyOf (length right) (take i entry ++ d ∷ []) → unpaired′ ≡ unpairedIn (marksIn left right entry′) → Branching words args left right entry′ key′ (weight * 16) unpaired′ (i + 1)
+  pub branching-next : {entry′ : List ℕ} {d key′ unpaired′ : ℕ} → i < length left → 0 < d → length entry′ ≡ length entry → take (i + 1) entry′ ≡ take i entry ++ d ∷ [] → key′ ≡ keyOfDigits (length right) (take i entry ++ d ∷ []) → unpaired′ ≡ unpairedIn (marksIn left right entry′) → Branching words args left right entry′ key′ (weight * 16) unpaired′ (i + 1)
   branching-next {entry′} {d} {key′} {unpaired′} h p l t k u =
       record {
         size = l ∙ g .size;
         depth = omega (arith, h);
         positive = λ j q. positive j q (ℕ-discrete j i);
         counted = u;
-        keyed = k ∙ ap (keyOf (length right)) (sym t);
+        keyed = k ∙ ap (keyOfDigits (length right)) (sym t);
         weighed = ap (λ (x : ℕ). x * 16) (g .weighed) ∙ sym (pow-suc 16 i) ∙ ap (λ (x : ℕ). 16 ^ x) (sym (add-one i));
       }
     where

@@ -32,7 +32,7 @@ use Rattle.classes.proofs.AtOnceLaws.{formed-unified}
 use Rattle.entries.specs.declared.Written.{Written}
 use Rattle.entries.specs.Code.Writing.{put, Writes}
 use Rattle.branches.specs.Code.Branch.{pairedBy, pairsIn, Standing, widthOf}
-use Rattle.branches.specs.Code.Memory.{slots, slotOf, keyOf, Keyed, Pairable, Lies, Remembers, Bound, Notes}
+use Rattle.branches.specs.Code.Memory.{slots, slotOf, keyOfDigits, Keyed, Pairable, Lies, Remembers, Bound, Notes}
 use Rattle.entries.proofs.WritingLaws.{put-none, writes-room}
 use Rattle.branches.proofs.BelowLaws.{same-unified}
 use Rattle.branches.proofs.BranchLaws.{paired-inside}
@@ -70,29 +70,29 @@ digit-none m d h z = pick (leb d m) refl z
     pick false e q = e
 
 -- a further digit that puts in a label leaves the key
-pub key-placed : (m : ℕ) (ds : List ℕ) (d : ℕ) → m < d → keyOf m (ds ++ d ∷ []) ≡ keyOf m ds
-unfolding keyOf
+pub key-placed : (m : ℕ) (ds : List ℕ) (d : ℕ) → m < d → keyOfDigits m (ds ++ d ∷ []) ≡ keyOfDigits m ds
+unfolding keyOfDigits
 key-placed m [] d h = omega (arith, digit-placed m d h)
 key-placed m (e ∷ ds) d h = ap (λ (k : ℕ). digit m e + 16 * k) (key-placed m ds d h)
 
 -- one that pairs comes before the others
-pub key-paired : (m : ℕ) (ds : List ℕ) (d : ℕ) → d ≤ m → keyOf m (ds ++ d ∷ []) ≡ keyOf m ds + d * 16 ^ length ds
-unfolding keyOf
+pub key-paired : (m : ℕ) (ds : List ℕ) (d : ℕ) → d ≤ m → keyOfDigits m (ds ++ d ∷ []) ≡ keyOfDigits m ds + d * 16 ^ length ds
+unfolding keyOfDigits
 key-paired m [] d h = omega (arith, digit-paired m d h)
 key-paired m (e ∷ ds) d h =
     let p : d * 16 ^ suc (length ds) ≡ 16 * (d * 16 ^ length ds) = ap (λ (x : ℕ). d * x) (pow-succ' 16 (length ds)) ∙ mul-left-comm d 16 (16 ^ length ds) in
     omega (arith, key-paired m ds d h, p)
 
 -- a key is less than 16 to the number of digits
-pub key-bound : (m : ℕ) (ds : List ℕ) → m ≤ 8 → keyOf m ds < 16 ^ length ds
-unfolding keyOf
+pub key-bound : (m : ℕ) (ds : List ℕ) → m ≤ 8 → keyOfDigits m ds < 16 ^ length ds
+unfolding keyOfDigits
 key-bound m [] h = omega arith
 key-bound m (d ∷ ds) h =
     let p : 16 ^ suc (length ds) ≡ 16 * 16 ^ length ds = pow-succ' 16 (length ds) in
     omega (arith, digit-most m d, key-bound m ds h, p)
 
 -- so that of 8 digits is a number of the machine, and one more is
-pub key-fits : (m i : ℕ) (entry : List ℕ) → m ≤ 8 → i ≤ 8 → keyOf m (take i entry) + 1 < 2 ^ 64
+pub key-fits : (m i : ℕ) (entry : List ℕ) → m ≤ 8 → i ≤ 8 → keyOfDigits m (take i entry) + 1 < 2 ^ 64
 key-fits m i entry h q =
     let a = key-bound m (take i entry) h in
     let b : length (take i entry) ≤ 8 = omega (arith, length-take i entry) in
@@ -100,8 +100,8 @@ key-fits m i entry h q =
     omega (arith, a, c)
 
 -- digits that all count 0 add no pair
-paired-none : (ls rs ds : List ℕ) (ps : List (ℕ × ℕ)) → Positive ds → keyOf (length rs) ds ≡ 0 → pairedBy ls rs ds ps ≡ ps
-unfolding pairedBy keyOf
+paired-none : (ls rs ds : List ℕ) (ps : List (ℕ × ℕ)) → Positive ds → keyOfDigits (length rs) ds ≡ 0 → pairedBy ls rs ds ps ≡ ps
+unfolding pairedBy keyOfDigits
 paired-none [] rs ds ps p z = refl
 paired-none (a ∷ ls) rs [] ps p z = refl
 paired-none (a ∷ ls) rs (d ∷ ds) ps p z =
@@ -109,8 +109,8 @@ paired-none (a ∷ ls) rs (d ∷ ds) ps p z =
     rw q (paired-none ls rs ds ps (λ j h. p (suc j) (omega arith)) (omega (arith, z)))
 
 -- digits with one key add the same pairs
-paired-same : (ls rs ds es : List ℕ) (ps : List (ℕ × ℕ)) → length rs ≤ 8 → Positive ds → Positive es → keyOf (length rs) ds ≡ keyOf (length rs) es → pairedBy ls rs ds ps ≡ pairedBy ls rs es ps
-unfolding pairedBy keyOf
+paired-same : (ls rs ds es : List ℕ) (ps : List (ℕ × ℕ)) → length rs ≤ 8 → Positive ds → Positive es → keyOfDigits (length rs) ds ≡ keyOfDigits (length rs) es → pairedBy ls rs ds ps ≡ pairedBy ls rs es ps
+unfolding pairedBy keyOfDigits
 paired-same [] rs ds es ps m p q k = refl
 paired-same (a ∷ ls) rs [] es ps m p q k = sym (paired-none (a ∷ ls) rs es ps q (sym k))
 paired-same (a ∷ ls) rs (d ∷ ds) [] ps m p q k = paired-none (a ∷ ls) rs (d ∷ ds) ps p k
@@ -118,7 +118,7 @@ paired-same (a ∷ ls) rs (d ∷ ds) (e ∷ es) ps m p q k =
     let x = digit-most (length rs) d in
     let y = digit-most (length rs) e in
     let u : digit (length rs) d ≡ digit (length rs) e = omega (arith, k) in
-    let v : keyOf (length rs) ds ≡ keyOf (length rs) es = omega (arith, k) in
+    let v : keyOfDigits (length rs) ds ≡ keyOfDigits (length rs) es = omega (arith, k) in
     paired-same ls rs ds es (cond (leb d (length rs)) ((a, word rs (d - 1)) ∷ ps) ps) m (λ j h. p (suc j) (omega arith)) (λ j h. q (suc j) (omega arith)) v
     ∙ ap (pairedBy ls rs es) (pick (leb d (length rs)) (leb e (length rs)) u)
   where
@@ -129,14 +129,14 @@ paired-same (a ∷ ls) rs (d ∷ ds) (e ∷ es) ps m p q k =
     pick false false z = refl
 
 -- labels have no key
-labels-key : (m c : ℕ) → keyOf m (replicate c (m + 1)) ≡ 0
-unfolding keyOf
+labels-key : (m c : ℕ) → keyOfDigits m (replicate c (m + 1)) ≡ 0
+unfolding keyOfDigits
 labels-key m zero = refl
 labels-key m (suc c) = omega (arith, digit-placed m (m + 1) (omega arith), labels-key m c)
 
 -- and leave that of the digits before them
-labels-after : (m : ℕ) (ds : List ℕ) (c : ℕ) → keyOf m (ds ++ replicate c (m + 1)) ≡ keyOf m ds
-unfolding keyOf
+labels-after : (m : ℕ) (ds : List ℕ) (c : ℕ) → keyOfDigits m (ds ++ replicate c (m + 1)) ≡ keyOfDigits m ds
+unfolding keyOfDigits
 labels-after m [] c = labels-key m c
 labels-after m (d ∷ ds) c = ap (λ (k : ℕ). digit m d + 16 * k) (labels-after m ds c)
 

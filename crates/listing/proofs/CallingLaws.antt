@@ -46,7 +46,7 @@ use Rattle.branches.specs.declared.Labels.{Labels}
 use Rattle.entries.specs.declared.Written.{Written}
 use Rattle.entries.specs.Code.Writing.{put, Writes, marked}
 use Rattle.branches.specs.Code.Branch.{Listable, marksIn, widthOf}
-use Rattle.branches.specs.Code.Memory.{keyOf}
+use Rattle.branches.specs.Code.Memory.{keyOfDigits}
 use Rattle.branches.specs.Code.Partners.{Trying, MayPair}
 use Rattle.branches.specs.Code.Known.{knownBytes, mayIn, PairsKnown, KnownOf}
 use Rattle.branches.specs.Code.Walk.{below, unpairedIn, Walking, Walked, allEntries}
@@ -230,7 +230,7 @@ module _ {words args left right : List ℕ} {labels : Labels} (g : Listable word
 
     -- what the walk needs to know of it
     pub first-walking : {known prepared cs next : List ℕ} → KnownOf words args known → MayPair words args left right (mayIn known) → Formed words args known cs → StandsAlways words args cs → Trailed (nodeCount words) cs next → Prepared words args known cs prepared → (lent : List ℕ) → Walking words args left right labels known prepared cs next 0 1 (length right) 0 first-entry (replicate 64 0) lent 0
-    unfolding keyOf
+    unfolding keyOfDigits
     first-walking k m f s o y lent =
         record {
           listable = g;

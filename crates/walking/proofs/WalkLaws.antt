@@ -32,7 +32,7 @@ use Rattle.branches.specs.declared.Labels.{Labels}
 use Rattle.entries.specs.declared.Written.{Written}
 use Rattle.entries.specs.Code.Writing.{Writes, Remains}
 use Rattle.branches.specs.Code.Branch.{Listable, pairedBy, pairsIn, marksIn, FreeMark}
-use Rattle.branches.specs.Code.Memory.{keyOf, slotOf, Remembers}
+use Rattle.branches.specs.Code.Memory.{keyOfDigits, slotOf, Remembers}
 use Rattle.branches.specs.Code.Partners.{stuck}
 use Rattle.branches.specs.Code.Known.{mayIn}
 use Rattle.branches.specs.Code.Walk.{over, ifUnified, onDigit, below, unpairedIn, hopeless, Branching, Walking, Joining, branchEntries, digitEntries, KeepsBranch, WritesBelow, Walked, WalkedJoined, Stepped, Turning}
@@ -305,7 +305,7 @@ module _ {words args left right : List ℕ} {labels : Labels} {known prepared cs
                 room = g .room;
               }
             where
-              keyed : key + d * weight ≡ keyOf (length right) (take i entry ++ d ∷ [])
+              keyed : key + d * weight ≡ keyOfDigits (length right) (take i entry ++ d ∷ [])
               keyed = rw (key-paired (length right) (take i entry) d l, digits-long, ← g .branching .weighed, ← g .branching .keyed) refl
 
           -- its entries are those below it, if it can be

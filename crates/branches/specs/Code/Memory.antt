@@ -21,13 +21,13 @@ abbrev pub slotOf : ℕ → ℕ
 slotOf key = key % 31
 
 -- The key of left digits, where there are m right terms: a digit for each that pairs, 0 for each that puts in a label.
-unfoldable pub keyOf : ℕ → List ℕ → ℕ
-keyOf m [] = 0
-keyOf m (d ∷ ds) = cond (leb d m) d 0 + 16 * keyOf m ds
+unfoldable pub keyOfDigits : ℕ → List ℕ → ℕ
+keyOfDigits m [] = 0
+keyOfDigits m (d ∷ ds) = cond (leb d m) d 0 + 16 * keyOfDigits m ds
 
 -- The key of the first i left digits of an entry.
 abbrev pub Keyed : List ℕ → List ℕ → List ℕ → ℕ → ℕ → Type 0
-Keyed left right entry i key = key ≡ keyOf (length right) (take i entry)
+Keyed left right entry i key = key ≡ keyOfDigits (length right) (take i entry)
 
 -- The first i left digits of an entry count from 1, and the terms that they can pair are nodes.
 pub record Pairable (words left right entry : List ℕ) (i : ℕ) : Type 0 where
@@ -41,7 +41,7 @@ pub record Lies (words args left right : List ℕ) (key place : ℕ) (lent : Lis
   pub digits : List ℕ
   pub long : length digits ≡ length left
   pub positive : (j : ℕ) → j < length digits → 0 < word digits j
-  pub keyed : key ≡ suc (keyOf (length right) digits)
+  pub keyed : key ≡ suc (keyOfDigits (length right) digits)
   pub room : place + widthOf words args left right ≤ at
   pub unifiable : outcome (nodesFrom words args) (pairedBy left right digits []) ≡ unified
   pub bound : take (length (variablesOf (nodesFrom words args))) (drop (place + (length left + length right)) lent) ≡ wordsOf (nodesFrom words args) (pairedBy left right digits [])
