@@ -83,7 +83,7 @@ fn list_known(
 }
 
 // The same where there are open applications: binding words are prepared for.
-fn list_open(
+fn prepare_and_list(
     nodes: &[u32],
     arguments: &[u32],
     left: &[u32],
@@ -155,7 +155,7 @@ fn list_with_room(
         known,
     );
     if some_open {
-        return list_open(
+        return prepare_and_list(
             nodes,
             arguments,
             left,

@@ -53,8 +53,8 @@ complete-known-requires c κs =
     let k = c .before .before .before .before .before .before .before .begin-known in
     (p .0, ((begun-trying (p .0) (b .ensures) e (c .before .before .before .before .before .before .before .before .before .before .before .make-circles .ensures), pairs-begun (p .0) (p .1 .2) (k .kept .1 .1 .0) (k .ensures .0) (k .ensures .1 .1)), begun-list (p .0) (b .ensures)))
 
-list-open-requires : tie.Need-list-open-requires
-list-open-requires c κs =
+prepare-and-list-requires : tie.Need-prepare-and-list-requires
+prepare-and-list-requires c κs =
     let p = c .before .before .before .before .before .before .before .before .before .before .before .before .before .before .before .before .before .before .before .before .before .before .before .before .before .before .before .before .before .before .before .before .before .before .before .before .before .before .before .before .pre in
     let b = c .before .before .before .before .before .before .before .before .before .before .before .before .before .before .before .before .before .before .before .before .before .before .before .before .before .before .before .before .before .before .begin-shared in
     let e = b .kept .1 .1 .0 ∙ p .1 .0 in
@@ -62,10 +62,10 @@ list-open-requires c κs =
     (p .0, (k .0, (rw (k .1 .1 .0, k .1 .1 .1) (begun-classes (p .0) (b .ensures) e (k .0 .0) (c .before .before .before .before .before .before .before .before .before .before .before .before .before .before .before .before .before .before .before .before .before .before .before .make-circles .ensures)), (begun-width (p .0) (b .ensures), omega (arith, c .before .before .before .before .before .before .before .before .before .before .before .before .before .before .before .before .before .before .before .before .before .before .before .before .before .before .if1 .left)))))
 
 same-length-2 : tie.Need-same-length-2
-same-length-2 c = c .before .before .before .before .before .before .list-open .kept .1 .1 .1 .1 .1 .1 .0 ∙ c .before .before .before .before .before .before .before .before .before .before .before .before .before .before .before .before .before .before .complete-known .kept .1 .1 .1 .1 .1 .1 .0 ∙ c .before .before .before .before .before .before .before .before .before .before .before .before .before .before .before .before .before .before .before .before .before .before .before .before .before .before .before .before .before .before .before .before .before .before .before .before .before .begin-shared .kept .1 .1 .0
+same-length-2 c = c .before .before .before .before .before .before .prepare-and-list .kept .1 .1 .1 .1 .1 .1 .0 ∙ c .before .before .before .before .before .before .before .before .before .before .before .before .before .before .before .before .before .before .complete-known .kept .1 .1 .1 .1 .1 .1 .0 ∙ c .before .before .before .before .before .before .before .before .before .before .before .before .before .before .before .before .before .before .before .before .before .before .before .before .before .before .before .before .before .before .before .before .before .before .before .before .before .begin-shared .kept .1 .1 .0
 
 same-length-3 : tie.Need-same-length-3
-same-length-3 c = c .before .before .before .before .before .before .list-open .kept .1 .1 .1 .1 .1 .1 .1 .0 ∙ c .before .before .before .before .before .before .before .before .before .before .before .before .before .before .before .before .before .before .complete-known .kept .1 .1 .1 .1 .1 .1 .1 .0 ∙ c .before .before .before .before .before .before .before .before .before .before .before .before .before .before .before .before .before .before .before .before .before .before .before .before .before .before .before .before .before .before .make-circles .kept .1 .0
+same-length-3 c = c .before .before .before .before .before .before .prepare-and-list .kept .1 .1 .1 .1 .1 .1 .1 .0 ∙ c .before .before .before .before .before .before .before .before .before .before .before .before .before .before .before .before .before .before .complete-known .kept .1 .1 .1 .1 .1 .1 .1 .0 ∙ c .before .before .before .before .before .before .before .before .before .before .before .before .before .before .before .before .before .before .before .before .before .before .before .before .before .before .before .before .before .before .make-circles .kept .1 .0
 
 same-length-4 : tie.Need-same-length-4
 same-length-4 c = search needs
@@ -124,7 +124,7 @@ list-with-room-spec =
     part-complete-known-start
     part-complete-known-end
     complete-known-requires
-    list-open-requires
+    prepare-and-list-requires
     same-length-2
     same-length-3
     same-length-4

@@ -1,8 +1,8 @@
--- `listing::call::list_open` meets its contract: what is prepared is all that is asked for beside what it is given. Assumes nothing.
+-- `listing::call::prepare_and_list` meets its contract: what is prepared is all that is asked for beside what it is given. Assumes nothing.
 use borrow.Author.Needs.{needs}
 use Rattle.values.specs.Code.Prepared.{with-open}
-use Rattle.listing.proofs.call.list_open.Statement.{statement}
-use Rattle.listing.proofs.call.list_open.Tie as tie
+use Rattle.listing.proofs.call.prepare_and_list.Statement.{statement}
+use Rattle.listing.proofs.call.prepare_and_list.Tie as tie
 
 slice-aggregate-prepare : tie.Need-slice-aggregate-prepare
 slice-aggregate-prepare c = search needs
@@ -30,8 +30,8 @@ same-length-3 c = search needs
 returns : tie.Need-returns
 returns c = search needs
 
-pub list-open-spec : {M : Type 1} → statement M
-list-open-spec =
+pub prepare-and-list-spec : {M : Type 1} → statement M
+prepare-and-list-spec =
     tie.close
     (tie.spec
     slice-aggregate-prepare
