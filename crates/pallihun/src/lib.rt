@@ -1,16 +1,11 @@
 // The library for callers in other languages: the functions that include/pallihun.h declares.
 ghost use mathlib.Core.Path.{_≡_};
 ghost use mathlib.Core.Bool.{cond};
-ghost use mathlib.Core.List.{[], _∷_};
-ghost use mathlib.Core.Logic.{_⊎_};
 ghost use lib.Dec.{eqb};
-ghost use lib.ListN.{length, take};
-ghost use Rattle.terms.specs.Substitution.{Substitution};
+ghost use lib.ListN.{length};
 ghost use Rattle.table.specs.Refusal.{refusal};
-ghost use Rattle.unification.specs.Node.{nodesIn};
-ghost use Rattle.unification.specs.Unifier.{value, MostGeneral};
-ghost use Rattle.unification.specs.Words.{Reads};
-ghost use Rattle.unification.specs.Answer.{variableCount, unification, lentAfter};
+ghost use Rattle.unification.specs.Answer.{Answer, unification, lentAfter};
+ghost use Rattle.unification.specs.Decided.{Decided};
 ghost use Rattle.multiset_unification.specs.Answer.{listed, entryWords, lentAfter as listingAfter};
 ghost use Rattle.multiset_unification.specs.Page14.{Page14};
 ghost use Rattle.pallihun.specs.Numbers.{numberOf, numbersOf};
@@ -41,9 +36,7 @@ pub extern "C" fn pallihun_check(table: &[u32]) -> u32
 pub extern "C" fn pallihun_unify(table: &[u32], a: u32, b: u32, out: &mut [u32]) -> u32
     ensures { λ r. ⌜ r ≡ numberOf (unification (now (table .entry)) a b (length (now (out .entry)))) ⌝ }
     ensures { λ r. ⌜ now (out .exit) ≡ lentAfter (now (table .entry)) a b (now (out .entry)) ⌝ }
-    ensures { λ r. ⌜ (r ≡ 0 → (σ : Substitution) × Reads (nodesIn (now (table .entry))) (take (variableCount (now (table .entry))) (now (out .exit))) σ) ⌝ }
-    ensures { λ r. ⌜ (r ≡ 0 → (σ : Substitution) → Reads (nodesIn (now (table .entry))) (take (variableCount (now (table .entry))) (now (out .exit))) σ → MostGeneral (nodesIn (now (table .entry))) ((a, b) ∷ []) σ) ⌝ }
-    ensures { λ r. ⌜ ((r ≡ 1000) ⊎ (r ≡ 1001) → (σ : Substitution) → value (nodesIn (now (table .entry))) σ a ≡ value (nodesIn (now (table .entry))) σ b → ⊥) ⌝ }
+    ensures decided { λ r. ⌜ ((o : Answer) → r ≡ numberOf o → Decided (now (table .entry)) a b o (now (out .exit))) ⌝ }
 {
     numbers::of_unification(unify::unify(table, Node(a), Node(b), out))
 }

@@ -2,7 +2,7 @@
 -- By cases on the answer. Assumes nothing.
 use Prim.Native.Nat.{ℕ, zero, suc, _+_, _<_, _≤_}
 use mathlib.Core.List.{List, [], _∷_, _++_, map, List·Memᴰ, List·Memᴰ·head, List·Memᴰ·tail, List·Memᴰ·eq-of-singleton}
-use mathlib.Core.Logic.{_↔_}
+use mathlib.Core.Logic.{⊎-elim, _↔_}
 use mathlib.Core.Path.{_≡_, refl, sym, ap, _∙_}
 use native.Mathlib.Omega.{arith}
 use borrow.Author.Tests.{ltb-false, leb-false, lt-leb, le-ltb}
@@ -30,6 +30,7 @@ use Rattle.unification.specs.Computed.Binding.{wordOf, bindingWords}
 use Rattle.unification.specs.Outcome.{Outcome, unified, clash, occurs}
 use Rattle.unification.specs.Computed.Unifying.{outcome, unifier, wordsOf}
 use Rattle.unification.specs.Answer.{told, variableCount, unifyConditions, Answer, ended, refused, answerAfter, unification, wordsAfter, lentAfter}
+use Rattle.unification.specs.Decided.{Decided}
 use Rattle.unification.proofs.VariableLaws.{variables-few}
 use Rattle.unification.proofs.TableLaws.{variable-most, well-formed}
 use Rattle.unification.proofs.JoinedLaws.{clash-none, cycle-none}
@@ -223,6 +224,15 @@ module _ (t : List ℕ) (a b : ℕ) (lent : List ℕ) where
     pub unified-least : (σ : Substitution) → MostGeneral (nodesIn t) ((a, b) ∷ []) σ → AreWords (nodesIn t) σ (take (variableCount t) (lentAfter t a b lent))
     unified-least σ g =
         rw (unified-words t a b lent e) (words-least (nodesIn t) (well-formed t (r .0 .table)) ((a, b) ∷ []) (one-pair (r .0)) σ g)
+
+  -- an answer and words that are a call's decide of the two terms
+  pub decided : (answer : Answer) (words : List ℕ) → answer ≡ unification t a b (length lent) → words ≡ lentAfter t a b lent → Decided t a b answer words
+  decided answer words e d =
+      record {
+        readable = λ z. (unifier (nodesIn t) ((a, b) ∷ []), rw d (unified-readable (sym e ∙ z)));
+        most-general = λ z σ q. unified-reading (sym e ∙ z) σ (rw d at q);
+        none-equal = λ z. ⊎-elim (λ q. clash-fails (sym e ∙ q)) (λ q. occurs-fails (sym e ∙ q)) z;
+      }
 
 from-outcome : Outcome → Unification
 from-outcome unified = Unification.Unified

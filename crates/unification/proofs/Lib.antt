@@ -23,4 +23,5 @@ pub mod PairLaws
 pub mod TogetherLaws
 pub mod ValuedLaws
 pub mod AnswerLaws
+pub mod DecidedLaws
 pub mod Calls

@@ -24,18 +24,18 @@ use Rattle.table.proofs.AnswerLaws.{number-above}
 use Rattle.terms.specs.Substitution.{Substitution}
 use Rattle.unification.specs.declared.Unification.{Unification}
 use Rattle.unification.specs.Node.{Node, nodesIn}
-use Rattle.unification.specs.Unifier.{value, Unifies, MostGeneral}
-use Rattle.unification.specs.Words.{Reads}
+use Rattle.unification.specs.Unifier.{value, Unifies}
 use Rattle.unification.specs.Computed.Variables.{variablesOf}
-use Rattle.unification.specs.Computed.Unifying.{outcome, unifier, wordsOf}
+use Rattle.unification.specs.Computed.Unifying.{outcome, wordsOf}
 use Rattle.unification.specs.Answer as answer
 use Rattle.unification.specs.Answer.{told, variableCount, unifyConditions, ended, unification, wordsAfter, lentAfter}
+use Rattle.unification.specs.Decided.{Decided}
 use Rattle.unification.specs.Code.Given.{Inside}
 use Rattle.unification.specs.Code.Sections.{nodesFrom, Sections}
 use Rattle.unification.proofs.SectionLaws.{nodes-long, is-node, sections-well-formed}
 use Rattle.unification.proofs.OutcomeLaws.{outcome-unified}
 use Rattle.unification.proofs.PairLaws.{same-unifiers}
-use Rattle.unification.proofs.AnswerLaws.{words-counted, refused-exactly, answered-exactly, unified-readable, unified-reading, clash-fails, occurs-fails}
+use Rattle.unification.proofs.AnswerLaws.{words-counted, refused-exactly, answered-exactly, decided}
 use Rattle.values.specs.declared.Variables.{Variables}
 use Rattle.classes.specs.declared.Extended.{Extended}
 use Rattle.nodes.specs.Code.Circle.{HeadsFirst}
@@ -187,26 +187,11 @@ list-given words args v n l h =
 
 -- All that is promised of a call.
 abbrev pub Promised : List ℕ → ℕ → ℕ → List ℕ → Unification → List ℕ → Type 0
-Promised t a b lent r lent′ = (told r ≡ unification t a b (length lent)) × ((lent′ ≡ lentAfter t a b lent) × ((r ≡ Unification.Unified → (σ : Substitution) × Reads (nodesIn t) (take (variableCount t) lent′) σ) × ((r ≡ Unification.Unified → (σ : Substitution) → Reads (nodesIn t) (take (variableCount t) lent′) σ → MostGeneral (nodesIn t) ((a, b) ∷ []) σ) × ((r ≡ Unification.Clash) ⊎ (r ≡ Unification.Occurs) → (σ : Substitution) → value (nodesIn t) σ a ≡ value (nodesIn t) σ b → ⊥))))
+Promised t a b lent r lent′ = (told r ≡ unification t a b (length lent)) × ((lent′ ≡ lentAfter t a b lent) × Decided t a b (told r) lent′)
 
--- What follows for the words and the two terms from the answer and the lent words after a call.
-module _ (t : List ℕ) (a b : ℕ) (lent : List ℕ) (r : Unification) (lent′ : List ℕ) (e : told r ≡ unification t a b (length lent)) (d : lent′ ≡ lentAfter t a b lent) where
-  -- unified: the words left can be read
-  readable : r ≡ Unification.Unified → (σ : Substitution) × Reads (nodesIn t) (take (variableCount t) lent′) σ
-  readable z =
-      (unifier (nodesIn t) ((a, b) ∷ []), rw d (unified-readable t a b lent (sym e ∙ ap told z)))
-
-  -- and whatever is read from them is a most general unifier of the two terms
-  read-most-general : r ≡ Unification.Unified → (σ : Substitution) → Reads (nodesIn t) (take (variableCount t) lent′) σ → MostGeneral (nodesIn t) ((a, b) ∷ []) σ
-  read-most-general z σ q = unified-reading t a b lent (sym e ∙ ap told z) σ (rw d at q)
-
-  -- clash or occurs: no substitution makes the two terms equal
-  none-equal : (r ≡ Unification.Clash) ⊎ (r ≡ Unification.Occurs) → (σ : Substitution) → value (nodesIn t) σ a ≡ value (nodesIn t) σ b → ⊥
-  none-equal (inl z) = clash-fails t a b lent (sym e ∙ ap told z)
-  none-equal (inr z) = occurs-fails t a b lent (sym e ∙ ap told z)
-
-  promised : Promised t a b lent r lent′
-  promised = (e, (d, (readable, (read-most-general, none-equal))))
+-- what the answer and the lent words decide follows from what they are
+promised : (t : List ℕ) (a b : ℕ) (lent : List ℕ) (r : Unification) (lent′ : List ℕ) → told r ≡ unification t a b (length lent) → lent′ ≡ lentAfter t a b lent → Promised t a b lent r lent′
+promised t a b lent r lent′ e d = (e, (d, decided t a b lent (told r) lent′ e d))
 
 -- no lent word is changed where the table is refused
 refused-words : (t : List ℕ) (a b : ℕ) (lent : List ℕ) (r : Refusal) → told (Unification.Refused r) ≡ unification t a b (length lent) → lent ≡ lentAfter t a b lent

@@ -2,7 +2,7 @@
 use mathlib.Core.Path.{ap, _∙_}
 use borrow.Author.Needs.{needs}
 use Rattle.pallihun.specs.Numbers.{numberOf}
-use Rattle.pallihun.proofs.NumberLaws.{is-unified, is-failure}
+use Rattle.pallihun.proofs.NumberLaws.{decided-number}
 use Rattle.pallihun.proofs.pallihun_unify.Statement.{statement}
 use Rattle.pallihun.proofs.pallihun_unify.Tie as tie
 
@@ -18,8 +18,8 @@ same-length c = search needs
 returns : tie.Need-returns
 returns c =
     let n = c .of-unification .ensures in
-    let u = c .before .before .before .unify .ensures in
-    (n ∙ ap numberOf (u .0), (u .1 .0, (λ z. u .1 .1 .0 (is-unified _ _ n z), (λ z. u .1 .1 .1 .0 (is-unified _ _ n z), λ f. u .1 .1 .1 .1 (is-failure _ _ n f)))))
+    let u = c .before .before .before .unify in
+    (n ∙ ap numberOf (u .ensures .0), (u .ensures .1 .0, decided-number (u .result) _ n (u .ensures .1 .1)))
 
 pub pallihun-unify-spec : {M : Type 1} → statement M
 pallihun-unify-spec = tie.close (tie.spec unify-requires of-unification-requires same-length returns)
