@@ -42,14 +42,14 @@ use Rattle.values.proofs.NamedLaws.{variable-name, named-valued, head-alike}
 use Rattle.binding.proofs.NotingLaws.{noted-all}
 use Rattle.values.proofs.LeastLaws.{rising-places, least-long}
 
-module _ (words args list : List ℕ) (e : list ≡ leastNodes (nodesFrom words args)) where
+module _ (nodes arguments list : List ℕ) (e : list ≡ leastNodes (nodesFrom nodes arguments)) where
   -- The nodes of the two sections.
   abbrev ns : List Node
-  ns = nodesFrom words args
+  ns = nodesFrom nodes arguments
 
   -- there is a place for each variable present
   list-long : length list ≡ length (variablesOf ns)
-  list-long = ap length e ∙ least-long words args
+  list-long = ap length e ∙ least-long nodes arguments
 
   -- with its least node
   list-at : (k : ℕ) → k < length (variablesOf ns) → word list k ≡ nodeOf ns (word (variablesOf ns) k)
@@ -69,15 +69,15 @@ module _ (words args list : List ℕ) (e : list ≡ leastNodes (nodesFrom words 
       variables-present ns (word (variablesOf ns) k) (placed (variablesOf ns) k (rw list-long at h))
 
   -- the least nodes are nodes
-  pub least-nodes : AreNodes words list
+  pub least-nodes : AreNodes nodes list
   least-nodes =
       record {
         node = λ k h.
             let l = node-of ns (word (variablesOf ns) k) (at k h) in
-            rw (list-at k (rw list-long at h)) (rw (nodes-long words args) at (l .holds .0));
+            rw (list-at k (rw list-long at h)) (rw (nodes-long nodes arguments) at (l .holds .0));
       }
 
-  module _ (cs names : List ℕ) (m : HeadNames words args cs names) (ps : List (ℕ × ℕ)) (c : IsClosure ns ps (classOf cs)) (by all : List ℕ) (a : ApplicationsNoted words cs names by) (f : FreeFrom words cs names list by all 0) where
+  module _ (cs names : List ℕ) (m : HeadNames nodes arguments cs names) (ps : List (ℕ × ℕ)) (c : IsClosure ns ps (classOf cs)) (by all : List ℕ) (a : ApplicationsNoted nodes cs names by) (f : FreeFrom nodes cs names list by all 0) where
     -- What stands at the name of variable x is its word by names.
     abbrev IsFound : ℕ → Type 0
     IsFound x = IsNamed ns (classOf cs) (valueName cs names) x (word all (valueName cs names (nodeOf ns x)))
@@ -85,16 +85,16 @@ module _ (words args list : List ℕ) (e : list ≡ leastNodes (nodesFrom words 
     -- where the head is an application
     named-bound : (x i g : ℕ) (us : List ℕ) → i < length ns → nodeAt ns i ≡ variable x → nodeAt ns (classOf cs i) ≡ application g us → IsNamed ns (classOf cs) (valueName cs names) x (word all (valueName cs names i))
     named-bound x i g us p v d =
-        let n = counted words args i p in
-        let k = from-application words args (classOf cs i) (m .readable .partition .below i n) g us d .0 in
+        let n = counted nodes arguments i p in
+        let k = from-application nodes arguments (classOf cs i) (m .readable .partition .below i n) g us d .0 in
         let w = word by (valueName cs names i) in
         let r = a .least i n k in
         let q : word all (valueName cs names i) ≡ w = f .applied (valueName cs names i) (m .named .application i n k) in
         rw q
         (bound {i = i} {f = g} {w = w} {us = us} p v d
         (record {
-          holds = (nameOf words w, run words args w, is-node words args w (r .holds .0), application-from words args w (r .holds .0) (r .holds .1), r .holds .2);
-          least = λ j t. r .least j (counted words args j (t .2), from-application words args j (counted words args j (t .2)) (t .0) (t .1) (t .3) .0, t .4);
+          holds = (nameOf nodes w, run nodes arguments w, is-node nodes arguments w (r .holds .0), application-from nodes arguments w (r .holds .0) (r .holds .1), r .holds .2);
+          least = λ j t. r .least j (counted nodes arguments j (t .2), from-application nodes arguments j (counted nodes arguments j (t .2)) (t .0) (t .1) (t .3) .0, t .4);
         }))
 
     -- where it is a variable
@@ -103,18 +103,18 @@ module _ (words args list : List ℕ) (e : list ≡ leastNodes (nodesFrom words 
       own : Least (λ j. (j < length ns) × (nodeAt ns j ≡ variable x)) (nodeOf ns x)
       own = node-of ns x p
 
-      head-free : (kindOf words (classOf cs (nodeOf ns x)) ≡ 0) × (valueName cs names (nodeOf ns x) ≡ classOf cs (nodeOf ns x))
+      head-free : (kindOf nodes (classOf cs (nodeOf ns x)) ≡ 0) × (valueName cs names (nodeOf ns x) ≡ classOf cs (nodeOf ns x))
       head-free =
-          variable-name words args cs names (m .readable .sections) (m .readable .partition) (m .named) (nodeOf ns x) z (own .holds .0) d
+          variable-name nodes arguments cs names (m .readable .sections) (m .readable .partition) (m .named) (nodeOf ns x) z (own .holds .0) d
 
       -- a place with its name has a variable for a head
-      place-free : (k : ℕ) → k < length list → nameAt cs names list k ≡ valueName cs names (nodeOf ns x) → IsFree words cs list k
-      place-free k h n = pick (ℕ-discrete (kindOf words (classOf cs (word list k))) 0)
+      place-free : (k : ℕ) → k < length list → nameAt cs names list k ≡ valueName cs names (nodeOf ns x) → IsFree nodes cs list k
+      place-free k h n = pick (ℕ-discrete (kindOf nodes (classOf cs (word list k))) 0)
         where
-          pick : Dec (IsFree words cs list k) → IsFree words cs list k
+          pick : Dec (IsFree nodes cs list k) → IsFree nodes cs list k
           pick (yes y) = y
           pick (no y) =
-              absurd (m .named .application (word list k) (least-nodes .node k h) y (ap (kindOf words) (n ∙ head-free .1) ∙ head-free .0))
+              absurd (m .named .application (word list k) (least-nodes .node k h) y (ap (kindOf nodes) (n ∙ head-free .1) ∙ head-free .0))
 
       -- a variable with its name has a place with its name
       named-place : (y : ℕ) → NamedVariable ns (valueName cs names) (valueName cs names (nodeOf ns x)) y → (k : ℕ) × (k < length list) × (y ≡ word (variablesOf ns) k) × (nameAt cs names list k ≡ valueName cs names (nodeOf ns x))
@@ -125,7 +125,7 @@ module _ (words args list : List ℕ) (e : list ≡ leastNodes (nodesFrom words 
           (r .0, r .1, r .2, ap (valueName cs names) (r .3) ∙ ap (word names) g ∙ n)
 
       -- so the variable at the least such place is the lowest with its name
-      named-lowest : (k : ℕ) → Least (Writes (IsFree words cs list) (nameAt cs names list) 0 (length list) (valueName cs names (nodeOf ns x))) k → word all (valueName cs names (nodeOf ns x)) ≡ word list k → IsFound x
+      named-lowest : (k : ℕ) → Least (Writes (IsFree nodes cs list) (nameAt cs names list) 0 (length list) (valueName cs names (nodeOf ns x))) k → word all (valueName cs names (nodeOf ns x)) ≡ word list k → IsFound x
       named-lowest k r q =
           let h : k < length list = r .holds .1 in
           let w : word list k ≡ nodeOf ns (word (variablesOf ns) k) = list-at k (rw list-long at h) in
@@ -173,27 +173,27 @@ module _ (words args list : List ℕ) (e : list ≡ leastNodes (nodesFrom words 
         (matched-by (λ x. word all (valueName cs names (nodeOf ns x))) (variablesOf ns) named-present)
 
 -- the sections, heads and their names
-pub heads-named : (words args cs names : List ℕ) → Named words args cs names → Sections words args → Partition (nodeCount words) cs → length names ≡ nodeCount words → HeadNames words args cs names
-heads-named words args cs names m s p l = record { readable = record { sections = s; partition = p; long = l }; named = m }
+pub heads-named : (nodes arguments cs names : List ℕ) → Named nodes arguments cs names → Sections nodes arguments → Partition (nodeCount nodes) cs → length names ≡ nodeCount nodes → HeadNames nodes arguments cs names
+heads-named nodes arguments cs names m s p l = record { readable = record { sections = s; partition = p; long = l }; named = m }
 
 -- the name of an application names itself
-name-itself : (words args counts cs names : List ℕ) → HeadNames words args cs names → NamesLeast words args counts cs names → (ps : List (ℕ × ℕ)) → IsClosure (nodesFrom words args) ps (classOf cs) → (i : ℕ) → i < nodeCount words → Applied words cs i → valueName cs names (valueName cs names i) ≡ valueName cs names i
-name-itself words args counts cs names m t ps c i h n =
+name-itself : (nodes arguments counts cs names : List ℕ) → HeadNames nodes arguments cs names → NamesLeast nodes arguments counts cs names → (ps : List (ℕ × ℕ)) → IsClosure (nodesFrom nodes arguments) ps (classOf cs) → (i : ℕ) → i < nodeCount nodes → Applied nodes cs i → valueName cs names (valueName cs names i) ≡ valueName cs names i
+name-itself nodes arguments counts cs names m t ps c i h n =
     let v = valueName cs names i in
     let l = m .named .node i h in
-    let x = head-alike words args cs names (m .readable .sections) (m .readable .partition) ps c v l (m .named .application i h n) in
+    let x = head-alike nodes arguments cs names (m .readable .sections) (m .readable .partition) ps c v l (m .named .application i h n) in
     sym (m .named .composed i v h l n (x .0) (alike-on (alike-back (t .alike i h n)) (x .1)))
 
 -- the words found are the binding words
-pub found-leaves : (words args counts cs names opens list out out′ : List ℕ) → WordsFound words cs names opens list out out′ → HeadNames words args cs names → NamesLeast words args counts cs names → Counts words args counts (nodeCount words) → OpenListed words counts opens → Formed words args counts cs → list ≡ leastNodes (nodesFrom words args) → Leaves words args cs out out′
-found-leaves words args counts cs names opens list out out′ f m l k o g e ps t =
+pub found-leaves : (nodes arguments counts cs names opens list out out′ : List ℕ) → WordsFound nodes cs names opens list out out′ → HeadNames nodes arguments cs names → NamesLeast nodes arguments counts cs names → Counts nodes arguments counts (nodeCount nodes) → OpenListed nodes counts opens → Formed nodes arguments counts cs → list ≡ leastNodes (nodesFrom nodes arguments) → Leaves nodes arguments cs out out′
+found-leaves nodes arguments counts cs names opens list out out′ f m l k o g e ps t =
     let s = m .readable .sections in
     let p = m .readable .partition in
     let h = t .inside in
     let c = t .closure in
-    let a = noted-all words args cs names m opens counts (f .applications) o l (name-itself words args counts cs names m l ps c) (f .noted) in
-    let d : wordsOf (nodesFrom words args) ps ≡ readAt cs names (f .all) list = names-decide (nodesFrom words args) (sections-well-formed words args s) ps h (classOf cs) (rank words counts (g .order)) (ordered-solved words args s counts k cs p (g .closed) ps h c (g .order) (g .ordered)) (suc (nodeCount words + suc (length (g .order)))) (ordered-enough words args s counts k cs p (g .closed) ps h c (g .order) (g .ordered)) (valueName cs names) (named-valued words args cs names s p (m .named)) (readAt cs names (f .all) list) (named-read words args list e cs names m ps c (f .applications) (f .all) a (f .free)) in
-    f .words-read ∙ ap (λ (n : List ℕ). n ++ drop (length list) out) (sym d) ∙ ap (λ (n : ℕ). wordsOf (nodesFrom words args) ps ++ drop n out) (ap length e ∙ least-long words args)
+    let a = noted-all nodes arguments cs names m opens counts (f .applications) o l (name-itself nodes arguments counts cs names m l ps c) (f .noted) in
+    let d : wordsOf (nodesFrom nodes arguments) ps ≡ readAt cs names (f .all) list = names-decide (nodesFrom nodes arguments) (sections-well-formed nodes arguments s) ps h (classOf cs) (rank nodes counts (g .order)) (ordered-solved nodes arguments s counts k cs p (g .closed) ps h c (g .order) (g .ordered)) (suc (nodeCount nodes + suc (length (g .order)))) (ordered-enough nodes arguments s counts k cs p (g .closed) ps h c (g .order) (g .ordered)) (valueName cs names) (named-valued nodes arguments cs names s p (m .named)) (readAt cs names (f .all) list) (named-read nodes arguments list e cs names m ps c (f .applications) (f .all) a (f .free)) in
+    f .words-read ∙ ap (λ (n : List ℕ). n ++ drop (length list) out) (sym d) ∙ ap (λ (n : ℕ). wordsOf (nodesFrom nodes arguments) ps ++ drop n out) (ap length e ∙ least-long nodes arguments)
 
 -- the search for an order starts with no node placed
 pub nothing-placed : (n m : ℕ) → n ≡ m → n ≤ maxNodes → Starting m (take (n - 0) (replicate maxNodes 0)) (take (n - 0) (replicate maxNodes 0))
@@ -205,15 +205,15 @@ nothing-placed n m e l =
     }
 
 -- the order is the first part of a longer list
-pub ordered-part : (words args : List ℕ) (due : ℕ → ℕ) (cs xs ys : List ℕ) (k : ℕ) → k ≤ length xs → Ordered words args due cs (take k xs) → Ordered words args due cs (take (k - 0) (xs ++ ys))
-ordered-part words args due cs xs ys k h o = rw (sub-zero k, take-append-le k xs ys h) o
+pub ordered-part : (nodes arguments : List ℕ) (due : ℕ → ℕ) (cs xs ys : List ℕ) (k : ℕ) → k ≤ length xs → Ordered nodes arguments due cs (take k xs) → Ordered nodes arguments due cs (take (k - 0) (xs ++ ys))
+ordered-part nodes arguments due cs xs ys k h o = rw (sub-zero k, take-append-le k xs ys h) o
 
 -- where no variable is present there are no words, and nothing is written
-pub leaves-nothing : (words args cs list out : List ℕ) → list ≡ leastNodes (nodesFrom words args) → length list ≡ 0 → Leaves words args cs out out
+pub leaves-nothing : (nodes arguments cs list out : List ℕ) → list ≡ leastNodes (nodesFrom nodes arguments) → length list ≡ 0 → Leaves nodes arguments cs out out
 unfolding wordsOf bindingWords
-leaves-nothing words args cs list out e z ps s =
-    pick (variablesOf (nodesFrom words args)) (sym (ap length e ∙ least-long words args) ∙ z)
+leaves-nothing nodes arguments cs list out e z ps s =
+    pick (variablesOf (nodesFrom nodes arguments)) (sym (ap length e ∙ least-long nodes arguments) ∙ z)
   where
-    pick : (xs : List ℕ) → length xs ≡ 0 → out ≡ map (wordOf (nodesFrom words args) (unifier (nodesFrom words args) ps)) xs ++ drop (length xs) out
+    pick : (xs : List ℕ) → length xs ≡ 0 → out ≡ map (wordOf (nodesFrom nodes arguments) (unifier (nodesFrom nodes arguments) ps)) xs ++ drop (length xs) out
     pick [] e = refl
     pick (x ∷ xs) e = absurd (omega (arith, e))

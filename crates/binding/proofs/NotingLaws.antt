@@ -34,39 +34,39 @@ application-other cs names by i s m e d l =
     rw y
 
 -- open applications are applications
-pub open-applied : (words counts opens : List ℕ) → OpenListed words counts opens → AreApplied words opens
-open-applied words counts opens o = record { node = o .node; applied = o .applied }
+pub open-applied : (nodes counts opens : List ℕ) → OpenListed nodes counts opens → AreApplied nodes opens
+open-applied nodes counts opens o = record { node = o .node; applied = o .applied }
 
 -- a node whose head is an application is not noted as a free variable
-pub free-other : (words cs names list by : List ℕ) (k v h : ℕ) → v ≡ word list k → h ≡ classOf cs v → eqb (kindOf words h) 0 ≡ false → by ≡ freeNoted words cs names list by k
+pub free-other : (nodes cs names list by : List ℕ) (k v h : ℕ) → v ≡ word list k → h ≡ classOf cs v → eqb (kindOf nodes h) 0 ≡ false → by ≡ freeNoted nodes cs names list by k
 unfolding freeNoted
-free-other words cs names list by k v h d e z =
-    let y : eqb (kindOf words (classOf cs (word list k))) 0 ≡ false = rw (e ∙ ap (classOf cs) d) at z in
+free-other nodes cs names list by k v h d e z =
+    let y : eqb (kindOf nodes (classOf cs (word list k))) 0 ≡ false = rw (e ∙ ap (classOf cs) d) at z in
     rw y
 
 -- one whose head is a variable is, at its name
-pub free-noted : (words cs names list by : List ℕ) (k v h s : ℕ) → v ≡ word list k → h ≡ classOf cs v → eqb (kindOf words h) 0 ≡ true → s ≡ valueName cs names v → set by s v ≡ freeNoted words cs names list by k
+pub free-noted : (nodes cs names list by : List ℕ) (k v h s : ℕ) → v ≡ word list k → h ≡ classOf cs v → eqb (kindOf nodes h) 0 ≡ true → s ≡ valueName cs names v → set by s v ≡ freeNoted nodes cs names list by k
 unfolding freeNoted
-free-noted words cs names list by k v h s d e z q =
-    let y : eqb (kindOf words (classOf cs (word list k))) 0 ≡ true = rw (e ∙ ap (classOf cs) d) at z in
+free-noted nodes cs names list by k v h s d e z q =
+    let y : eqb (kindOf nodes (classOf cs (word list k))) 0 ≡ true = rw (e ∙ ap (classOf cs) d) at z in
     let p : s ≡ valueName cs names (word list k) = rw d at q in
     rw (y, d, p)
 
 -- a node of a list of nodes
-pub listed : (words list : List ℕ) → AreNodes words list → (k v : ℕ) → k < length list → v ≡ word list k → v < nodeCount words
-listed words list nodes k v h e = let b = nodes .node k h in omega arith
+pub listed : (nodes list : List ℕ) → AreNodes nodes list → (k v : ℕ) → k < length list → v ≡ word list k → v < nodeCount nodes
+listed nodes list inside k v h e = let b = inside .node k h in omega arith
 
-module _ (words args cs names : List ℕ) (m : HeadNames words args cs names) where
+module _ (nodes arguments cs names : List ℕ) (m : HeadNames nodes arguments cs names) where
   -- a head is a node
-  pub head-node : (i g : ℕ) → i < nodeCount words → g ≡ classOf cs i → g < nodeCount words
+  pub head-node : (i g : ℕ) → i < nodeCount nodes → g ≡ classOf cs i → g < nodeCount nodes
   head-node i g h e = rw e (m .readable .partition .below i h)
 
   -- and so is a name
-  pub name-node : (i r : ℕ) → i < nodeCount words → r ≡ valueName cs names i → r < nodeCount words
+  pub name-node : (i r : ℕ) → i < nodeCount nodes → r ≡ valueName cs names i → r < nodeCount nodes
   name-node i r h e = rw e (m .named .node i h)
 
   -- where each stands at its own number, none is noted yet
-  pub noted-none : (opens by : List ℕ) → length by ≡ nodeCount words → Themselves by → OpenNoted words cs names opens by 0
+  pub noted-none : (opens by : List ℕ) → length by ≡ nodeCount nodes → Themselves by → OpenNoted nodes cs names opens by 0
   noted-none opens by l t =
       record {
         long = l;
@@ -77,7 +77,7 @@ module _ (words args cs names : List ℕ) (m : HeadNames words args cs names) wh
       }
 
   module _ (opens : List ℕ) where
-    module _ (o : AreApplied words opens) (by : List ℕ) (k : ℕ) (h : k < length opens) (r : OpenNoted words cs names opens by k) where
+    module _ (o : AreApplied nodes opens) (by : List ℕ) (k : ℕ) (h : k < length opens) (r : OpenNoted nodes cs names opens by k) where
       -- The node that is noted, and its name.
       abbrev node : ℕ
       node = word opens k
@@ -98,7 +98,7 @@ module _ (words args cs names : List ℕ) (m : HeadNames words args cs names) wh
       elsewhere s n = getD-set-other by name s node 0 n
 
       -- a smaller one is put in its place
-      noted-smaller : node < word by name → OpenNoted words cs names opens (set by name node) (k + 1)
+      noted-smaller : node < word by name → OpenNoted nodes cs names opens (set by name node) (k + 1)
       noted-smaller l =
           record {
             long = length-set by name node ∙ r .long;
@@ -106,7 +106,7 @@ module _ (words args cs names : List ℕ) (m : HeadNames words args cs names) wh
             least = below-more (λ p. word (set by name node) (valueName cs names (word opens p)) ≤ word opens p) k (λ p b. least-at p b (ℕ-discrete (valueName cs names (word opens p)) name)) (omega (arith, here));
           }
         where
-          named-at : (s : ℕ) → s < nodeCount words → IsApplied words s → valueName cs names s ≡ s → Dec (s ≡ name) → (word (set by name node) s < nodeCount words) × IsApplied words (word (set by name node) s) × (valueName cs names (word (set by name node) s) ≡ s) × (word (set by name node) s ≤ s)
+          named-at : (s : ℕ) → s < nodeCount nodes → IsApplied nodes s → valueName cs names s ≡ s → Dec (s ≡ name) → (word (set by name node) s < nodeCount nodes) × IsApplied nodes (word (set by name node) s) × (valueName cs names (word (set by name node) s) ≡ s) × (word (set by name node) s ≤ s)
           named-at s b a e (yes z) =
               let d : word (set by name node) s ≡ node = ap (word (set by name node)) z ∙ here in
               let n = o .node k h in
@@ -124,11 +124,11 @@ module _ (words args cs names : List ℕ) (m : HeadNames words args cs names) wh
           least-at p b (no z) = rw (elsewhere (valueName cs names (word opens p)) z) (r .least p b)
 
       -- one open application more
-      pub noted-next : OpenNoted words cs names opens (applicationNoted cs names by node) (k + 1)
+      pub noted-next : OpenNoted nodes cs names opens (applicationNoted cs names by node) (k + 1)
       unfolding applicationNoted
       noted-next = pick (decLt node (word by name))
         where
-          pick : Dec (node < word by name) → OpenNoted words cs names opens (cond (ltb node (word by name)) (set by name node) by) (k + 1)
+          pick : Dec (node < word by name) → OpenNoted nodes cs names opens (cond (ltb node (word by name)) (set by name node) by) (k + 1)
           pick (yes l) = rw (lt-ltb node (word by name) l) (noted-smaller l)
           pick (no n) =
               let l : word by name ≤ node = omega (arith, n) in
@@ -140,7 +140,7 @@ module _ (words args cs names : List ℕ) (m : HeadNames words args cs names) wh
               })
 
     -- where all are, and names of applications name themselves, each stands at its name
-    pub noted-all : (counts by : List ℕ) → OpenListed words counts opens → NamesLeast words args counts cs names → ((i : ℕ) → i < nodeCount words → Applied words cs i → valueName cs names (valueName cs names i) ≡ valueName cs names i) → OpenNoted words cs names opens by (length opens) → ApplicationsNoted words cs names by
+    pub noted-all : (counts by : List ℕ) → OpenListed nodes counts opens → NamesLeast nodes arguments counts cs names → ((i : ℕ) → i < nodeCount nodes → Applied nodes cs i → valueName cs names (valueName cs names i) ≡ valueName cs names i) → OpenNoted nodes cs names opens by (length opens) → ApplicationsNoted nodes cs names by
     noted-all counts by o t itself r =
         record {
           least = λ i h n.
@@ -151,7 +151,7 @@ module _ (words args cs names : List ℕ) (m : HeadNames words args cs names) wh
               };
         }
       where
-        lower : (s k : ℕ) → k < nodeCount words → IsApplied words k → valueName cs names k ≡ s → word by s ≤ s → Dec (word counts k ≡ 0) → word by s ≤ k
+        lower : (s k : ℕ) → k < nodeCount nodes → IsApplied nodes k → valueName cs names k ≡ s → word by s ≤ s → Dec (word counts k ≡ 0) → word by s ≤ k
         lower s k h a e l (yes z) =
             let x = t .least k (record { node = h; applied = a; none = z }) in
             omega (arith, x, e, l)
@@ -160,51 +160,51 @@ module _ (words args cs names : List ℕ) (m : HeadNames words args cs names) wh
             let x = r .least (p .0) (p .1) in
             rw (p .2, e) at x
 
-  module _ (list : List ℕ) (nodes : AreNodes words list) (by : List ℕ) where
+  module _ (list : List ℕ) (inside : AreNodes nodes list) (by : List ℕ) where
     -- no free variable is noted yet
-    pub free-none : (k : ℕ) → length list ≡ k → length by ≡ nodeCount words → FreeFrom words cs names list by by k
+    pub free-none : (k : ℕ) → length list ≡ k → length by ≡ nodeCount nodes → FreeFrom nodes cs names list by by k
     free-none k e l =
         record {
           long = l;
-          kept = kept-none (IsFree words cs list) (nameAt cs names list) (word list) (length list) k (omega arith) by;
+          kept = kept-none (IsFree nodes cs list) (nameAt cs names list) (word list) (length list) k (omega arith) by;
           applied = λ s a. refl;
         }
 
     -- the name of a free variable is no application
-    free-name : (k s : ℕ) → k < length list → IsFree words cs list k → IsApplied words s → s ≡ nameAt cs names list k → ⊥
+    free-name : (k s : ℕ) → k < length list → IsFree nodes cs list k → IsApplied nodes s → s ≡ nameAt cs names list k → ⊥
     free-name k s h f a e =
-        a (ap (kindOf words) (e ∙ m .named .variable (word list k) (nodes .node k h) f) ∙ f)
+        a (ap (kindOf nodes) (e ∙ m .named .variable (word list k) (inside .node k h) f) ∙ f)
 
-    free-next : (by′ : List ℕ) (k : ℕ) → k < length list → FreeFrom words cs names list by by′ (suc k) → FreeFrom words cs names list by (freeNoted words cs names list by′ k) k
+    free-next : (by′ : List ℕ) (k : ℕ) → k < length list → FreeFrom nodes cs names list by by′ (suc k) → FreeFrom nodes cs names list by (freeNoted nodes cs names list by′ k) k
     unfolding freeNoted
-    free-next by′ k h r = pick (ℕ-discrete (kindOf words (classOf cs (word list k))) 0)
+    free-next by′ k h r = pick (ℕ-discrete (kindOf nodes (classOf cs (word list k))) 0)
       where
-        pick : Dec (IsFree words cs list k) → FreeFrom words cs names list by (cond (eqb (kindOf words (classOf cs (word list k))) 0) (set by′ (nameAt cs names list k) (word list k)) by′) k
+        pick : Dec (IsFree nodes cs list k) → FreeFrom nodes cs names list by (cond (eqb (kindOf nodes (classOf cs (word list k))) 0) (set by′ (nameAt cs names list k) (word list k)) by′) k
         pick (yes f) =
-            let b = m .named .node (word list k) (nodes .node k h) in
+            let b = m .named .node (word list k) (inside .node k h) in
             let l = r .long in
-            rw (eq-eqb (kindOf words (classOf cs (word list k))) 0 f)
+            rw (eq-eqb (kindOf nodes (classOf cs (word list k))) 0 f)
             (record {
               long = length-set by′ (nameAt cs names list k) (word list k) ∙ r .long;
-              kept = kept-set (IsFree words cs list) (nameAt cs names list) (word list) (length list) k by′ h f (omega (arith, b, l)) (r .kept);
+              kept = kept-set (IsFree nodes cs list) (nameAt cs names list) (word list) (length list) k by′ h f (omega (arith, b, l)) (r .kept);
               applied = λ s a. getD-set-other by′ (nameAt cs names list k) s (word list k) 0 (free-name k s h f a) ∙ r .applied s a;
             })
         pick (no f) =
-            rw (ne-eqb (kindOf words (classOf cs (word list k))) 0 f)
+            rw (ne-eqb (kindOf nodes (classOf cs (word list k))) 0 f)
             (record {
               long = r .long;
-              kept = kept-skip (IsFree words cs list) (nameAt cs names list) (word list) (length list) k by′ f (r .kept);
+              kept = kept-skip (IsFree nodes cs list) (nameAt cs names list) (word list) (length list) k by′ f (r .kept);
               applied = r .applied;
             })
 
     -- one place more
-    pub free-down : (by′ : List ℕ) (k : ℕ) → 0 < k → k ≤ length list → FreeFrom words cs names list by by′ k → FreeFrom words cs names list by (freeNoted words cs names list by′ (k - 1)) (k - 1)
+    pub free-down : (by′ : List ℕ) (k : ℕ) → 0 < k → k ≤ length list → FreeFrom nodes cs names list by by′ k → FreeFrom nodes cs names list by (freeNoted nodes cs names list by′ (k - 1)) (k - 1)
     free-down by′ k h l r =
         let e : k ≡ suc (k - 1) = omega arith in
         free-next by′ (k - 1) (omega arith) (rw e at r)
 
     -- all are noted
-    pub free-all : (by′ : List ℕ) (k : ℕ) → k ≤ 0 → FreeFrom words cs names list by by′ k → FreeFrom words cs names list by by′ 0
+    pub free-all : (by′ : List ℕ) (k : ℕ) → k ≤ 0 → FreeFrom nodes cs names list by by′ k → FreeFrom nodes cs names list by by′ 0
     free-all by′ k z r = let e : k ≡ 0 = omega arith in rw e at r
 
 module _ (cs names by list out : List ℕ) where

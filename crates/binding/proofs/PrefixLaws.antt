@@ -30,47 +30,47 @@ use Rattle.values.proofs.FindLaws.{order-short}
 use Rattle.binding.proofs.BindingLaws.{heads-named}
 
 -- there are no more nodes than the limit
-nodes-few : (words args : List ℕ) → Sections words args → nodeCount words ≤ maxNodes
-nodes-few words args s = let z = s .limit in omega (arith, z)
+nodes-few : (nodes arguments : List ℕ) → Sections nodes arguments → nodeCount nodes ≤ maxNodes
+nodes-few nodes arguments s = let z = s .limit in omega (arith, z)
 
-module _ (words args : List ℕ) (s : Sections words args) (counts cs : List ℕ) (k : Counts words args counts (nodeCount words)) (f : Formed words args counts cs) where
+module _ (nodes arguments : List ℕ) (s : Sections nodes arguments) (counts cs : List ℕ) (k : Counts nodes arguments counts (nodeCount nodes)) (f : Formed nodes arguments counts cs) where
   -- The term of a node.
   abbrev termAt : ℕ → Term
-  termAt = value (nodesFrom words args) var
+  termAt = value (nodesFrom nodes arguments) var
 
   -- closed applications of one class have one term
-  one-term : (a b : ℕ) → Marked words counts a → Marked words counts b → classOf cs a ≡ classOf cs b → termAt a ≡ termAt b
+  one-term : (a b : ℕ) → Marked nodes counts a → Marked nodes counts b → classOf cs a ≡ classOf cs b → termAt a ≡ termAt b
   one-term a b p q e = sym (f .closed .valued a p) ∙ ap termAt e ∙ f .closed .valued b q
 
-  module _ (names : List ℕ) (l : length names ≡ nodeCount words) (t : Themselves names) where
+  module _ (names : List ℕ) (l : length names ≡ nodeCount nodes) (t : Themselves names) where
     -- a class is named by its head
-    own-name : (i : ℕ) → i < nodeCount words → valueName cs names i ≡ classOf cs i
+    own-name : (i : ℕ) → i < nodeCount nodes → valueName cs names i ≡ classOf cs i
     own-name i h = let b = f .partition .below i h in t .itself (classOf cs i) (omega (arith, b, l))
 
     -- closed applications that are alike have one head
-    closed-alike : (g h : ℕ) → Marked words counts g → Marked words counts h → Alike words args cs names g h → classOf cs g ≡ classOf cs h
+    closed-alike : (g h : ℕ) → Marked nodes counts g → Marked nodes counts h → Alike nodes arguments cs names g h → classOf cs g ≡ classOf cs h
     closed-alike g h p q a =
-        let e : each termAt (run words args g) ≡ each termAt (run words args h) = each-equal termAt termAt (run words args g) (run words args h) (run-long words args s g (p .node) ∙ a .count ∙ sym (run-long words args s h (q .node))) (λ x y m. at x y (pair-place words args s g h (p .node) (q .node) x y .0 m)) in
-        f .closed .shared g h p q (spelt g p ∙ ap (λ (n : ℕ). app n (each termAt (run words args g))) (a .name) ∙ ap (app (nameOf words h)) e ∙ sym (spelt h q))
+        let e : each termAt (run nodes arguments g) ≡ each termAt (run nodes arguments h) = each-equal termAt termAt (run nodes arguments g) (run nodes arguments h) (run-long nodes arguments s g (p .node) ∙ a .count ∙ sym (run-long nodes arguments s h (q .node))) (λ x y m. at x y (pair-place nodes arguments s g h (p .node) (q .node) x y .0 m)) in
+        f .closed .shared g h p q (spelt g p ∙ ap (λ (n : ℕ). app n (each termAt (run nodes arguments g))) (a .name) ∙ ap (app (nameOf nodes h)) e ∙ sym (spelt h q))
       where
-        spelt : (i : ℕ) → Marked words counts i → termAt i ≡ app (nameOf words i) (each termAt (run words args i))
+        spelt : (i : ℕ) → Marked nodes counts i → termAt i ≡ app (nameOf nodes i) (each termAt (run nodes arguments i))
         spelt i m =
-            value-application (nodesFrom words args) (sections-well-formed words args s) var i (nameOf words i) (run words args i) (is-node words args i (m .node)) (application-from words args i (m .node) (m .applied))
+            value-application (nodesFrom nodes arguments) (sections-well-formed nodes arguments s) var i (nameOf nodes i) (run nodes arguments i) (is-node nodes arguments i (m .node)) (application-from nodes arguments i (m .node) (m .applied))
 
-        at : (x y : ℕ) → (j : ℕ) × (j < countOf words g) × (j < countOf words h) × (x ≡ argumentOf words args g j) × (y ≡ argumentOf words args h j) → termAt x ≡ termAt y
+        at : (x y : ℕ) → (j : ℕ) × (j < countOf nodes g) × (j < countOf nodes h) × (x ≡ argumentOf nodes arguments g j) × (y ≡ argumentOf nodes arguments h j) → termAt x ≡ termAt y
         at x y (j, i, i′, u, v) =
             let b = k .below g (p .node) p j i in
             let c = k .below h (q .node) q j i′ in
-            ap termAt u ∙ one-term (argumentOf words args g j) (argumentOf words args h j) b c (sym (own-name (argumentOf words args g j) (b .node)) ∙ a .arguments j i ∙ own-name (argumentOf words args h j) (c .node)) ∙ ap termAt (sym v)
+            ap termAt u ∙ one-term (argumentOf nodes arguments g j) (argumentOf nodes arguments h j) b c (sym (own-name (argumentOf nodes arguments g j) (b .node)) ∙ a .per-argument j i ∙ own-name (argumentOf nodes arguments h j) (c .node)) ∙ ap termAt (sym v)
 
     -- Where no argument of a head is looked at.
-    module _ (z : (i : ℕ) → i < nodeCount words → word counts (classOf cs i) ≡ 0) where
+    module _ (z : (i : ℕ) → i < nodeCount nodes → word counts (classOf cs i) ≡ 0) where
       -- a head that is an application is closed
-      head-closed : (i : ℕ) → i < nodeCount words → Applied words cs i → Marked words counts (classOf cs i)
+      head-closed : (i : ℕ) → i < nodeCount nodes → Applied nodes cs i → Marked nodes counts (classOf cs i)
       head-closed i h n = record { node = f .partition .below i h; applied = n; none = z i h }
 
       -- classes are named by their heads
-      closed-named : Named words args cs names
+      closed-named : Named nodes arguments cs names
       closed-named =
           record {
             node = λ i h. rw (own-name i h) (f .partition .below i h);
@@ -84,7 +84,7 @@ module _ (words args : List ℕ) (s : Sections words args) (counts cs : List ℕ
           }
 
       -- so closed applications by nodes not after them
-      closed-least : NamesLeast words args counts cs names
+      closed-least : NamesLeast nodes arguments counts cs names
       closed-least =
           record {
             alike = λ i h n. rw (own-name i h) (alike-same (classOf cs i));
@@ -92,11 +92,11 @@ module _ (words args : List ℕ) (s : Sections words args) (counts cs : List ℕ
           }
 
       -- which is what binding words need
-      pub themselves-named : HeadNames words args cs names × NamesLeast words args counts cs names
-      themselves-named = (heads-named words args cs names closed-named s (f .partition) l, closed-least)
+      pub themselves-named : HeadNames nodes arguments cs names × NamesLeast nodes arguments counts cs names
+      themselves-named = (heads-named nodes arguments cs names closed-named s (f .partition) l, closed-least)
 
   -- The closed heads with arguments, and behind them an order of the open ones.
-  module _ (closed placed : List ℕ) (c : ClosedListed words counts cs closed) (o : Ordered words args (word counts) cs placed) where
+  module _ (closed placed : List ℕ) (c : ClosedListed nodes counts cs closed) (o : Ordered nodes arguments (word counts) cs placed) where
     -- Both.
     abbrev order : List ℕ
     order = closed ++ placed
@@ -117,26 +117,26 @@ module _ (words args : List ℕ) (s : Sections words args) (counts cs : List ℕ
             back (p - length closed) (omega (arith, n, b, h)) e (ap (word order) e ∙ getD-append-add closed placed (p - length closed) 0)
 
     -- all arguments of an open application are looked at
-    counted-all : (g : ℕ) → g < nodeCount words → 0 < word counts g → word counts g ≡ countOf words g
+    counted-all : (g : ℕ) → g < nodeCount nodes → 0 < word counts g → word counts g ≡ countOf nodes g
     counted-all g h l = go (k .some g h)
       where
-        go : (word counts g ≡ 0) ⊎ (word counts g ≡ countOf words g) → word counts g ≡ countOf words g
+        go : (word counts g ≡ 0) ⊎ (word counts g ≡ countOf nodes g) → word counts g ≡ countOf nodes g
         go (inl z) = absurd (omega (arith, z, l))
         go (inr e) = e
 
     -- the first are closed
-    front-marked : (p : ℕ) → p < length closed → word order p ≡ word closed p → Marked words counts (word order p)
+    front-marked : (p : ℕ) → p < length closed → word order p ≡ word closed p → Marked nodes counts (word order p)
     front-marked p l e = rw e (c .marked p l)
 
     -- the second are open
     back-counts : (p q : ℕ) → q < length placed → word order p ≡ word placed q → 0 < word counts (word order p)
     back-counts p q l e = rw e (o .listed .compound q l)
 
-    part-node : (p : ℕ) → Part p → word order p < nodeCount words
+    part-node : (p : ℕ) → Part p → word order p < nodeCount nodes
     part-node p (front l e) = rw e (c .marked p l .node)
     part-node p (back q l d e) = rw e (o .listed .node q l)
 
-    part-compound : (p : ℕ) → Part p → 0 < countOf words (word order p)
+    part-compound : (p : ℕ) → Part p → 0 < countOf nodes (word order p)
     part-compound p (front l e) = rw e (c .compound p l)
     part-compound p (back q l d e) =
         let x = back-counts p q l e in
@@ -157,15 +157,15 @@ module _ (words args : List ℕ) (s : Sections words args) (counts cs : List ℕ
         o .listed .once r v (omega (arith, h, u, w)) m (sym e ∙ z ∙ d)
 
     -- the head of an argument of a closed application stands before it, if it stands there
-    closed-first : (q g j : ℕ) → q < length closed → word order q ≡ word closed q → j < countOf words (word order q) → classOf cs (argumentOf words args (word order q) j) ≡ g → Marked words counts g × (g < word order q)
+    closed-first : (q g j : ℕ) → q < length closed → word order q ≡ word closed q → j < countOf nodes (word order q) → classOf cs (argumentOf nodes arguments (word order q) j) ≡ g → Marked nodes counts g × (g < word order q)
     closed-first q g j l e h d =
         let m = front-marked q l e in
         let a = k .below (word order q) (m .node) m j h in
-        let x = f .closed .least (argumentOf words args (word order q) j) a in
+        let x = f .closed .least (argumentOf nodes arguments (word order q) j) a in
         let y = s .smaller (word order q) j (m .node) h in
-        (rw d at (f .closed .closed (argumentOf words args (word order q) j) a), omega (arith, x, y, d))
+        (rw d at (f .closed .closed (argumentOf nodes arguments (word order q) j) a), omega (arith, x, y, d))
 
-    part-first : (p q j : ℕ) → q ≤ p → Part p → Part q → j < countOf words (word order q) → classOf cs (argumentOf words args (word order q) j) ≡ word order p → ⊥
+    part-first : (p q j : ℕ) → q ≤ p → Part p → Part q → j < countOf nodes (word order q) → classOf cs (argumentOf nodes arguments (word order q) j) ≡ word order p → ⊥
     part-first p q j b (front l e) (front m d) h z = go (ℕ-discrete q p)
       where
         go : Dec (q ≡ p) → ⊥
@@ -192,7 +192,7 @@ module _ (words args : List ℕ) (s : Sections words args) (counts cs : List ℕ
         met (before t y g) = o .listed .once t r (omega (arith, b, u, w, y)) l (g ∙ e)
 
     -- nodes can be named along both
-    prefix-nameable : Nameable words args cs (closed ++ placed)
+    prefix-nameable : Nameable nodes arguments cs (closed ++ placed)
     prefix-nameable =
         record {
           node = λ p h. part-node p (part p h);
@@ -203,8 +203,8 @@ module _ (words args : List ℕ) (s : Sections words args) (counts cs : List ℕ
     -- they are not too many
     pub prefix-few : length closed + length placed ≤ maxNodes
     prefix-few =
-        let x = order-short words args cs order prefix-nameable in
-        let y = nodes-few words args s in
+        let x = order-short nodes arguments cs order prefix-nameable in
+        let y = nodes-few nodes arguments s in
         let z = length-append closed placed in
         omega (arith, x, y, z)
 
@@ -214,15 +214,15 @@ module _ (words args : List ℕ) (s : Sections words args) (counts cs : List ℕ
         record {
           below = λ p h.
               let x = c .marked p h .node in
-              let y = nodes-few words args s in
+              let y = nodes-few nodes arguments s in
               omega (arith, x, y);
         }
 
     -- a head with arguments stands in one of both
-    head-placed : (i : ℕ) → i < nodeCount words → 0 < countOf words (classOf cs i) → IsPlaced order (classOf cs i)
+    head-placed : (i : ℕ) → i < nodeCount nodes → 0 < countOf nodes (classOf cs i) → IsPlaced order (classOf cs i)
     head-placed i h l = go (ℕ-discrete (word counts (classOf cs i)) 0)
       where
-        b : classOf cs i < nodeCount words
+        b : classOf cs i < nodeCount nodes
         b = f .partition .below i h
 
         z : length order ≡ length closed + length placed
@@ -235,12 +235,12 @@ module _ (words args : List ℕ) (s : Sections words args) (counts cs : List ℕ
 
         go : Dec (word counts (classOf cs i) ≡ 0) → IsPlaced order (classOf cs i)
         go (yes e) =
-            let r = c .whole (classOf cs i) (record { node = b; applied = counted-application words args s (classOf cs i) 0 b l; none = e }) l (f .partition .own i h) in
+            let r = c .whole (classOf cs i) (record { node = b; applied = counted-application nodes arguments s (classOf cs i) 0 b l; none = e }) l (f .partition .own i h) in
             let m = r .1 in
             (r .0, omega (arith, z, m), List·getD-append closed placed 0 (r .0) m ∙ r .2)
         go (no n) = met n (o .whole i h)
 
-    module _ (names : List ℕ) (l : length names ≡ nodeCount words) (t : Themselves names) where
+    module _ (names : List ℕ) (l : length names ≡ nodeCount nodes) (t : Themselves names) where
       itself : (p : ℕ) → p < length order → word names (word order p) ≡ word order p
       itself p h = let b = part-node p (part p h) in t .itself (word order p) (omega (arith, b, l))
 
@@ -252,7 +252,7 @@ module _ (words args : List ℕ) (s : Sections words args) (counts cs : List ℕ
       same-node q h = List·getD-append closed placed 0 q h
 
       -- no two places of the first are alike
-      closed-apart : (q r : ℕ) → q < length closed → r < length closed → Alike words args cs names (word order q) (word order r) → q ≡ r
+      closed-apart : (q r : ℕ) → q < length closed → r < length closed → Alike nodes arguments cs names (word order q) (word order r) → q ≡ r
       closed-apart q r h b a =
           let e : word closed q ≡ word closed r = sym (c .own q h) ∙ closed-alike names l t (word closed q) (word closed r) (c .marked q h) (c .marked r b) (rw (same-node q h, same-node r b) at a) ∙ c .own r b in
           go e (ℕ-discrete q r) (decLt q r)
@@ -263,7 +263,7 @@ module _ (words args : List ℕ) (s : Sections words args) (counts cs : List ℕ
           go e (no n) (no d) = let x = c .rising r q (omega (arith, n, d)) h in absurd (omega (arith, x, e))
 
       -- the first are named
-      first-named : NamedBefore words args cs (closed ++ placed) names (length closed)
+      first-named : NamedBefore nodes arguments cs (closed ++ placed) names (length closed)
       first-named =
           record {
             variable = λ q h e. itself q (longer q h);
@@ -277,7 +277,7 @@ module _ (words args : List ℕ) (s : Sections words args) (counts cs : List ℕ
             apart = λ q r h b x y. closed-apart q r h b;
           }
 
-      first-naming : (buckets earlier : List ℕ) → ClosedTable words args cs closed buckets earlier → Naming words args cs (closed ++ placed) names buckets earlier (length closed)
+      first-naming : (buckets earlier : List ℕ) → ClosedTable nodes arguments cs closed buckets earlier → Naming nodes arguments cs (closed ++ placed) names buckets earlier (length closed)
       unfolding keyAt
       first-naming buckets earlier x =
           record {
@@ -292,15 +292,15 @@ module _ (words args : List ℕ) (s : Sections words args) (counts cs : List ℕ
             buckets-long = x .buckets-long;
             earlier-long = x .earlier-long;
             named = first-named;
-            chained = chained-same _ _ _ _ buckets earlier (length closed) (λ q h r. record { application = rw (same-node q h) (r .application); itself = rw (same-node q h) (r .itself) }) (λ q h r. record { application = rw (same-node q h) at (r .application); itself = rw (same-node q h) at (r .itself) }) (λ q h. ap (λ (g : ℕ). keyOf words args cs names g) (same-node q h)) (x .chained names l t);
+            chained = chained-same _ _ _ _ buckets earlier (length closed) (λ q h r. record { application = rw (same-node q h) (r .application); itself = rw (same-node q h) (r .itself) }) (λ q h r. record { application = rw (same-node q h) at (r .application); itself = rw (same-node q h) at (r .itself) }) (λ q h. ap (λ (g : ℕ). keyOf nodes arguments cs names g) (same-node q h)) (x .chained names l t);
           }
 
     -- what is named along them has the least names of closed applications
-    named-least : (names : List ℕ) → NamedAlong words args cs (closed ++ placed) names → NamesLeast words args counts cs names
+    named-least : (names : List ℕ) → NamedAlong nodes arguments cs (closed ++ placed) names → NamesLeast nodes arguments counts cs names
     named-least names m =
         record { alike = m .alike; least = λ i q. go i q (m .outside i (q .node)) }
       where
-        at : (i p : ℕ) → Marked words counts i → word order p ≡ classOf cs i → Part p → (r : ℕ) × (r ≤ p) × (word names (word order p) ≡ word order r) × (word names (word order r) ≡ word order r) → valueName cs names i ≤ i
+        at : (i p : ℕ) → Marked nodes counts i → word order p ≡ classOf cs i → Part p → (r : ℕ) × (r ≤ p) × (word names (word order p) ≡ word order r) × (word names (word order r) ≡ word order r) → valueName cs names i ≤ i
         at i p q e (back v b w d) x =
             let y = back-counts p v b d in
             let z = f .closed .closed i q .none in
@@ -322,25 +322,25 @@ module _ (words args : List ℕ) (s : Sections words args) (counts cs : List ℕ
                 let g = List·getD-append closed placed 0 r (omega (arith, v, b)) in
                 omega (arith, n, g, w, d, e, z)
 
-        go : (i : ℕ) → Marked words counts i → IsPlaced order (classOf cs i) ⊎ (valueName cs names i ≡ classOf cs i) → valueName cs names i ≤ i
+        go : (i : ℕ) → Marked nodes counts i → IsPlaced order (classOf cs i) ⊎ (valueName cs names i ≡ classOf cs i) → valueName cs names i ≤ i
         go i q (inr e) = let x = f .closed .least i q in omega (arith, e, x)
         go i q (inl (p, l, e)) = at i p q e (part p l) (m .along .earlier p l)
 
     -- The same for an order that is both.
     module _ (xs : List ℕ) (e : xs ≡ closed ++ placed) where
       -- naming goes on behind the closed ones
-      pub prefix-naming : (names : List ℕ) → length names ≡ nodeCount words → Themselves names → (buckets earlier : List ℕ) → ClosedTable words args cs closed buckets earlier → Naming words args cs xs names buckets earlier (length closed) × (length closed ≤ length xs)
+      pub prefix-naming : (names : List ℕ) → length names ≡ nodeCount nodes → Themselves names → (buckets earlier : List ℕ) → ClosedTable nodes arguments cs closed buckets earlier → Naming nodes arguments cs xs names buckets earlier (length closed) × (length closed ≤ length xs)
       prefix-naming names l t buckets earlier x =
           let z = ap length e ∙ length-append closed placed in
           (rw e (first-naming names l t buckets earlier x), omega (arith, z))
 
       -- and closed applications have the least names
-      pub prefix-least : (names : List ℕ) → NamedAlong words args cs xs names → NamesLeast words args counts cs names
+      pub prefix-least : (names : List ℕ) → NamedAlong nodes arguments cs xs names → NamesLeast nodes arguments counts cs names
       prefix-least names m = named-least names (rw e at m)
 
 -- where no argument of a node is looked at, none of a head is
-pub none-open : (words counts opens : List ℕ) → OpenListed words counts opens → length opens ≡ 0 → (i : ℕ) → i < nodeCount words → word counts i ≡ 0
-none-open words counts opens o z i h = go (ℕ-discrete (word counts i) 0)
+pub none-open : (nodes counts opens : List ℕ) → OpenListed nodes counts opens → length opens ≡ 0 → (i : ℕ) → i < nodeCount nodes → word counts i ≡ 0
+none-open nodes counts opens o z i h = go (ℕ-discrete (word counts i) 0)
   where
     go : Dec (word counts i ≡ 0) → word counts i ≡ 0
     go (yes e) = e
@@ -350,8 +350,8 @@ none-open words counts opens o z i h = go (ℕ-discrete (word counts i) 0)
         absurd (omega (arith, l, z))
 
 -- nor where none of an order is taken
-pub none-placed : (words args counts cs order : List ℕ) (r : ℕ) → Ordered words args (word counts) cs (take r order) → r ≡ 0 → (i : ℕ) → i < nodeCount words → word counts (classOf cs i) ≡ 0
-none-placed words args counts cs order r o z i h = met (o .whole i h)
+pub none-placed : (nodes arguments counts cs order : List ℕ) (r : ℕ) → Ordered nodes arguments (word counts) cs (take r order) → r ≡ 0 → (i : ℕ) → i < nodeCount nodes → word counts (classOf cs i) ≡ 0
+none-placed nodes arguments counts cs order r o z i h = met (o .whole i h)
   where
     none : length (take r order) ≡ 0
     none = ap (λ (k : ℕ). length (take k order)) z
@@ -368,9 +368,9 @@ order-put closed placed xs ys zs start end e d f g =
     ap (take (end - 0)) (g ∙ ap (λ (l : List ℕ). l ++ placed ++ drop (start + length placed) ys) h) ∙ take-at (closed ++ placed) (drop (start + length placed) ys) (end - 0) (sym z)
 
 -- where there are no prepared words there are no open applications
-pub prepared-none : (words args counts cs table : List ℕ) → Prepared words args counts cs table → length table ≡ 0 → OpenListed words counts table
-prepared-none words args counts cs table (with-open f) z = let s = f .size in absurd (omega (arith, s, z))
-prepared-none words args counts cs table (nothing e n) z =
+pub prepared-none : (nodes arguments counts cs table : List ℕ) → Prepared nodes arguments counts cs table → length table ≡ 0 → OpenListed nodes counts table
+prepared-none nodes arguments counts cs table (with-open f) z = let s = f .size in absurd (omega (arith, s, z))
+prepared-none nodes arguments counts cs table (nothing e n) z =
     record {
       node = λ p h. absurd (omega arith);
       applied = λ p h. absurd (omega arith);
@@ -378,21 +378,21 @@ prepared-none words args counts cs table (nothing e n) z =
     }
 
 -- and otherwise there are open applications
-pub prepared-open : (words args counts cs table : List ℕ) → Prepared words args counts cs table → (length table ≡ 0 → ⊥) → PreparedOpen words args counts cs table
-prepared-open words args counts cs table (with-open f) n = f
-prepared-open words args counts cs table (nothing e z) n = absurd (n e)
+pub prepared-open : (nodes arguments counts cs table : List ℕ) → Prepared nodes arguments counts cs table → (length table ≡ 0 → ⊥) → PreparedOpen nodes arguments counts cs table
+prepared-open nodes arguments counts cs table (with-open f) n = f
+prepared-open nodes arguments counts cs table (nothing e z) n = absurd (n e)
 
 -- Their parts, as the code takes them.
-module _ (words args counts cs table : List ℕ) (f : PreparedOpen words args counts cs table) where
+module _ (nodes arguments counts cs table : List ℕ) (f : PreparedOpen nodes arguments counts cs table) where
   -- the open applications
-  pub prepared-opens : (r : ℕ) → r ≡ word table 1024 → OpenListed words counts (take (512 + r - 512) (drop 512 table))
+  pub prepared-opens : (r : ℕ) → r ≡ word table 1024 → OpenListed nodes counts (take (512 + r - 512) (drop 512 table))
   unfolding openIn
   prepared-opens r e =
       let d : 512 + r - 512 ≡ word table 1024 = omega (arith, e) in
       rw d (f .open-listed)
 
   -- the closed ones, and the table of them
-  pub prepared-closed : (r : ℕ) → r ≡ word table 1025 → ClosedListed words counts cs (take (768 + r - 768) (drop 768 table)) × ClosedTable words args cs (take (768 + r - 768) (drop 768 table)) (take 256 table) (take 256 (drop 256 table))
+  pub prepared-closed : (r : ℕ) → r ≡ word table 1025 → ClosedListed nodes counts cs (take (768 + r - 768) (drop 768 table)) × ClosedTable nodes arguments cs (take (768 + r - 768) (drop 768 table)) (take 256 table) (take 256 (drop 256 table))
   unfolding closedIn bucketsIn earlierIn
   prepared-closed r e =
       let d : 768 + r - 768 ≡ word table 1025 = omega (arith, e) in

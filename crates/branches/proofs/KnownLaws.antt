@@ -34,33 +34,33 @@ pub least-long : (ns : List Node) → length (leastNodes ns) ≡ length (variabl
 unfolding leastNodes
 least-long ns = length-map (variablesOf ns) (nodeOf ns)
 
-module _ {words args known : List ℕ} (k : KnownOf words args known) where
+module _ {nodes arguments known : List ℕ} (k : KnownOf nodes arguments known) where
   -- there are not more variables than there is room for
-  pub variables-few : length (variablesOf (nodesFrom words args)) ≤ 64
+  pub variables-few : length (variablesOf (nodesFrom nodes arguments)) ≤ 64
   variables-few =
-      let n = length (leastNodes (nodesFrom words args)) in
+      let n = length (leastNodes (nodesFrom nodes arguments)) in
       let e = ap length (k .lists) in
       let t = length-take n (drop 320 known) in
-      omega (arith, e, t, length-drop 320 known, k .size, least-long (nodesFrom words args))
+      omega (arith, e, t, length-drop 320 known, k .size, least-long (nodesFrom nodes arguments))
 
   -- their least nodes, as they are lent
-  pub listed-least : (end : ℕ) → end ≡ 320 + length (variablesOf (nodesFrom words args)) → take (end - 320) (drop 320 known) ≡ leastNodes (nodesFrom words args)
+  pub listed-least : (end : ℕ) → end ≡ 320 + length (variablesOf (nodesFrom nodes arguments)) → take (end - 320) (drop 320 known) ≡ leastNodes (nodesFrom nodes arguments)
   listed-least end e =
-      let c : end - 320 ≡ length (leastNodes (nodesFrom words args)) = omega (arith, e, least-long (nodesFrom words args)) in
+      let c : end - 320 ≡ length (leastNodes (nodesFrom nodes arguments)) = omega (arith, e, least-long (nodesFrom nodes arguments)) in
       ap (λ (n : ℕ). take n (drop 320 known)) c ∙ k .lists
 
 -- counts that are the same at nodes
-module _ {words counts counts′ : List ℕ} (kept : (i : ℕ) → i < nodeCount words → word counts′ i ≡ word counts i) where
+module _ {nodes counts counts′ : List ℕ} (kept : (i : ℕ) → i < nodeCount nodes → word counts′ i ≡ word counts i) where
   -- a closed application stays one
-  marked-kept : (i : ℕ) → Marked words counts i → Marked words counts′ i
+  marked-kept : (i : ℕ) → Marked nodes counts i → Marked nodes counts′ i
   marked-kept i m = record { node = m .node; applied = m .applied; none = kept i (m .node) ∙ m .none }
 
   -- and was one before
-  marked-before : (i : ℕ) → Marked words counts′ i → Marked words counts i
+  marked-before : (i : ℕ) → Marked nodes counts′ i → Marked nodes counts i
   marked-before i m = record { node = m .node; applied = m .applied; none = sym (kept i (m .node)) ∙ m .none }
 
   -- so they are right as well
-  pub counts-kept : {args : List ℕ} → nodeCount words ≤ length counts′ → Counts words args counts (nodeCount words) → Counts words args counts′ (nodeCount words)
+  pub counts-kept : {arguments : List ℕ} → nodeCount nodes ≤ length counts′ → Counts nodes arguments counts (nodeCount nodes) → Counts nodes arguments counts′ (nodeCount nodes)
   counts-kept l c =
       record {
         enough = l;
@@ -69,7 +69,7 @@ module _ {words counts counts′ : List ℕ} (kept : (i : ℕ) → i < nodeCount
         above = λ i h f. kept i h ∙ c .above i h (λ j q. marked-before _ (f j q));
       }
     where
-      pick : (i : ℕ) → i < nodeCount words → (word counts i ≡ 0) ⊎ (word counts i ≡ countOf words i) → (word counts′ i ≡ 0) ⊎ (word counts′ i ≡ countOf words i)
+      pick : (i : ℕ) → i < nodeCount nodes → (word counts i ≡ 0) ⊎ (word counts i ≡ countOf nodes i) → (word counts′ i ≡ 0) ⊎ (word counts′ i ≡ countOf nodes i)
       pick i h (inl e) = inl (kept i h ∙ e)
       pick i h (inr e) = inr (kept i h ∙ e)
 
@@ -92,17 +92,17 @@ put-here at xs lent l =
     ∙ take-at xs rest (length xs) refl
 
 -- the counts are written before the marks of pairs
-module _ {words args : List ℕ} (known part : List ℕ) (s : Sections words args) (long : length part ≡ 256) where
+module _ {nodes arguments : List ℕ} (known part : List ℕ) (s : Sections nodes arguments) (long : length part ≡ 256) where
   -- a count, where it stands among the bytes
-  begun-word : (i : ℕ) → i < nodeCount words → word (part ++ drop 256 known) i ≡ word part i
+  begun-word : (i : ℕ) → i < nodeCount nodes → word (part ++ drop 256 known) i ≡ word part i
   begun-word i h = List·getD-append part (drop 256 known) 0 i (omega (arith, h, long, s .limit))
 
   -- they are right there as well
-  pub begun-counts : Counts words args part (nodeCount words) → Counts words args (part ++ drop 256 known) (nodeCount words)
+  pub begun-counts : Counts nodes arguments part (nodeCount nodes) → Counts nodes arguments (part ++ drop 256 known) (nodeCount nodes)
   begun-counts c = counts-kept begun-word (omega (arith, s .limit, long, length-append part (drop 256 known))) c
 
   -- where they are 0 they are 0 there
-  pub begun-noughts : ((i : ℕ) → i < nodeCount words → word part i ≡ 0) → (i : ℕ) → i < nodeCount words → word (part ++ drop 256 known) i ≡ 0
+  pub begun-noughts : ((i : ℕ) → i < nodeCount nodes → word part i ≡ 0) → (i : ℕ) → i < nodeCount nodes → word (part ++ drop 256 known) i ≡ 0
   begun-noughts z i h = begun-word i h ∙ z i h
 
   -- and the marks stay
@@ -114,14 +114,14 @@ may-set : (known : List ℕ) (m v : ℕ) → m < 64 → mayIn (set known (256 + 
 may-set known m v h = ap (take 64) (drop-set-add 256 known m v) ∙ take-set-lt 64 (drop 256 known) m v h
 
 -- the mark of a pair is written
-module _ {words args left right known : List ℕ} {labels : Labels} (g : Listable words args left right labels) (k : PairsKnown words args left right known) (i j v : ℕ) (left-term : i < length left) (right-term : j < length right) where
+module _ {nodes arguments left right known : List ℕ} {labels : Labels} (g : Listable nodes arguments left right labels) (k : PairsKnown nodes arguments left right known) (i j v : ℕ) (left-term : i < length left) (right-term : j < length right) where
   -- the counts stay
-  pub mark-keeps : KeepsCounts words known (set known (256 + maxTerms * i + j) v)
+  pub mark-keeps : KeepsCounts nodes known (set known (256 + maxTerms * i + j) v)
   mark-keeps q h =
       getD-set-other known (256 + maxTerms * i + j) q v 0 (λ z. omega (arith, z, h, g .sections .limit))
 
   -- and what is known of pairs stays right, where the mark is 0 only if the pair never has a unifier
-  pub mark-known : {a b : ℕ} → a ≡ word left i → b ≡ word right j → (v ≡ 0 → Never (nodesFrom words args) a b) → PairsKnown words args left right (set known (256 + maxTerms * i + j) v)
+  pub mark-known : {a b : ℕ} → a ≡ word left i → b ≡ word right j → (v ≡ 0 → Never (nodesFrom nodes arguments) a b) → PairsKnown nodes arguments left right (set known (256 + maxTerms * i + j) v)
   mark-known {a} {b} x y n =
       let p : 256 + maxTerms * i + j ≡ 256 + (maxTerms * i + j) = omega arith in
       let l = length-set known (256 + maxTerms * i + j) v in
@@ -129,11 +129,11 @@ module _ {words args left right known : List ℕ} {labels : Labels} (g : Listabl
       record {
         size = l ∙ k .size;
         counts = counts-kept mark-keeps (omega (arith, l, k .size, g .sections .limit)) (k .counts);
-        partners = rw e (pair-marked words args left right (mayIn known) i j a b v (g .left-few) (g .right-few) right-term x y n (k .partners));
+        partners = rw e (pair-marked nodes arguments left right (mayIn known) i j a b v (g .left-few) (g .right-few) right-term x y n (k .partners));
       }
 
 -- least nodes of variables are put behind the counts and the marks
-module _ {words args left right : List ℕ} (s : Sections words args) (known list known′ : List ℕ) (k : PairsKnown words args left right known) (l : list ≡ leastNodes (nodesFrom words args)) (few : length list ≤ 64) (e : known′ ≡ take 320 known ++ list ++ drop (320 + length list) known) where
+module _ {nodes arguments left right : List ℕ} (s : Sections nodes arguments) (known list known′ : List ℕ) (k : PairsKnown nodes arguments left right known) (l : list ≡ leastNodes (nodesFrom nodes arguments)) (few : length list ≤ 64) (e : known′ ≡ take 320 known ++ list ++ drop (320 + length list) known) where
   -- they are put
   is-put : known′ ≡ put 320 list known
   unfolding put
@@ -144,18 +144,18 @@ module _ {words args left right : List ℕ} (s : Sections words args) (known lis
   put-size = ap length is-put ∙ put-long 320 list known (omega (arith, k .size, few))
 
   -- the counts stay
-  pub put-keeps : KeepsCounts words known known′
+  pub put-keeps : KeepsCounts nodes known known′
   put-keeps i h =
       ap (λ (r : List ℕ). word r i) is-put ∙ put-word 320 i list known (omega (arith, h, s .limit)) (omega (arith, k .size))
 
   -- and so do the marks
-  pub put-partners : MayPair words args left right (mayIn known′)
+  pub put-partners : MayPair nodes arguments left right (mayIn known′)
   put-partners =
       let m : mayIn known′ ≡ mayIn known = ap mayIn is-put ∙ part-put 64 256 320 list known (omega arith) (omega (arith, k .size)) in
       rw m (k .partners)
 
   -- all that is known is right then
-  pub put-known : KnownOf words args known′
+  pub put-known : KnownOf nodes arguments known′
   put-known =
       record {
         size = put-size ∙ k .size;

@@ -200,8 +200,8 @@ put-part v k at xs ys lent h l =
     ∙ take-all v (drop k xs) (omega (arith, h, length-drop k xs))
 
 -- at first nothing is remembered
-pub remembers-none : (words args left right lent : List ℕ) → Remembers words args left right (replicate 64 0) lent 0
-remembers-none words args left right lent =
+pub remembers-none : (nodes arguments left right lent : List ℕ) → Remembers nodes arguments left right (replicate 64 0) lent 0
+remembers-none nodes arguments left right lent =
     record {
       size = refl;
       room = omega arith;
@@ -209,9 +209,9 @@ remembers-none words args left right lent =
     }
 
 -- what is written later leaves an entry where it lies
-lies-later : {words args left right : List ℕ} {key place : ℕ} {lent : List ℕ} {at : ℕ} {es : List (List ℕ)} {lent′ : List ℕ} {w : Written} → at ≤ length lent → Writes es lent at lent′ w → Lies words args left right key place lent at → Lies words args left right key place lent′ (w .used)
-lies-later {words} {args} {left} {right} {key} {place} {lent} {at} {es} {lent′} {w} h r l =
-    let v = length (variablesOf (nodesFrom words args)) in
+lies-later : {nodes arguments left right : List ℕ} {key place : ℕ} {lent : List ℕ} {at : ℕ} {es : List (List ℕ)} {lent′ : List ℕ} {w : Written} → at ≤ length lent → Writes es lent at lent′ w → Lies nodes arguments left right key place lent at → Lies nodes arguments left right key place lent′ (w .used)
+lies-later {nodes} {arguments} {left} {right} {key} {place} {lent} {at} {es} {lent′} {w} h r l =
+    let v = length (variablesOf (nodesFrom nodes arguments)) in
     record {
       digits = l .digits;
       long = l .long;
@@ -226,7 +226,7 @@ lies-later {words} {args} {left} {right} {key} {place} {lent} {at} {es} {lent′
     }
 
 -- so all that is remembered stays right
-remembers-later : {words args left right memory lent : List ℕ} {at : ℕ} {es : List (List ℕ)} {lent′ : List ℕ} {w : Written} → Remembers words args left right memory lent at → Writes es lent at lent′ w → Remembers words args left right memory lent′ (w .used)
+remembers-later : {nodes arguments left right memory lent : List ℕ} {at : ℕ} {es : List (List ℕ)} {lent′ : List ℕ} {w : Written} → Remembers nodes arguments left right memory lent at → Writes es lent at lent′ w → Remembers nodes arguments left right memory lent′ (w .used)
 remembers-later g r =
     let m = writes-room (g .room) r in
     record {
@@ -245,11 +245,11 @@ first-fits room (e ∷ es) h = pick (leb (length e) room) h
     pick true q = (e, flatten (fitting (room - length e) es), List·Memᴰ·head refl, refl)
     pick false q = absurd (omega (arith, q))
 
-module _ {words args left right memory lent : List ℕ} {at : ℕ} {es : List (List ℕ)} {lent′ : List ℕ} {w : Written} {memory′ : List ℕ} (entry : List ℕ) (i key : ℕ) (g : Remembers words args left right memory lent at) (k : Keyed left right entry i key) (depth : i ≤ length left) (long : i ≤ length entry) (positive : (j : ℕ) → j < i → 0 < word entry j) (unifiable : outcome (nodesFrom words args) (pairsIn left right entry i) ≡ unified) (each : (e : List ℕ) → List·Memᴰ e es → (length e ≡ widthOf words args left right) × (drop (length left + length right) e ≡ wordsOf (nodesFrom words args) (pairsIn left right entry i))) (r : Writes es lent at lent′ w) (n : Notes memory key at (w .used) memory′) where
+module _ {nodes arguments left right memory lent : List ℕ} {at : ℕ} {es : List (List ℕ)} {lent′ : List ℕ} {w : Written} {memory′ : List ℕ} (entry : List ℕ) (i key : ℕ) (g : Remembers nodes arguments left right memory lent at) (k : Keyed left right entry i key) (depth : i ≤ length left) (long : i ≤ length entry) (positive : (j : ℕ) → j < i → 0 < word entry j) (unifiable : outcome (nodesFrom nodes arguments) (pairsIn left right entry i) ≡ unified) (each : (e : List ℕ) → List·Memᴰ e es → (length e ≡ widthOf nodes arguments left right) × (drop (length left + length right) e ≡ wordsOf (nodesFrom nodes arguments) (pairsIn left right entry i))) (r : Writes es lent at lent′ w) (n : Notes memory key at (w .used) memory′) where
   -- the first entry that was written lies where the lent words were used from
-  lies-here : at < w .used → Lies words args left right (suc key) at lent′ (w .used)
+  lies-here : at < w .used → Lies nodes arguments left right (suc key) at lent′ (w .used)
   lies-here h =
-      let v = length (variablesOf (nodesFrom words args)) in
+      let v = length (variablesOf (nodesFrom nodes arguments)) in
       let m = length right in
       let ds = take i entry in
       let c = length left - i in
@@ -265,16 +265,16 @@ module _ {words args left right memory lent : List ℕ} {at : ℕ} {es : List (L
         positive = positive-after ds (replicate c (m + 1)) (first-positive entry i positive) (labels-positive m c);
         keyed = ap suc (k ∙ sym (labels-after m ds c));
         room = omega (arith, r .used, ap length (f .3), x, e .0);
-        unifiable = ap (outcome (nodesFrom words args)) (labels-paired left right ds [] c) ∙ unifiable;
+        unifiable = ap (outcome (nodesFrom nodes arguments)) (labels-paired left right ds [] c) ∙ unifiable;
         bound =
             ap (λ (xs : List ℕ). take v (drop (at + (length left + m)) xs)) (r .words ∙ ap (λ (xs : List ℕ). put at xs lent) (f .3))
             ∙ put-part v (length left + m) at (f .0) (f .1) lent (sym (e .0)) (g .room)
             ∙ e .1
-            ∙ ap (wordsOf (nodesFrom words args)) (sym (labels-paired left right ds [] c));
+            ∙ ap (wordsOf (nodesFrom nodes arguments)) (sym (labels-paired left right ds [] c));
       }
 
   -- where it is noted, what is remembered is right
-  noted : at < w .used → Remembers words args left right memory′ lent′ (w .used)
+  noted : at < w .used → Remembers nodes arguments left right memory′ lent′ (w .used)
   noted h =
       let later = remembers-later g r in
       let s₁ = length-set memory (slotOf key) (suc key) in
@@ -288,7 +288,7 @@ module _ {words args left right memory lent : List ℕ} {at : ℕ} {es : List (L
       at-slot : (j : ℕ) → word memory′ j ≡ word (set (set memory (slotOf key) (suc key)) (slots + slotOf key) at) j
       at-slot j = ap (λ (xs : List ℕ). word xs j) (n .noted h)
 
-      go : Remembers words args left right memory lent′ (w .used) → (s : ℕ) → s < slots → Dec (s ≡ slotOf key) → (word memory′ s ≡ 0 → ⊥) → Lies words args left right (word memory′ s) (word memory′ (slots + s)) lent′ (w .used)
+      go : Remembers nodes arguments left right memory lent′ (w .used) → (s : ℕ) → s < slots → Dec (s ≡ slotOf key) → (word memory′ s ≡ 0 → ⊥) → Lies nodes arguments left right (word memory′ s) (word memory′ (slots + s)) lent′ (w .used)
       go later s l (yes e) z =
           let one = set memory (slotOf key) (suc key) in
           let s₁ = length-set memory (slotOf key) (suc key) in
@@ -302,77 +302,77 @@ module _ {words args left right memory lent : List ℕ} {at : ℕ} {es : List (L
           rw (a, b) (later .lies s l (λ e. z (a ∙ e)))
 
   -- what is remembered after entries were written, and their place was noted
-  pub remembers-noted : Remembers words args left right memory′ lent′ (w .used)
+  pub remembers-noted : Remembers nodes arguments left right memory′ lent′ (w .used)
   remembers-noted = pick (decLt at (w .used))
     where
-      pick : Dec (at < w .used) → Remembers words args left right memory′ lent′ (w .used)
+      pick : Dec (at < w .used) → Remembers nodes arguments left right memory′ lent′ (w .used)
       pick (yes h) = noted h
       pick (no h) = rw (n .none (omega (arith, h))) (remembers-later g r)
 
 -- the pairs of an entry are pairs of nodes
-pub pairable-inside : {words left right entry : List ℕ} {i : ℕ} (args : List ℕ) → Pairable words left right entry i → Inside (nodesFrom words args) (pairsIn left right entry i)
-pairable-inside {words} {left} {right} {entry} {i} args p =
-    paired-inside (nodesFrom words args) right (λ j h. is-node words args (word right j) (p .right-nodes j h)) left (λ j h. is-node words args (word left j) (p .left-nodes j h)) (take i entry) (first-positive entry i (p .positive)) [] (λ x y m. absurd (List·Memᴰ·not-nil m))
+pub pairable-inside : {nodes left right entry : List ℕ} {i : ℕ} (arguments : List ℕ) → Pairable nodes left right entry i → Inside (nodesFrom nodes arguments) (pairsIn left right entry i)
+pairable-inside {nodes} {left} {right} {entry} {i} arguments p =
+    paired-inside (nodesFrom nodes arguments) right (λ j h. is-node nodes arguments (word right j) (p .right-nodes j h)) left (λ j h. is-node nodes arguments (word left j) (p .left-nodes j h)) (take i entry) (first-positive entry i (p .positive)) [] (λ x y m. absurd (List·Memᴰ·not-nil m))
 
 -- they have a unifier where classes stand for them
-pub standing-unified : {words args left right entry counts cs : List ℕ} {i : ℕ} → Sections words args → Counts words args counts (nodeCount words) → Formed words args counts cs → Standing words args left right cs entry i → Pairable words left right entry i → outcome (nodesFrom words args) (pairsIn left right entry i) ≡ unified
-standing-unified {words} {args} {left} {right} {entry} {counts} {cs} {i} s c f g p =
-    same-unified (nodesFrom words args) (sections-well-formed words args s) (g .pairs) (pairsIn left right entry i) (g .stands .inside) (pairable-inside args p) (g .unifiers) .0 (formed-unified words args counts cs s f c (g .pairs) (g .stands))
+pub standing-unified : {nodes arguments left right entry counts cs : List ℕ} {i : ℕ} → Sections nodes arguments → Counts nodes arguments counts (nodeCount nodes) → Formed nodes arguments counts cs → Standing nodes arguments left right cs entry i → Pairable nodes left right entry i → outcome (nodesFrom nodes arguments) (pairsIn left right entry i) ≡ unified
+standing-unified {nodes} {arguments} {left} {right} {entry} {counts} {cs} {i} s c f g p =
+    same-unified (nodesFrom nodes arguments) (sections-well-formed nodes arguments s) (g .pairs) (pairsIn left right entry i) (g .stands .inside) (pairable-inside arguments p) (g .unifiers) .0 (formed-unified nodes arguments counts cs s f c (g .pairs) (g .stands))
 
 -- an entry that lies there for the key of other digits has their pairs
-lies-paired : {words args left right : List ℕ} {kept place : ℕ} {lent : List ℕ} {at : ℕ} (l : Lies words args left right kept place lent at) {entry : List ℕ} {i key : ℕ} → Pairable words left right entry i → Keyed left right entry i key → length right ≤ 8 → kept ≡ key + 1 → pairedBy left right (l .digits) [] ≡ pairsIn left right entry i
+lies-paired : {nodes arguments left right : List ℕ} {kept place : ℕ} {lent : List ℕ} {at : ℕ} (l : Lies nodes arguments left right kept place lent at) {entry : List ℕ} {i key : ℕ} → Pairable nodes left right entry i → Keyed left right entry i key → length right ≤ 8 → kept ≡ key + 1 → pairedBy left right (l .digits) [] ≡ pairsIn left right entry i
 lies-paired {left = left} {right = right} l {entry} {i} p k m e =
     paired-same left right (l .digits) (take i entry) [] m (l .positive) (first-positive entry i (p .positive)) (omega (arith, k, e, l .keyed))
 
 -- so pairs have a unifier for whose key words are kept
-pub kept-unified : {words args left right entry memory lent : List ℕ} {i at key : ℕ} → Pairable words left right entry i → Keyed left right entry i key → Remembers words args left right memory lent at → length right ≤ 8 → word memory (slotOf key) ≡ key + 1 → outcome (nodesFrom words args) (pairsIn left right entry i) ≡ unified
-kept-unified {words} {args} {key = key} p k g m e =
+pub kept-unified : {nodes arguments left right entry memory lent : List ℕ} {i at key : ℕ} → Pairable nodes left right entry i → Keyed left right entry i key → Remembers nodes arguments left right memory lent at → length right ≤ 8 → word memory (slotOf key) ≡ key + 1 → outcome (nodesFrom nodes arguments) (pairsIn left right entry i) ≡ unified
+kept-unified {nodes} {arguments} {key = key} p k g m e =
     let l = g .lies (slotOf key) (omega arith) (λ z. omega (arith, e, z)) in
-    ap (outcome (nodesFrom words args)) (sym (lies-paired l p k m e)) ∙ l .unifiable
+    ap (outcome (nodesFrom nodes arguments)) (sym (lies-paired l p k m e)) ∙ l .unifiable
 
 -- an entry that is remembered lies in the lent words
-pub lies-within : {words args left right memory lent : List ℕ} {at : ℕ} → Remembers words args left right memory lent at → (s key : ℕ) → s < slots → word memory s ≡ key + 1 → word memory (slots + s) + widthOf words args left right ≤ length lent
+pub lies-within : {nodes arguments left right memory lent : List ℕ} {at : ℕ} → Remembers nodes arguments left right memory lent at → (s key : ℕ) → s < slots → word memory s ≡ key + 1 → word memory (slots + s) + widthOf nodes arguments left right ≤ length lent
 lies-within g s key h e =
     let l = g .lies s h (λ z. omega (arith, e, z)) in
     omega (arith, l .room, g .room)
 
-module _ {words args left right entry : List ℕ} {i : ℕ} (long : length entry ≡ widthOf words args left right) where
+module _ {nodes arguments left right entry : List ℕ} {i : ℕ} (long : length entry ≡ widthOf nodes arguments left right) where
   -- words put behind the digits, if they are those of the pairs
-  put-bound : {entry′ : List ℕ} (ws : List ℕ) → ws ≡ wordsOf (nodesFrom words args) (pairsIn left right entry i) → entry′ ≡ put (length left + length right) ws entry → Bound words args left right entry i entry′
+  put-bound : {entry′ : List ℕ} (ws : List ℕ) → ws ≡ wordsOf (nodesFrom nodes arguments) (pairsIn left right entry i) → entry′ ≡ put (length left + length right) ws entry → Bound nodes arguments left right entry i entry′
   unfolding put
   put-bound ws e q =
-      let a = words-counted (nodesFrom words args) (pairsIn left right entry i) in
+      let a = words-counted (nodesFrom nodes arguments) (pairsIn left right entry i) in
       let b : drop (length left + length right + length ws) entry ≡ [] = drop-of-length-le entry {i = length left + length right + length ws} (omega (arith, long, ap length e, a)) in
       record {
         words-put = q ∙ ap (λ (r : List ℕ). take (length left + length right) entry ++ ws ++ r) b ∙ append-nil (take (length left + length right) entry ++ ws) ∙ ap (λ (r : List ℕ). take (length left + length right) entry ++ r) e;
       }
 
   -- where there is no variable, there are no words
-  pub bound-none : length (variablesOf (nodesFrom words args)) ≡ 0 → Bound words args left right entry i entry
+  pub bound-none : length (variablesOf (nodesFrom nodes arguments)) ≡ 0 → Bound nodes arguments left right entry i entry
   bound-none z =
-      let a = words-counted (nodesFrom words args) (pairsIn left right entry i) in
-      let b = length-none (wordsOf (nodesFrom words args) (pairsIn left right entry i)) (omega (arith, a, z)) in
+      let a = words-counted (nodesFrom nodes arguments) (pairsIn left right entry i) in
+      let b = length-none (wordsOf (nodesFrom nodes arguments) (pairsIn left right entry i)) (omega (arith, a, z)) in
       put-bound [] (sym b) (sym (put-none (length left + length right) entry))
 
   -- words of an earlier entry with the same key are those of the pairs
-  pub bound-again : {memory lent : List ℕ} {at key : ℕ} {entry′ : List ℕ} → Pairable words left right entry i → Keyed left right entry i key → Remembers words args left right memory lent at → length right ≤ 8 → (s : ℕ) → s < slots → word memory s ≡ key + 1 → (from to : ℕ) → from ≡ word memory (slots + s) + (length left + length right) → to ≡ from + length (variablesOf (nodesFrom words args)) → entry′ ≡ put (length left + length right) (take (to - from) (drop from lent)) entry → Bound words args left right entry i entry′
+  pub bound-again : {memory lent : List ℕ} {at key : ℕ} {entry′ : List ℕ} → Pairable nodes left right entry i → Keyed left right entry i key → Remembers nodes arguments left right memory lent at → length right ≤ 8 → (s : ℕ) → s < slots → word memory s ≡ key + 1 → (from to : ℕ) → from ≡ word memory (slots + s) + (length left + length right) → to ≡ from + length (variablesOf (nodesFrom nodes arguments)) → entry′ ≡ put (length left + length right) (take (to - from) (drop from lent)) entry → Bound nodes arguments left right entry i entry′
   bound-again {memory} {lent} {at} {key} {entry′} p k g m s h e from to a b q =
       let l = g .lies s h (λ z. omega (arith, e, z)) in
-      let c : to - from ≡ length (variablesOf (nodesFrom words args)) = omega (arith, b) in
-      let d : take (to - from) (drop from lent) ≡ take (length (variablesOf (nodesFrom words args))) (drop (word memory (slots + s) + (length left + length right)) lent) = ap (λ (j : ℕ). take j (drop from lent)) c ∙ ap (λ (j : ℕ). take (length (variablesOf (nodesFrom words args))) (drop j lent)) a in
+      let c : to - from ≡ length (variablesOf (nodesFrom nodes arguments)) = omega (arith, b) in
+      let d : take (to - from) (drop from lent) ≡ take (length (variablesOf (nodesFrom nodes arguments))) (drop (word memory (slots + s) + (length left + length right)) lent) = ap (λ (j : ℕ). take j (drop from lent)) c ∙ ap (λ (j : ℕ). take (length (variablesOf (nodesFrom nodes arguments))) (drop j lent)) a in
       put-bound (take (to - from) (drop from lent))
-      (d ∙ l .bound ∙ ap (wordsOf (nodesFrom words args)) (lies-paired l p k m e))
+      (d ∙ l .bound ∙ ap (wordsOf (nodesFrom nodes arguments)) (lies-paired l p k m e))
       q
 
   -- words of the classes are those of the pairs
-  pub bound-new : {counts cs : List ℕ} → Sections words args → Counts words args counts (nodeCount words) → Formed words args counts cs → Standing words args left right cs entry i → Pairable words left right entry i → (part : List ℕ) → Leaves words args cs (midOf (length left + length right) (length entry - (length left + length right)) entry) part → Bound words args left right entry i (putMid (length left + length right) (length entry - (length left + length right)) entry part)
+  pub bound-new : {counts cs : List ℕ} → Sections nodes arguments → Counts nodes arguments counts (nodeCount nodes) → Formed nodes arguments counts cs → Standing nodes arguments left right cs entry i → Pairable nodes left right entry i → (part : List ℕ) → Leaves nodes arguments cs (midOf (length left + length right) (length entry - (length left + length right)) entry) part → Bound nodes arguments left right entry i (putMid (length left + length right) (length entry - (length left + length right)) entry part)
   bound-new {counts} {cs} s c f g p part l =
-      let ns = nodesFrom words args in
+      let ns = nodesFrom nodes arguments in
       let n = length left + length right in
-      let o = formed-unified words args counts cs s f c (g .pairs) (g .stands) in
+      let o = formed-unified nodes arguments counts cs s f c (g .pairs) (g .stands) in
       let inside = g .stands .inside in
-      let w = sections-well-formed words args s in
-      let e = same-unifiers ns w (g .pairs) (pairsIn left right entry i) inside (pairable-inside args p) (g .unifiers) (outcome-unified ns w (g .pairs) inside .0 o) in
+      let w = sections-well-formed nodes arguments s in
+      let e = same-unifiers ns w (g .pairs) (pairsIn left right entry i) inside (pairable-inside arguments p) (g .unifiers) (outcome-unified ns w (g .pairs) inside .0 o) in
       let x = mid-len n (length entry) entry (omega (arith, long)) in
       let y = drop-of-length-le (midOf n (length entry - n) entry) {i = length (variablesOf ns)} (omega (arith, x, long)) in
       let z = post-is n (length entry) entry (omega (arith, long)) ∙ drop-of-length-le entry {i = length entry} (omega arith) in

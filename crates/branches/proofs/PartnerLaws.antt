@@ -102,59 +102,59 @@ and-right-true : (a b : Bool) → (a && b) ≡ false → b ≡ true → a ≡ fa
 and-right-true true b e p = absurd (false≢true (sym e ∙ p))
 and-right-true false b e p = refl
 
-module _ (words args left right may : List ℕ) (labels : Labels) (i : ℕ) (ds : List ℕ) (ps : List (ℕ × ℕ)) (marks : List ℕ) (able : Listable words args left right labels) (pairs : MayPair words args left right may) where
+module _ (nodes arguments left right may : List ℕ) (labels : Labels) (i : ℕ) (ds : List ℕ) (ps : List (ℕ × ℕ)) (marks : List ℕ) (able : Listable nodes arguments left right labels) (pairs : MayPair nodes arguments left right may) where
   -- The left terms from i on are nodes.
-  left-nodes : (q : ℕ) → q < length (drop i left) → word (drop i left) q < length (nodesFrom words args)
+  left-nodes : (q : ℕ) → q < length (drop i left) → word (drop i left) q < length (nodesFrom nodes arguments)
   left-nodes q h =
       let s = length-drop i left in
-      rw (getD-drop i left q 0) (is-node words args (word left (i + q)) (able .left-nodes (i + q) (omega (arith, s))))
+      rw (getD-drop i left q 0) (is-node nodes arguments (word left (i + q)) (able .left-nodes (i + q) (omega (arith, s))))
 
   -- So are the right ones.
-  right-nodes : (j : ℕ) → j < length right → word right j < length (nodesFrom words args)
-  right-nodes j h = is-node words args (word right j) (able .right-nodes j h)
+  right-nodes : (j : ℕ) → j < length right → word right j < length (nodesFrom nodes arguments)
+  right-nodes j h = is-node nodes arguments (word right j) (able .right-nodes j h)
 
-  module _ (size : length marks ≡ length right) (inside : Inside (nodesFrom words args) ps) where
+  module _ (size : length marks ≡ length right) (inside : Inside (nodesFrom nodes arguments) ps) where
     -- without right labels
-    lefts-none : (k : ℕ) → leftsStuck may i (length left) marks ≡ true → below (nodesFrom words args) right k 0 (drop i left) ds ps marks ≡ []
+    lefts-none : (k : ℕ) → leftsStuck may i (length left) marks ≡ true → below (nodesFrom nodes arguments) right k 0 (drop i left) ds ps marks ≡ []
     unfolding leftsStuck leftStuck partnered partnerAt
     lefts-none k e =
         let s = length-drop i left in
         let r = some-means (leftStuck may i marks) (length left - i) .0 e in
         let x : partnered may (i + r .0) marks ≡ false = not-true _ (r .2) in
-        left-alone (nodesFrom words args) right right-nodes k (drop i left) left-nodes (r .0) (omega (arith, s)) ds ps marks inside
+        left-alone (nodesFrom nodes arguments) right right-nodes k (drop i left) left-nodes (r .0) (omega (arith, s)) ds ps marks inside
         (λ j p z.
         let y : not (eqb (word may (maxTerms * (i + r .0) + j)) 0) && not (eqb (word marks j) 0) ≡ false = none-some (partnerAt may (i + r .0) marks) (length marks) x j (omega (arith, size)) in
         let v : eqb (word may (maxTerms * (i + r .0) + j)) 0 ≡ true = not-false _ (and-right-true _ _ y (rw (ne-eqb (word marks j) 0 z))) in
         rw (getD-drop i left (r .0) 0) (pairs .never (i + r .0) j (omega arith) p (eqb-true _ _ v)))
 
     -- without left labels
-    rights-none : (l : ℕ) → rightsStuck may i (length left) marks ≡ true → below (nodesFrom words args) right 0 l (drop i left) ds ps marks ≡ []
+    rights-none : (l : ℕ) → rightsStuck may i (length left) marks ≡ true → below (nodesFrom nodes arguments) right 0 l (drop i left) ds ps marks ≡ []
     unfolding rightsStuck rightStuck someLeft leftAt
     rights-none l e =
         let s = length-drop i left in
         let r = some-means (rightStuck may i (length left) marks) (length marks) .0 e in
         let m : eqb (word marks (r .0)) 0 ≡ false = not-true _ (and-true-left _ _ (r .2)) in
         let x : someLeft may i (length left) (r .0) ≡ false = not-true _ (and-true-right (not (eqb (word marks (r .0)) 0)) _ (r .2)) in
-        right-alone (nodesFrom words args) right right-nodes l (drop i left) left-nodes (r .0) (omega (arith, size)) ds ps marks inside (eqb-false _ _ m)
+        right-alone (nodesFrom nodes arguments) right right-nodes l (drop i left) left-nodes (r .0) (omega (arith, size)) ds ps marks inside (eqb-false _ _ m)
         (λ q p.
         let v : eqb (word may (maxTerms * (i + q) + r .0)) 0 ≡ true = not-false _ (none-some (leftAt may i (r .0)) (length left - i) x q (omega (arith, s))) in
         rw (getD-drop i left q 0) (pairs .never (i + q) (r .0) (omega (arith, s)) (omega (arith, size)) (eqb-true _ _ v)))
 
 -- nothing is below a branch where a term that must be paired has no partner
-pub below-stuck : (words args left right may : List ℕ) (labels : Labels) (i : ℕ) (ds : List ℕ) (ps : List (ℕ × ℕ)) (marks : List ℕ) → Listable words args left right labels → MayPair words args left right may → i ≤ length left → length marks ≡ length right → Inside (nodesFrom words args) ps → stuck (labels .left) (labels .right) may i (length left) marks ≡ true → below (nodesFrom words args) right (labels .left) (labels .right) (drop i left) ds ps marks ≡ []
+pub below-stuck : (nodes arguments left right may : List ℕ) (labels : Labels) (i : ℕ) (ds : List ℕ) (ps : List (ℕ × ℕ)) (marks : List ℕ) → Listable nodes arguments left right labels → MayPair nodes arguments left right may → i ≤ length left → length marks ≡ length right → Inside (nodesFrom nodes arguments) ps → stuck (labels .left) (labels .right) may i (length left) marks ≡ true → below (nodesFrom nodes arguments) right (labels .left) (labels .right) (drop i left) ds ps marks ≡ []
 unfolding stuck
-below-stuck words args left right may labels i ds ps marks able pairs h size inside e =
+below-stuck nodes arguments left right may labels i ds ps marks able pairs h size inside e =
     pick (eqb (labels .right) 0) refl (eqb (labels .left) 0) refl e
   where
-    pick : (a : Bool) → eqb (labels .right) 0 ≡ a → (b : Bool) → eqb (labels .left) 0 ≡ b → cond a (leftsStuck may i (length left) marks) (cond b (rightsStuck may i (length left) marks) false) ≡ true → below (nodesFrom words args) right (labels .left) (labels .right) (drop i left) ds ps marks ≡ []
-    pick true p b q f = rw (eqb-true (labels .right) 0 p) (lefts-none words args left right may labels i ds ps marks able pairs size inside (labels .left) f)
-    pick false p true q f = rw (eqb-true (labels .left) 0 q) (rights-none words args left right may labels i ds ps marks able pairs size inside (labels .right) f)
+    pick : (a : Bool) → eqb (labels .right) 0 ≡ a → (b : Bool) → eqb (labels .left) 0 ≡ b → cond a (leftsStuck may i (length left) marks) (cond b (rightsStuck may i (length left) marks) false) ≡ true → below (nodesFrom nodes arguments) right (labels .left) (labels .right) (drop i left) ds ps marks ≡ []
+    pick true p b q f = rw (eqb-true (labels .right) 0 p) (lefts-none nodes arguments left right may labels i ds ps marks able pairs size inside (labels .left) f)
+    pick false p true q f = rw (eqb-true (labels .left) 0 q) (rights-none nodes arguments left right may labels i ds ps marks able pairs size inside (labels .right) f)
     pick false p false q f = absurd (false≢true f)
 
 -- a digit that pairs two terms whose mark is 0 has no entry
-pub may-none : (words args left right may : List ℕ) (labels : Labels) (i d : ℕ) (f : List ℕ → List (ℕ × ℕ) → List ℕ → List (List ℕ)) (ds : List ℕ) (ps : List (ℕ × ℕ)) (marks : List ℕ) → Listable words args left right labels → MayPair words args left right may → i < length left → 0 < d → d ≤ length right → Inside (nodesFrom words args) ps → word may (maxTerms * i + (d - 1)) ≡ 0 → onDigit (nodesFrom words args) right f ds ps marks (word left i) d ≡ []
-may-none words args left right may labels i d f ds ps marks able pairs h p q inside z =
-    digit-empty (nodesFrom words args) right f ds ps marks (word left i) d
+pub may-none : (nodes arguments left right may : List ℕ) (labels : Labels) (i d : ℕ) (f : List ℕ → List (ℕ × ℕ) → List ℕ → List (List ℕ)) (ds : List ℕ) (ps : List (ℕ × ℕ)) (marks : List ℕ) → Listable nodes arguments left right labels → MayPair nodes arguments left right may → i < length left → 0 < d → d ≤ length right → Inside (nodesFrom nodes arguments) ps → word may (maxTerms * i + (d - 1)) ≡ 0 → onDigit (nodesFrom nodes arguments) right f ds ps marks (word left i) d ≡ []
+may-none nodes arguments left right may labels i d f ds ps marks able pairs h p q inside z =
+    digit-empty (nodesFrom nodes arguments) right f ds ps marks (word left i) d
     (λ r n u. absurd (pairs .never i (d - 1) h (omega arith) z ps inside u))
     (λ r. absurd (omega arith))
 
@@ -232,7 +232,7 @@ module _ (may : List ℕ) (i n : ℕ) (marks : List ℕ) (j : ℕ) (b : Bool) (e
   rights-next f t = some-next (rightStuck may i n marks) j f (sym e ∙ t)
 
 -- a pair can be tried by itself, with any counts that are right
-pub triable : {words args cs next counts : List ℕ} → Trying words args cs next → Counts words args counts (nodeCount words) → Triable words args counts cs next
+pub triable : {nodes arguments cs next counts : List ℕ} → Trying nodes arguments cs next → Counts nodes arguments counts (nodeCount nodes) → Triable nodes arguments counts cs next
 triable {counts = counts} t c =
     record {
       sections = t .sections;
@@ -243,11 +243,11 @@ triable {counts = counts} t c =
     }
 
 -- a pair marked with 0 only if it never has a unifier leaves the marks right
-pub pair-marked : (words args left right may : List ℕ) (i j a b v : ℕ) → length left ≤ maxTerms → length right ≤ maxTerms → j < length right → a ≡ word left i → b ≡ word right j → (v ≡ 0 → Never (nodesFrom words args) a b) → MayPair words args left right may → MayPair words args left right (set may (maxTerms * i + j) v)
-pair-marked words args left right may i j a b v few-left few-right h x y n m =
+pub pair-marked : (nodes arguments left right may : List ℕ) (i j a b v : ℕ) → length left ≤ maxTerms → length right ≤ maxTerms → j < length right → a ≡ word left i → b ≡ word right j → (v ≡ 0 → Never (nodesFrom nodes arguments) a b) → MayPair nodes arguments left right may → MayPair nodes arguments left right (set may (maxTerms * i + j) v)
+pair-marked nodes arguments left right may i j a b v few-left few-right h x y n m =
     record { size = length-set may (maxTerms * i + j) v ∙ m .size; never = λ q r p s z. go q r p s z (ℕ-discrete (maxTerms * q + r) (maxTerms * i + j)) }
   where
-    go : (q r : ℕ) → q < length left → r < length right → word (set may (maxTerms * i + j) v) (maxTerms * q + r) ≡ 0 → Dec (maxTerms * q + r ≡ maxTerms * i + j) → Never (nodesFrom words args) (word left q) (word right r)
+    go : (q r : ℕ) → q < length left → r < length right → word (set may (maxTerms * i + j) v) (maxTerms * q + r) ≡ 0 → Dec (maxTerms * q + r ≡ maxTerms * i + j) → Never (nodesFrom nodes arguments) (word left q) (word right r)
     go q r p s z (yes e) =
         let c : q ≡ i = omega (arith, few-right, h, e) in
         let d : r ≡ j = omega (arith, few-right, h, e) in

@@ -98,9 +98,9 @@ other (inl e) n = absurd (n e)
 other (inr e) n = e
 
 -- a branch that stands in an entry
-module _ {words args left right entry : List ℕ} {labels : Labels} {key weight unpaired i : ℕ} (l : Listable words args left right labels) (g : Branching words args left right entry key weight unpaired i) where
+module _ {nodes arguments left right entry : List ℕ} {labels : Labels} {key weight unpaired i : ℕ} (l : Listable nodes arguments left right labels) (g : Branching nodes arguments left right entry key weight unpaired i) where
   -- its digits pair nodes
-  pub branch-pairable : Pairable words left right entry i
+  pub branch-pairable : Pairable nodes left right entry i
   branch-pairable =
       record {
         depth = g .depth;
@@ -114,7 +114,7 @@ module _ {words args left right entry : List ℕ} {labels : Labels} {key weight 
   key-in-range = rw (g .keyed) (key-fits (length right) i entry (l .right-few) (omega (arith, g .depth, l .left-few)))
 
   -- the binding words are put behind its digits
-  module _ {entry₁ : List ℕ} (b : Bound words args left right entry i entry₁) where
+  module _ {entry₁ : List ℕ} (b : Bound nodes arguments left right entry i entry₁) where
     -- as many words come before them
     digits-long : length (take (length left + length right) entry) ≡ length left + length right
     digits-long = length-take-le (length left + length right) entry (branch-room g)
@@ -122,8 +122,8 @@ module _ {words args left right entry : List ℕ} {labels : Labels} {key weight 
     -- the entry is as long as before
     bound-long : length entry₁ ≡ length entry
     bound-long =
-        let x = length-append (take (length left + length right) entry) (wordsOf (nodesFrom words args) (pairsIn left right entry i)) in
-        let y = words-counted (nodesFrom words args) (pairsIn left right entry i) in
+        let x = length-append (take (length left + length right) entry) (wordsOf (nodesFrom nodes arguments) (pairsIn left right entry i)) in
+        let y = words-counted (nodesFrom nodes arguments) (pairsIn left right entry i) in
         ap length (b .words-put) ∙ omega (arith, x, y, digits-long, g .size)
 
     -- the digits and the marks stay
@@ -142,26 +142,26 @@ module _ {words args left right entry : List ℕ} {labels : Labels} {key weight 
         }
 
     -- they stand behind
-    bound-behind : drop (length left + length right) entry₁ ≡ wordsOf (nodesFrom words args) (pairsIn left right entry₁ i)
+    bound-behind : drop (length left + length right) entry₁ ≡ wordsOf (nodesFrom nodes arguments) (pairsIn left right entry₁ i)
     bound-behind =
         ap (drop (length left + length right)) (b .words-put)
         ∙ drop-at (take (length left + length right) entry) _ _ digits-long
-        ∙ ap (λ (ds : List ℕ). wordsOf (nodesFrom words args) (pairedBy left right ds [])) (sym (bound-keeps .digits))
+        ∙ ap (λ (ds : List ℕ). wordsOf (nodesFrom nodes arguments) (pairedBy left right ds [])) (sym (bound-keeps .digits))
 
     -- so the entries can be written
-    pub bound-ending : {memory lent : List ℕ} {at : ℕ} → outcome (nodesFrom words args) (pairsIn left right entry i) ≡ unified → Remembers words args left right memory lent at → Ending words args left right labels key weight unpaired i entry₁ memory lent at
+    pub bound-ending : {memory lent : List ℕ} {at : ℕ} → outcome (nodesFrom nodes arguments) (pairsIn left right entry i) ≡ unified → Remembers nodes arguments left right memory lent at → Ending nodes arguments left right labels key weight unpaired i entry₁ memory lent at
     bound-ending u r =
         record {
           listable = l;
           branching = branching-kept g bound-long bound-keeps;
-          unifiable = ap (λ (ds : List ℕ). outcome (nodesFrom words args) (pairedBy left right ds [])) (bound-keeps .digits) ∙ u;
+          unifiable = ap (λ (ds : List ℕ). outcome (nodesFrom nodes arguments) (pairedBy left right ds [])) (bound-keeps .digits) ∙ u;
           bound = bound-behind;
           remembers = r;
           room = r .room;
         }
 
     -- and they are those of the branch
-    pub bound-walked : {memory lent : List ℕ} {at : ℕ} {entry₂ memory′ lent′ : List ℕ} {w : Written} → Walked words args left right labels i entry₁ memory lent at entry₂ memory′ lent′ w → Walked words args left right labels i entry memory lent at entry₂ memory′ lent′ w
+    pub bound-walked : {memory lent : List ℕ} {at : ℕ} {entry₂ memory′ lent′ : List ℕ} {w : Written} → Walked nodes arguments left right labels i entry₁ memory lent at entry₂ memory′ lent′ w → Walked nodes arguments left right labels i entry memory lent at entry₂ memory′ lent′ w
     bound-walked y =
         record {
           writes = rw (bound-keeps .digits, bound-keeps .marks) at (y .writes);
@@ -171,14 +171,14 @@ module _ {words args left right entry : List ℕ} {labels : Labels} {key weight 
         }
 
 -- a branch whose binding words stand behind its digits
-module _ {words args left right : List ℕ} {labels : Labels} {key weight unpaired i : ℕ} {entry memory lent : List ℕ} {at : ℕ} (g : Ending words args left right labels key weight unpaired i entry memory lent at) where
+module _ {nodes arguments left right : List ℕ} {labels : Labels} {key weight unpaired i : ℕ} {entry memory lent : List ℕ} {at : ℕ} (g : Ending nodes arguments left right labels key weight unpaired i entry memory lent at) where
   -- the marks stand before the binding words
-  marks-before : drop (length left) entry ≡ marksIn left right entry ++ wordsOf (nodesFrom words args) (pairsIn left right entry i)
+  marks-before : drop (length left) entry ≡ marksIn left right entry ++ wordsOf (nodesFrom nodes arguments) (pairsIn left right entry i)
   marks-before =
       sym (take-append-drop (length right) (drop (length left) entry)) ∙ ap (λ (ws : List ℕ). marksIn left right entry ++ ws) (drop-drop (length right) (length left) entry ∙ g .bound)
 
   -- its right digits give the entries of a whole string of left digits
-  string-entries : i ≡ length left → rightEntries (labels .left) entry (length left) (length left + length right) ≡ branchEntries words args left right labels entry i
+  string-entries : i ≡ length left → rightEntries (labels .left) entry (length left) (length left + length right) ≡ branchEntries nodes arguments left right labels entry i
   unfolding rightEntries below
   string-entries q =
       let m : length left + length right - length left ≡ length right = omega arith in
@@ -187,22 +187,22 @@ module _ {words args left right : List ℕ} {labels : Labels} {key weight unpair
       rw (m, t, g .bound, z) refl
 
   -- its strings of labels those of a branch in which every right term is paired
-  label-entries : unpaired ≡ 0 → labelEntries (length right) (labels .right) entry i (length left) ≡ branchEntries words args left right labels entry i
+  label-entries : unpaired ≡ 0 → labelEntries (length right) (labels .right) entry i (length left) ≡ branchEntries nodes arguments left right labels entry i
   unfolding labelEntries
   label-entries q =
-      let x = below-labels (nodesFrom words args) right (labels .left) (labels .right) (drop i left) (take i entry) (pairsIn left right entry i) (marksIn left right entry) (sym (g .branching .counted) ∙ q) in
+      let x = below-labels (nodesFrom nodes arguments) right (labels .left) (labels .right) (drop i left) (take i entry) (pairsIn left right entry i) (marksIn left right entry) (sym (g .branching .counted) ∙ q) in
       rw (x, length-drop i left) (ap (λ (r : List ℕ). map (λ es. take i entry ++ es ++ r) (labelStrings (length right) (labels .right) (length left - i))) marks-before)
 
   module _ {lent′ : List ℕ} {w : Written} {memory′ : List ℕ} (n : Notes memory key at (w .used) memory′) where
     -- entries with these binding words are remembered
-    noted : {es : List (List ℕ)} → ((e : List ℕ) → List·Memᴰ e es → (length e ≡ length entry) × (drop (length left + length right) e ≡ drop (length left + length right) entry)) → Writes es lent at lent′ w → Remembers words args left right memory′ lent′ (w .used)
+    noted : {es : List (List ℕ)} → ((e : List ℕ) → List·Memᴰ e es → (length e ≡ length entry) × (drop (length left + length right) e ≡ drop (length left + length right) entry)) → Writes es lent at lent′ w → Remembers nodes arguments left right memory′ lent′ (w .used)
     noted f x =
         let d = g .branching .depth in
         remembers-noted entry i key (g .remembers) (g .branching .keyed) d (omega (arith, branch-room (g .branching), d)) (g .branching .positive) (g .unifiable)
         (λ e m. (f e m .0 ∙ g .branching .size, f e m .1 ∙ g .bound)) x n
 
     -- every left term has its digit
-    pub string-walked : {entry′ : List ℕ} → i ≡ length left → Writes (rightEntries (labels .left) entry (length left) (length left + length right)) lent at lent′ w → Restored entry w entry′ → Walked words args left right labels i entry memory lent at entry′ memory′ lent′ w
+    pub string-walked : {entry′ : List ℕ} → i ≡ length left → Writes (rightEntries (labels .left) entry (length left) (length left + length right)) lent at lent′ w → Restored entry w entry′ → Walked nodes arguments left right labels i entry memory lent at entry′ memory′ lent′ w
     string-walked q x r =
         record {
           writes = rw (string-entries q) at x;
@@ -212,7 +212,7 @@ module _ {words args left right : List ℕ} {labels : Labels} {key weight unpair
         }
 
     -- every right term is paired
-    pub label-walked : {entry′ : List ℕ} → unpaired ≡ 0 → Writes (labelEntries (length right) (labels .right) entry i (length left)) lent at lent′ w → Relabelled entry i (length left) entry′ → Walked words args left right labels i entry memory lent at entry′ memory′ lent′ w
+    pub label-walked : {entry′ : List ℕ} → unpaired ≡ 0 → Writes (labelEntries (length right) (labels .right) entry i (length left)) lent at lent′ w → Relabelled entry i (length left) entry′ → Walked nodes arguments left right labels i entry memory lent at entry′ memory′ lent′ w
     label-walked q x r =
         record {
           writes = rw (label-entries q) at x;

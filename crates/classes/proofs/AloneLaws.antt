@@ -30,65 +30,65 @@ use Rattle.classes.proofs.ExtensionLaws.{longer, inside-more}
 use Rattle.classes.proofs.AtOnceLaws.{differ-clash}
 
 -- a closed application has one value under every substitution, by induction on nodes before n
-closed-value : (words args counts : List ℕ) → Sections words args → Counts words args counts (nodeCount words) → (n i : ℕ) → i < n → Marked words counts i → (σ τ : Substitution) → value (nodesFrom words args) σ i ≡ value (nodesFrom words args) τ i
-closed-value words args counts s k zero i l m σ τ = absurd (omega arith)
-closed-value words args counts s k (suc n) i l m σ τ =
-    let w = sections-well-formed words args s in
-    let p = is-node words args i (m .node) in
-    let e = application-from words args i (m .node) (m .applied) in
-    value-application (nodesFrom words args) w σ i (nameOf words i) (run words args i) p e
-    ∙ ap (app (nameOf words i)) (each-same (value (nodesFrom words args) σ) (value (nodesFrom words args) τ) (run words args i) (λ a h.
-    let r = argument-place words args s i (m .node) (nameOf words i) (run words args i) e a h in
+closed-value : (nodes arguments counts : List ℕ) → Sections nodes arguments → Counts nodes arguments counts (nodeCount nodes) → (n i : ℕ) → i < n → Marked nodes counts i → (σ τ : Substitution) → value (nodesFrom nodes arguments) σ i ≡ value (nodesFrom nodes arguments) τ i
+closed-value nodes arguments counts s k zero i l m σ τ = absurd (omega arith)
+closed-value nodes arguments counts s k (suc n) i l m σ τ =
+    let w = sections-well-formed nodes arguments s in
+    let p = is-node nodes arguments i (m .node) in
+    let e = application-from nodes arguments i (m .node) (m .applied) in
+    value-application (nodesFrom nodes arguments) w σ i (nameOf nodes i) (run nodes arguments i) p e
+    ∙ ap (app (nameOf nodes i)) (each-same (value (nodesFrom nodes arguments) σ) (value (nodesFrom nodes arguments) τ) (run nodes arguments i) (λ a h.
+    let r = argument-place nodes arguments s i (m .node) (nameOf nodes i) (run nodes arguments i) e a h in
     let d = s .smaller i (r .0) (m .node) (r .1) in
-    rw (r .2) (closed-value words args counts s k n (argumentOf words args i (r .0)) (omega (arith, d)) (k .below i (m .node) m (r .0) (r .1)) σ τ)))
-    ∙ sym (value-application (nodesFrom words args) w τ i (nameOf words i) (run words args i) p e)
+    rw (r .2) (closed-value nodes arguments counts s k n (argumentOf nodes arguments i (r .0)) (omega (arith, d)) (k .below i (m .node) m (r .0) (r .1)) σ τ)))
+    ∙ sym (value-application (nodesFrom nodes arguments) w τ i (nameOf nodes i) (run nodes arguments i) p e)
 
-module _ (words args counts : List ℕ) (s : Sections words args) (cs : List ℕ) (f : Formed words args counts cs) (z : StandsAlways words args cs) (a b : ℕ) (p : a < nodeCount words) (q : b < nodeCount words) where
+module _ (nodes arguments counts : List ℕ) (s : Sections nodes arguments) (cs : List ℕ) (f : Formed nodes arguments counts cs) (z : StandsAlways nodes arguments cs) (a b : ℕ) (p : a < nodeCount nodes) (q : b < nodeCount nodes) where
   abbrev ns : List Node
-  ns = nodesFrom words args
+  ns = nodesFrom nodes arguments
 
   with-pair : Inside ns ((a, b) ∷ z .pairs)
-  with-pair = longer words args counts s cs f a b p q (z .pairs) (z .stands)
+  with-pair = longer nodes arguments counts s cs f a b p q (z .pairs) (z .stands)
 
   -- a pair that does not unify with pairs that every substitution unifies unifies with none
   never-by : (outcome ns ((a, b) ∷ z .pairs) ≡ unified → ⊥) → Never ns a b
   never-by n ps h e =
-      let u = outcome-unified ns (sections-well-formed words args s) ((a, b) ∷ ps) (inside-more ns ps a b (is-node words args a p) (is-node words args b q) h) .0 e in
-      n (outcome-unified ns (sections-well-formed words args s) ((a, b) ∷ z .pairs) with-pair .1 (u .0, λ i j m. all (u .0) (u .1 a b (List·Memᴰ·head refl)) i j m))
+      let u = outcome-unified ns (sections-well-formed nodes arguments s) ((a, b) ∷ ps) (inside-more ns ps a b (is-node nodes arguments a p) (is-node nodes arguments b q) h) .0 e in
+      n (outcome-unified ns (sections-well-formed nodes arguments s) ((a, b) ∷ z .pairs) with-pair .1 (u .0, λ i j m. all (u .0) (u .1 a b (List·Memᴰ·head refl)) i j m))
     where
       all : (σ : Substitution) → value ns σ a ≡ value ns σ b → (i j : ℕ) → List·Memᴰ {A = ℕ × ℕ} (i, j) ((a, b) ∷ z .pairs) → value ns σ i ≡ value ns σ j
       all σ v i j (List·Memᴰ·head d) = ap (λ (x : ℕ × ℕ). value ns σ (x .0)) d ∙ v ∙ sym (ap (λ (x : ℕ × ℕ). value ns σ (x .1)) d)
       all σ v i j (List·Memᴰ·tail m) = z .same σ i j m
 
   -- applications of different symbols
-  pub never-differ : (g h : ℕ) → g ≡ classOf cs a → h ≡ classOf cs b → (r : Bool) → r ≡ differTest words g h → r ≡ true → Never ns a b
+  pub never-differ : (g h : ℕ) → g ≡ classOf cs a → h ≡ classOf cs b → (r : Bool) → r ≡ differTest nodes g h → r ≡ true → Never ns a b
   never-differ g h x y r d t =
       never-by
       (λ e.
-      let k : outcome ns ((a, b) ∷ z .pairs) ≡ clash = outcome-clash ns (sections-well-formed words args s) ((a, b) ∷ z .pairs) with-pair .1 (differ-clash words args counts cs s f a b p q (rw (x, y) at (sym d ∙ t)) (z .pairs) (z .stands)) in
+      let k : outcome ns ((a, b) ∷ z .pairs) ≡ clash = outcome-clash ns (sections-well-formed nodes arguments s) ((a, b) ∷ z .pairs) with-pair .1 (differ-clash nodes arguments counts cs s f a b p q (rw (x, y) at (sym d ∙ t)) (z .pairs) (z .stands)) in
       let w : _≡_ {A = ℕ} 0 1 = cc in
       omega arith)
 
   -- a node has the value of its head
-  head-value : (σ : Substitution) (i : ℕ) → i < nodeCount words → value ns σ i ≡ value ns σ (classOf cs i)
+  head-value : (σ : Substitution) (i : ℕ) → i < nodeCount nodes → value ns σ i ≡ value ns σ (classOf cs i)
   head-value σ i h =
-      joined-equal ns (sections-well-formed words args s) (z .pairs) (z .stands .inside) σ (z .same σ) (z .stands .closure .joined i (is-node words args i h))
+      joined-equal ns (sections-well-formed nodes arguments s) (z .pairs) (z .stands .inside) σ (z .same σ) (z .stands .closure .joined i (is-node nodes arguments i h))
 
   -- closed applications of different terms
-  pub never-closed : Counts words args counts (nodeCount words) → (g h : ℕ) → g ≡ classOf cs a → h ≡ classOf cs b → (g ≡ h → ⊥) → (r : Bool) → r ≡ (markedTest words counts g && markedTest words counts h) → r ≡ true → Never ns a b
-  never-closed k g h x y n r d t = never-by (λ e. n (x ∙ one (outcome-unified ns (sections-well-formed words args s) ((a, b) ∷ z .pairs) with-pair .0 e) ∙ sym y))
+  pub never-closed : Counts nodes arguments counts (nodeCount nodes) → (g h : ℕ) → g ≡ classOf cs a → h ≡ classOf cs b → (g ≡ h → ⊥) → (r : Bool) → r ≡ (markedTest nodes counts g && markedTest nodes counts h) → r ≡ true → Never ns a b
+  never-closed k g h x y n r d t = never-by (λ e. n (x ∙ one (outcome-unified ns (sections-well-formed nodes arguments s) ((a, b) ∷ z .pairs) with-pair .0 e) ∙ sym y))
     where
-      both : (markedTest words counts (classOf cs a) && markedTest words counts (classOf cs b)) ≡ true
+      both : (markedTest nodes counts (classOf cs a) && markedTest nodes counts (classOf cs b)) ≡ true
       both = rw (x, y) at (sym d ∙ t)
 
-      first : Marked words counts (classOf cs a)
-      first = marked-true words counts (classOf cs a) (f .partition .below a p) (and-true-left _ (markedTest words counts (classOf cs b)) both)
+      first : Marked nodes counts (classOf cs a)
+      first = marked-true nodes counts (classOf cs a) (f .partition .below a p) (and-true-left _ (markedTest nodes counts (classOf cs b)) both)
 
-      second : Marked words counts (classOf cs b)
-      second = marked-true words counts (classOf cs b) (f .partition .below b q) (and-true-right (markedTest words counts (classOf cs a)) _ both)
+      second : Marked nodes counts (classOf cs b)
+      second = marked-true nodes counts (classOf cs b) (f .partition .below b q) (and-true-right (markedTest nodes counts (classOf cs a)) _ both)
 
-      always : (i : ℕ) → Marked words counts i → (σ τ : Substitution) → value ns σ i ≡ value ns τ i
-      always i = closed-value words args counts s k (suc i) i (omega arith)
+      always : (i : ℕ) → Marked nodes counts i → (σ τ : Substitution) → value ns σ i ≡ value ns τ i
+      always i = closed-value nodes arguments counts s k (suc i) i (omega arith)
 
       one : Unifiable ns ((a, b) ∷ z .pairs) → classOf cs a ≡ classOf cs b
       one (σ, u) =
@@ -96,7 +96,7 @@ module _ (words args counts : List ℕ) (s : Sections words args) (cs : List ℕ
           (always (classOf cs a) first var σ ∙ sym (head-value σ a p) ∙ u a b (List·Memᴰ·head refl) ∙ head-value σ b q ∙ always (classOf cs b) second σ var) ∙ f .partition .own b q
 
   -- a pair that clashes with the classes
-  pub never-clash : (r : Extended) (next cs′ next′ : List ℕ) → r ≡ Clash → Extends words args counts cs next a b r cs′ next′ → Never ns a b
+  pub never-clash : (r : Extended) (next cs′ next′ : List ℕ) → r ≡ Clash → Extends nodes arguments counts cs next a b r cs′ next′ → Never ns a b
   never-clash r next cs′ next′ e x =
       never-by
       (λ u.
@@ -105,7 +105,7 @@ module _ (words args counts : List ℕ) (s : Sections words args) (cs : List ℕ
       omega arith)
 
   -- and one that makes a cycle
-  pub never-occurs : (r : Extended) (next cs′ next′ : List ℕ) → r ≡ Occurs → Extends words args counts cs next a b r cs′ next′ → Never ns a b
+  pub never-occurs : (r : Extended) (next cs′ next′ : List ℕ) → r ≡ Occurs → Extends nodes arguments counts cs next a b r cs′ next′ → Never ns a b
   never-occurs r next cs′ next′ e x =
       never-by
       (λ u.

@@ -20,34 +20,34 @@ use Rattle.classes.proofs.OrderedLaws.{ordered-unified}
 use Rattle.classes.proofs.ExtensionLaws.{longer, waiting}
 
 -- what the test for applications of different symbols tells
-differ-means : (words : List ℕ) (g h : ℕ) → differTest words g h ≡ true → (kindOf words g ≡ 0 → ⊥) × (kindOf words h ≡ 0 → ⊥) × (symbolTest words g h ≡ false)
-differ-means words g h = pick (eqb (kindOf words g) 0) refl (eqb (kindOf words h) 0) refl (symbolTest words g h) refl
+differ-means : (nodes : List ℕ) (g h : ℕ) → differTest nodes g h ≡ true → (kindOf nodes g ≡ 0 → ⊥) × (kindOf nodes h ≡ 0 → ⊥) × (symbolTest nodes g h ≡ false)
+differ-means nodes g h = pick (eqb (kindOf nodes g) 0) refl (eqb (kindOf nodes h) 0) refl (symbolTest nodes g h) refl
   where
-    pick : (x : Bool) → eqb (kindOf words g) 0 ≡ x → (y : Bool) → eqb (kindOf words h) 0 ≡ y → (z : Bool) → symbolTest words g h ≡ z → (not x && not y && not z) ≡ true → (kindOf words g ≡ 0 → ⊥) × (kindOf words h ≡ 0 → ⊥) × (symbolTest words g h ≡ false)
+    pick : (x : Bool) → eqb (kindOf nodes g) 0 ≡ x → (y : Bool) → eqb (kindOf nodes h) 0 ≡ y → (z : Bool) → symbolTest nodes g h ≡ z → (not x && not y && not z) ≡ true → (kindOf nodes g ≡ 0 → ⊥) × (kindOf nodes h ≡ 0 → ⊥) × (symbolTest nodes g h ≡ false)
     pick true d y e z t q = absurd (false≢true q)
     pick false d true e z t q = absurd (false≢true q)
     pick false d false e true t q = absurd (false≢true q)
     pick false d false e false t q = (eqb-false _ _ d, eqb-false _ _ e, t)
 
-module _ (words args counts cs : List ℕ) (s : Sections words args) (f : Formed words args counts cs) where
-  module _ (a b : ℕ) (p : a < nodeCount words) (q : b < nodeCount words) where
+module _ (nodes arguments counts cs : List ℕ) (s : Sections nodes arguments) (f : Formed nodes arguments counts cs) where
+  module _ (a b : ℕ) (p : a < nodeCount nodes) (q : b < nodeCount nodes) where
     -- one head: the classes stand for the longer list too
-    pub together : classOf cs a ≡ classOf cs b → (ps : List (ℕ × ℕ)) → Stands words args cs ps → Stands words args cs ((a, b) ∷ ps)
+    pub together : classOf cs a ≡ classOf cs b → (ps : List (ℕ × ℕ)) → Stands nodes arguments cs ps → Stands nodes arguments cs ((a, b) ∷ ps)
     together e ps d =
         record {
-          inside = longer words args counts s cs f a b p q ps d;
-          closure = closure-at-last (nodesFrom words args) ((a, b) ∷ ps) cs (already (nodesFrom words args) ((a, b) ∷ ps) cs a b [] (in-list (f .partition) a p) (in-list (f .partition) b q) e (waiting words args counts s cs f a b p q ps d));
+          inside = longer nodes arguments counts s cs f a b p q ps d;
+          closure = closure-at-last (nodesFrom nodes arguments) ((a, b) ∷ ps) cs (already (nodesFrom nodes arguments) ((a, b) ∷ ps) cs a b [] (in-list (f .partition) a p) (in-list (f .partition) b q) e (waiting nodes arguments counts s cs f a b p q ps d));
         }
 
     -- applications of different symbols: a clash
-    pub differ-clash : differTest words (classOf cs a) (classOf cs b) ≡ true → (ps : List (ℕ × ℕ)) → Stands words args cs ps → Clash (nodesFrom words args) ((a, b) ∷ ps)
+    pub differ-clash : differTest nodes (classOf cs a) (classOf cs b) ≡ true → (ps : List (ℕ × ℕ)) → Stands nodes arguments cs ps → Clash (nodesFrom nodes arguments) ((a, b) ∷ ps)
     differ-clash t ps d =
-        let k = differ-means words (classOf cs a) (classOf cs b) t in
+        let k = differ-means nodes (classOf cs a) (classOf cs b) t in
         let g = f .partition .below a p in
         let h = f .partition .below b q in
-        heads-clash (nodesFrom words args) ((a, b) ∷ ps) cs a b [] (is-node words args a p) (is-node words args b q) _ _ _ _ (application-from words args (classOf cs a) g (k .0)) (application-from words args (classOf cs b) h (k .1)) (symbols-differ words args s (classOf cs a) (classOf cs b) g h (k .2)) (waiting words args counts s cs f a b p q ps d)
+        heads-clash (nodesFrom nodes arguments) ((a, b) ∷ ps) cs a b [] (is-node nodes arguments a p) (is-node nodes arguments b q) _ _ _ _ (application-from nodes arguments (classOf cs a) g (k .0)) (application-from nodes arguments (classOf cs b) h (k .1)) (symbols-differ nodes arguments s (classOf cs a) (classOf cs b) g h (k .2)) (waiting nodes arguments counts s cs f a b p q ps d)
 
   -- classes stand for pairs that have a unifier
-  pub formed-unified : Counts words args counts (nodeCount words) → (ps : List (ℕ × ℕ)) → Stands words args cs ps → outcome (nodesFrom words args) ps ≡ unified
+  pub formed-unified : Counts nodes arguments counts (nodeCount nodes) → (ps : List (ℕ × ℕ)) → Stands nodes arguments cs ps → outcome (nodesFrom nodes arguments) ps ≡ unified
   formed-unified k ps d =
-      ordered-unified words args s counts k cs (f .partition) (f .closed) ps (d .inside) (d .closure) (f .order) (f .ordered)
+      ordered-unified nodes arguments s counts k cs (f .partition) (f .closed) ps (d .inside) (d .closure) (f .order) (f .ordered)

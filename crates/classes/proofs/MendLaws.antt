@@ -10,7 +10,7 @@ use lib.ListN.{length, length-append, List·getD-append}
 use lib.Seq.{getD-at}
 use Rattle.table.specs.Layout.{word, countOf, nodeCount, argumentOf}
 use Rattle.unification.specs.Node.{Node, application, nodeAt}
-use Rattle.unification.specs.Closure.{Joined, given, one-variable, arguments, same, back, on}
+use Rattle.unification.specs.Closure.{Joined, given, one-variable, arguments as by-arguments, same, back, on}
 use Rattle.unification.specs.Computed.Classes.{classOf}
 use Rattle.unification.specs.Code.Given.{Inside}
 use Rattle.unification.specs.Code.Heads.{Partition}
@@ -49,8 +49,8 @@ stands (g ∷ order) h = go (ℕ-discrete g h) (stands order h)
         nowhere (suc q) l e = m (q, omega arith, e)
 
 -- one node more behind an order
-listed-more : (words args : List ℕ) (due : ℕ → ℕ) (cs order : List ℕ) → Listed words args due cs order → (h : ℕ) → h < nodeCount words → 0 < due h → ((q : ℕ) → q < length order → word order q ≡ h → ⊥) → ((j : ℕ) → j < due h → Met due order (length order) (classOf cs (argumentOf words args h j))) → Listed words args due cs (order ++ (h ∷ []))
-listed-more words args due cs order l h inside some new first = record { node = node; compound = compound; once = once; first = λ p q. firsts p q (at p q) }
+listed-more : (nodes arguments : List ℕ) (due : ℕ → ℕ) (cs order : List ℕ) → Listed nodes arguments due cs order → (h : ℕ) → h < nodeCount nodes → 0 < due h → ((q : ℕ) → q < length order → word order q ≡ h → ⊥) → ((j : ℕ) → j < due h → Met due order (length order) (classOf cs (argumentOf nodes arguments h j))) → Listed nodes arguments due cs (order ++ (h ∷ []))
+listed-more nodes arguments due cs order l h inside some new first = record { node = node; compound = compound; once = once; first = λ p q. firsts p q (at p q) }
   where
     longer : length (order ++ (h ∷ [])) ≡ suc (length order)
     longer = let e = length-append order (h ∷ []) in omega (arith, e)
@@ -68,10 +68,10 @@ listed-more words args due cs order l h inside some new first = record { node = 
         go (yes r) = inl r
         go (no r) = inr (omega (arith, longer))
 
-    node : (p : ℕ) → p < length (order ++ (h ∷ [])) → word (order ++ (h ∷ [])) p < nodeCount words
+    node : (p : ℕ) → p < length (order ++ (h ∷ [])) → word (order ++ (h ∷ [])) p < nodeCount nodes
     node p q = go (at p q)
       where
-        go : (p < length order) ⊎ (p ≡ length order) → word (order ++ (h ∷ [])) p < nodeCount words
+        go : (p < length order) ⊎ (p ≡ length order) → word (order ++ (h ∷ [])) p < nodeCount nodes
         go (inl r) = rw (old p r) (l .node p r)
         go (inr r) = rw (r, last) inside
 
@@ -89,37 +89,37 @@ listed-more words args due cs order l h inside some new first = record { node = 
         go (inl r) = l .once p q k r (sym (old p (omega arith)) ∙ e ∙ old q r)
         go (inr r) = new p (omega arith) (sym (old p (omega arith)) ∙ e ∙ ap (word (order ++ (h ∷ []))) r ∙ last)
 
-    firsts : (p : ℕ) → p < length (order ++ (h ∷ [])) → (p < length order) ⊎ (p ≡ length order) → (j : ℕ) → j < due (word (order ++ (h ∷ [])) p) → Met due (order ++ (h ∷ [])) p (classOf cs (argumentOf words args (word (order ++ (h ∷ [])) p) j))
+    firsts : (p : ℕ) → p < length (order ++ (h ∷ [])) → (p < length order) ⊎ (p ≡ length order) → (j : ℕ) → j < due (word (order ++ (h ∷ [])) p) → Met due (order ++ (h ∷ [])) p (classOf cs (argumentOf nodes arguments (word (order ++ (h ∷ [])) p) j))
     firsts p q (inl r) = rw (old p r) (λ j b. met-longer due order h p _ (omega arith) (l .first p r j b))
     firsts p q (inr r) = rw (r, last) (λ j b. met-longer due order h (length order) _ (omega arith) (first j b))
 
-module _ (words args : List ℕ) (s : Sections words args) (ps : List (ℕ × ℕ)) (inside : Inside (nodesFrom words args) ps) (a b : ℕ) (inside′ : Inside (nodesFrom words args) ((a, b) ∷ ps)) (old : List ℕ) (c : IsClosure (nodesFrom words args) ps (classOf old)) (cs : List ℕ) (c′ : IsClosure (nodesFrom words args) ((a, b) ∷ ps) (classOf cs)) where
+module _ (nodes arguments : List ℕ) (s : Sections nodes arguments) (ps : List (ℕ × ℕ)) (inside : Inside (nodesFrom nodes arguments) ps) (a b : ℕ) (inside′ : Inside (nodesFrom nodes arguments) ((a, b) ∷ ps)) (old : List ℕ) (c : IsClosure (nodesFrom nodes arguments) ps (classOf old)) (cs : List ℕ) (c′ : IsClosure (nodesFrom nodes arguments) ((a, b) ∷ ps) (classOf cs)) where
   abbrev ns : List Node
-  ns = nodesFrom words args
+  ns = nodesFrom nodes arguments
 
   -- nodes of one head before have one now
   pub still-one : (i j : ℕ) → i < length ns → j < length ns → classOf old i ≡ classOf old j → classOf cs i ≡ classOf cs j
   still-one i j p q e =
-      joined-head ns (sections-well-formed words args s) ((a, b) ∷ ps) inside′ (classOf cs) c′
+      joined-head ns (sections-well-formed nodes arguments s) ((a, b) ∷ ps) inside′ (classOf cs) c′
       (more-joined ((a, b) ∷ ps) (λ r m. List·Memᴰ·tail m) (on (rw e at (c .joined i p)) (back (c .joined j q))))
 
-  module _ (counts : List ℕ) (k : Counts words args counts (nodeCount words)) (closed : ClosedHeads words args counts cs) (below : OrderedBelow words args (word counts) cs a) where
+  module _ (counts : List ℕ) (k : Counts nodes arguments counts (nodeCount nodes)) (closed : ClosedHeads nodes arguments counts cs) (below : OrderedBelow nodes arguments (word counts) cs a) where
     -- The head of node i is met in the order of what the pair leads to.
     abbrev Reached : ℕ → Type 0
     Reached i = Met (word counts) (below .order) (length (below .order)) (classOf cs i)
 
     -- an argument of a node that is met, if it is looked at
-    looked-reached : (g : ℕ) → Met (word counts) (below .order) (length (below .order)) g → (j : ℕ) → j < word counts g → Reached (argumentOf words args g j)
+    looked-reached : (g : ℕ) → Met (word counts) (below .order) (length (below .order)) g → (j : ℕ) → j < word counts g → Reached (argumentOf nodes arguments g j)
     looked-reached g (leaf e) j l = absurd (omega arith)
     looked-reached g (before q b e) j l =
-        met-later (word counts) (below .order) q (length (below .order)) (classOf cs (argumentOf words args g j)) (omega arith) (rw e at (below .listed .first q b) j l)
+        met-later (word counts) (below .order) q (length (below .order)) (classOf cs (argumentOf nodes arguments g j)) (omega arith) (rw e at (below .listed .first q b) j l)
 
     -- any argument: that of a closed application has a closed head
-    reached-argument : (g : ℕ) → g < nodeCount words → Met (word counts) (below .order) (length (below .order)) g → (j : ℕ) → j < countOf words g → Reached (argumentOf words args g j)
+    reached-argument : (g : ℕ) → g < nodeCount nodes → Met (word counts) (below .order) (length (below .order)) g → (j : ℕ) → j < countOf nodes g → Reached (argumentOf nodes arguments g j)
     reached-argument g n m j l = go (k .some g n)
       where
-        go : (word counts g ≡ 0) ⊎ (word counts g ≡ countOf words g) → Reached (argumentOf words args g j)
-        go (inl e) = leaf (closed .closed _ (closed-argument words args s counts k g j n l e) .none)
+        go : (word counts g ≡ 0) ⊎ (word counts g ≡ countOf nodes g) → Reached (argumentOf nodes arguments g j)
+        go (inl e) = leaf (closed .closed _ (closed-argument nodes arguments s counts k g j n l e) .none)
         go (inr e) = looked-reached g m j (omega (arith, e, l))
 
     -- Nodes i and j had one head, or have one that is reached.
@@ -155,23 +155,23 @@ module _ (words args : List ℕ) (s : Sections words args) (ps : List (ℕ × �
         go : HeadFits ns (classOf cs) i f us → Reached x
         go h =
             let t = zip-through us (h .arguments) vs (h .as-long) (sym (h .as-long) ∙ l) x y m in
-            let g : classOf cs i < nodeCount words = counted words args (classOf cs i) (closure-inside ns (sections-well-formed words args s) ((a, b) ∷ ps) inside′ (classOf cs) c′ i p) in
-            let q = argument-place words args s (classOf cs i) g f (h .arguments) (h .applied) (t .0) (zip-right us (h .arguments) x (t .0) (t .1)) in
-            reached-same (argumentOf words args (classOf cs i) (q .0)) x (ap (classOf cs) (sym (q .2)) ∙ sym (h .one-head x (t .0) (t .1))) (reached-argument (classOf cs i) g r (q .0) (q .1))
+            let g : classOf cs i < nodeCount nodes = counted nodes arguments (classOf cs i) (closure-inside ns (sections-well-formed nodes arguments s) ((a, b) ∷ ps) inside′ (classOf cs) c′ i p) in
+            let q = argument-place nodes arguments s (classOf cs i) g f (h .arguments) (h .applied) (t .0) (zip-right us (h .arguments) x (t .0) (t .1)) in
+            reached-same (argumentOf nodes arguments (classOf cs i) (q .0)) x (ap (classOf cs) (sym (q .2)) ∙ sym (h .one-head x (t .0) (t .1))) (reached-argument (classOf cs i) g r (q .0) (q .1))
 
     -- joined nodes are
     joined-together : {i j : ℕ} → Joined ns ((a, b) ∷ ps) i j → Together i j
     joined-together (given {a = i} {b = j} m) = given-together i j m
     joined-together (one-variable {i} {j} {x} p q d e) = inl (c .one-variable i j x p q d e)
-    joined-together (arguments {i} {j} {f} {g} {a = x} {b = y} {us} {vs} d e l q m) =
-        go (joined-inside ns (sections-well-formed words args s) ((a, b) ∷ ps) inside′ q) (joined-together q)
+    joined-together (by-arguments {i} {j} {f} {g} {a = x} {b = y} {us} {vs} d e l q m) =
+        go (joined-inside ns (sections-well-formed nodes arguments s) ((a, b) ∷ ps) inside′ q) (joined-together q)
       where
         go : (i < length ns) × (j < length ns) → Together i j → Together x y
         go (p, r) (inl z) =
             inl
-            (joined-head ns (sections-well-formed words args s) ps inside (classOf old) c (arguments d e l (on (rw z at (c .joined i p)) (back (c .joined j r))) m))
+            (joined-head ns (sections-well-formed nodes arguments s) ps inside (classOf old) c (by-arguments d e l (on (rw z at (c .joined i p)) (back (c .joined j r))) m))
         go (p, r) (inr (v, w, z)) =
-            let o : classOf cs x ≡ classOf cs y = joined-head ns (sections-well-formed words args s) ((a, b) ∷ ps) inside′ (classOf cs) c′ (arguments d e l q m) in
+            let o : classOf cs x ≡ classOf cs y = joined-head ns (sections-well-formed nodes arguments s) ((a, b) ∷ ps) inside′ (classOf cs) c′ (by-arguments d e l q m) in
             let t = argument-reached i f us vs p d (l .1) v x y m in
             inr (t, reached-same x y o t, o)
     joined-together (same p) = inl refl
@@ -181,28 +181,28 @@ module _ (words args : List ℕ) (s : Sections words args) (ps : List (ℕ × �
         turn (inl e) = inl (sym e)
         turn (inr (x, y, e)) = inr (y, x, sym e)
     joined-together (on {i} {j} {k} p q) =
-        let x = joined-inside ns (sections-well-formed words args s) ((a, b) ∷ ps) inside′ p in
-        let y = joined-inside ns (sections-well-formed words args s) ((a, b) ∷ ps) inside′ q in
+        let x = joined-inside ns (sections-well-formed nodes arguments s) ((a, b) ∷ ps) inside′ p in
+        let y = joined-inside ns (sections-well-formed nodes arguments s) ((a, b) ∷ ps) inside′ q in
         together-on i j k (x .0) (x .1) (y .1) (joined-together p) (joined-together q)
 
-    module _ (partition : Partition (nodeCount words) cs) (heads : (i : ℕ) → i < nodeCount words → classOf old (classOf cs i) ≡ classOf cs i) where
+    module _ (partition : Partition (nodeCount nodes) cs) (heads : (i : ℕ) → i < nodeCount nodes → classOf old (classOf cs i) ≡ classOf cs i) where
       -- a node's head is as it was, or reached
-      kept-or-reached : (i : ℕ) → i < nodeCount words → (classOf old i ≡ classOf cs i) ⊎ Reached i
-      kept-or-reached i p = go (joined-together (c′ .joined i (is-node words args i p)))
+      kept-or-reached : (i : ℕ) → i < nodeCount nodes → (classOf old i ≡ classOf cs i) ⊎ Reached i
+      kept-or-reached i p = go (joined-together (c′ .joined i (is-node nodes arguments i p)))
         where
           go : Together i (classOf cs i) → (classOf old i ≡ classOf cs i) ⊎ Reached i
           go (inl e) = inl (e ∙ heads i p)
           go (inr (x, y, e)) = inr x
 
-      module _ (earlier : List ℕ) (o : Ordered words args (word counts) old earlier) where
+      module _ (earlier : List ℕ) (o : Ordered nodes arguments (word counts) old earlier) where
         -- An order that has all that is reached, and the first p of the order before that are heads still.
         record Mended (p : ℕ) (order : List ℕ) : Type 0 where
-          listed : Listed words args (word counts) cs order
+          listed : Listed nodes arguments (word counts) cs order
           reached : (g : ℕ) → Met (word counts) (below .order) (length (below .order)) g → Met (word counts) order (length order) g
           kept : (q : ℕ) → q < p → classOf cs (word earlier q) ≡ word earlier q → Met (word counts) order (length order) (word earlier q)
 
         -- what was met before place p is met
-        mended-met : (p : ℕ) (order : List ℕ) → Mended p order → (i : ℕ) → i < nodeCount words → Met (word counts) earlier p (classOf old i) → Met (word counts) order (length order) (classOf cs i)
+        mended-met : (p : ℕ) (order : List ℕ) → Mended p order → (i : ℕ) → i < nodeCount nodes → Met (word counts) earlier p (classOf old i) → Met (word counts) order (length order) (classOf cs i)
         mended-met p order m i l t = go (kept-or-reached i l) t
           where
             go : (classOf old i ≡ classOf cs i) ⊎ Reached i → Met (word counts) earlier p (classOf old i) → Met (word counts) order (length order) (classOf cs i)
@@ -229,7 +229,7 @@ module _ (words args : List ℕ) (s : Sections words args) (ps : List (ℕ × �
         mended-put p order l m new =
             mended-passed p (order ++ (word earlier p ∷ []))
             (record {
-              listed = listed-more words args (word counts) cs order (m .listed) (word earlier p) (o .listed .node p l) (o .listed .compound p l) new (λ j q. mended-met p order m (argumentOf words args (word earlier p) j) (looked-node words args s counts k (word earlier p) j (o .listed .node p l) q) (o .listed .first p l j q));
+              listed = listed-more nodes arguments (word counts) cs order (m .listed) (word earlier p) (o .listed .node p l) (o .listed .compound p l) new (λ j q. mended-met p order m (argumentOf nodes arguments (word earlier p) j) (looked-node nodes arguments s counts k (word earlier p) j (o .listed .node p l) q) (o .listed .first p l j q));
               reached = λ g r. still g (m .reached g r);
               kept = λ q k e. still (word earlier q) (m .kept q k e);
             })
@@ -256,7 +256,7 @@ module _ (words args : List ℕ) (s : Sections words args) (ps : List (ℕ × �
         mended-to (suc p) l = mended-next p (omega arith) (mended-to p (omega arith))
 
         -- the order mended
-        pub mended : (order : List ℕ) × Ordered words args (word counts) cs order
+        pub mended : (order : List ℕ) × Ordered nodes arguments (word counts) cs order
         mended =
             let r = mended-to (length earlier) (omega arith) in (
               r .0,

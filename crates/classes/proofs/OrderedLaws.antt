@@ -48,129 +48,129 @@ place-of (y ∷ ys) x (suc q) h e = pick (eqb y x) refl (place-of ys x q (omega 
 
 -- The rank of a node: its own number where none of its arguments is looked at, and otherwise past all nodes, by its first place.
 pub rank : List ℕ → List ℕ → List ℕ → ℕ → ℕ
-rank words counts order h = cond (eqb (word counts h) 0) h (nodeCount words + suc (placeIn order h))
+rank nodes counts order h = cond (eqb (word counts h) 0) h (nodeCount nodes + suc (placeIn order h))
 
 -- that of a node none of whose arguments is looked at
-rank-leaf : (words counts order : List ℕ) (h : ℕ) → word counts h ≡ 0 → rank words counts order h ≡ h
+rank-leaf : (nodes counts order : List ℕ) (h : ℕ) → word counts h ≡ 0 → rank nodes counts order h ≡ h
 unfolding rank
-rank-leaf words counts order h e = rw (eq-eqb (word counts h) 0 e)
+rank-leaf nodes counts order h e = rw (eq-eqb (word counts h) 0 e)
 
 -- that of any other
-rank-compound : (words counts order : List ℕ) (h : ℕ) → (word counts h ≡ 0 → ⊥) → rank words counts order h ≡ nodeCount words + suc (placeIn order h)
+rank-compound : (nodes counts order : List ℕ) (h : ℕ) → (word counts h ≡ 0 → ⊥) → rank nodes counts order h ≡ nodeCount nodes + suc (placeIn order h)
 unfolding rank
-rank-compound words counts order h n = rw (ne-eqb (word counts h) 0 n)
+rank-compound nodes counts order h n = rw (ne-eqb (word counts h) 0 n)
 
 -- what is met has a small rank
-rank-met : (words counts order : List ℕ) (p h : ℕ) → p ≤ length order → h < nodeCount words → Met (word counts) order p h → rank words counts order h ≤ nodeCount words + p
-rank-met words counts order p h l n (leaf e) = let r = rank-leaf words counts order h e in omega arith
-rank-met words counts order p h l n (before q k e) = go (ℕ-discrete (word counts h) 0)
+rank-met : (nodes counts order : List ℕ) (p h : ℕ) → p ≤ length order → h < nodeCount nodes → Met (word counts) order p h → rank nodes counts order h ≤ nodeCount nodes + p
+rank-met nodes counts order p h l n (leaf e) = let r = rank-leaf nodes counts order h e in omega arith
+rank-met nodes counts order p h l n (before q k e) = go (ℕ-discrete (word counts h) 0)
   where
-    go : Dec (word counts h ≡ 0) → rank words counts order h ≤ nodeCount words + p
-    go (yes z) = let r = rank-leaf words counts order h z in omega arith
+    go : Dec (word counts h ≡ 0) → rank nodes counts order h ≤ nodeCount nodes + p
+    go (yes z) = let r = rank-leaf nodes counts order h z in omega arith
     go (no z) =
-        let r = rank-compound words counts order h z in
+        let r = rank-compound nodes counts order h z in
         let t = place-of order h q (omega arith) e .0 in
         omega arith
 
 -- the head of an argument that is looked at has a smaller rank
-rank-falls : (words args counts cs order : List ℕ) → Listed words args (word counts) cs order → (h : ℕ) → Met (word counts) order (length order) h → (j : ℕ) → j < word counts h → classOf cs (argumentOf words args h j) < nodeCount words → rank words counts order (classOf cs (argumentOf words args h j)) < rank words counts order h
-rank-falls words args counts cs order l h (leaf e) j k n = absurd (omega arith)
-rank-falls words args counts cs order l h (before q b e) j k n =
+rank-falls : (nodes arguments counts cs order : List ℕ) → Listed nodes arguments (word counts) cs order → (h : ℕ) → Met (word counts) order (length order) h → (j : ℕ) → j < word counts h → classOf cs (argumentOf nodes arguments h j) < nodeCount nodes → rank nodes counts order (classOf cs (argumentOf nodes arguments h j)) < rank nodes counts order h
+rank-falls nodes arguments counts cs order l h (leaf e) j k n = absurd (omega arith)
+rank-falls nodes arguments counts cs order l h (before q b e) j k n =
     let t = place-of order h q b e in
     let p : placeIn order h < length order = omega (arith, t .0) in
-    let m : Met (word counts) order (placeIn order h) (classOf cs (argumentOf words args h j)) = rw (t .1) at (l .first (placeIn order h) p) j k in
-    let r = rank-compound words counts order h (λ z. omega arith) in
-    let s = rank-met words counts order (placeIn order h) (classOf cs (argumentOf words args h j)) (omega arith) n m in
+    let m : Met (word counts) order (placeIn order h) (classOf cs (argumentOf nodes arguments h j)) = rw (t .1) at (l .first (placeIn order h) p) j k in
+    let r = rank-compound nodes counts order h (λ z. omega arith) in
+    let s = rank-met nodes counts order (placeIn order h) (classOf cs (argumentOf nodes arguments h j)) (omega arith) n m in
     omega arith
 
-module _ (words args : List ℕ) (s : Sections words args) (counts : List ℕ) (k : Counts words args counts (nodeCount words)) where
+module _ (nodes arguments : List ℕ) (s : Sections nodes arguments) (counts : List ℕ) (k : Counts nodes arguments counts (nodeCount nodes)) where
   -- it is a node
-  pub looked-node : (i j : ℕ) → i < nodeCount words → j < word counts i → argumentOf words args i j < nodeCount words
+  pub looked-node : (i j : ℕ) → i < nodeCount nodes → j < word counts i → argumentOf nodes arguments i j < nodeCount nodes
   looked-node i j b l = omega (arith, s .smaller i j b (looked-at k i j b l))
 
   -- an argument of a node none of whose arguments is looked at is a closed application
-  pub closed-argument : (i j : ℕ) → i < nodeCount words → j < countOf words i → word counts i ≡ 0 → Marked words counts (argumentOf words args i j)
+  pub closed-argument : (i j : ℕ) → i < nodeCount nodes → j < countOf nodes i → word counts i ≡ 0 → Marked nodes counts (argumentOf nodes arguments i j)
   closed-argument i j b l e =
-      k .below i b (record { node = b; applied = counted-application words args s i j b l; none = e }) j l
+      k .below i b (record { node = b; applied = counted-application nodes arguments s i j b l; none = e }) j l
 
   -- what a node leads to is a head
-  leads-head : (cs : List ℕ) {h g : ℕ} → Leads words args (word counts) cs h g → (i : ℕ) × (i < nodeCount words) × (classOf cs i ≡ g)
-  leads-head cs (next {h = h} {g = g} j b l e) = (argumentOf words args h j, looked-node h j b l, e)
+  leads-head : (cs : List ℕ) {h g : ℕ} → Leads nodes arguments (word counts) cs h g → (i : ℕ) × (i < nodeCount nodes) × (classOf cs i ≡ g)
+  leads-head cs (next {h = h} {g = g} j b l e) = (argumentOf nodes arguments h j, looked-node h j b l, e)
   leads-head cs (further p q) = leads-head cs q
 
-  module _ (cs : List ℕ) (partition : Partition (nodeCount words) cs) where
+  module _ (cs : List ℕ) (partition : Partition (nodeCount nodes) cs) where
     -- what a head leads to has a smaller rank
-    leads-falls : (order : List ℕ) → Ordered words args (word counts) cs order → {h g : ℕ} → Leads words args (word counts) cs h g → (i : ℕ) → i < nodeCount words → classOf cs i ≡ h → rank words counts order g < rank words counts order h
+    leads-falls : (order : List ℕ) → Ordered nodes arguments (word counts) cs order → {h g : ℕ} → Leads nodes arguments (word counts) cs h g → (i : ℕ) → i < nodeCount nodes → classOf cs i ≡ h → rank nodes counts order g < rank nodes counts order h
     leads-falls order o (next {h = h} {g = g} j b l e) i q d =
-        rw (← e) (rank-falls words args counts cs order (o .listed) h (rw d at (o .whole i q)) j l (partition .below _ (looked-node h j b l)))
+        rw (← e) (rank-falls nodes arguments counts cs order (o .listed) h (rw d at (o .whole i q)) j l (partition .below _ (looked-node h j b l)))
     leads-falls order o (further {h} {g} {k = f} p q) i b d =
         let m = leads-head cs p in
-        let x : rank words counts order g < rank words counts order h = leads-falls order o p i b d in
-        let y : rank words counts order f < rank words counts order g = leads-falls order o q (m .0) (m .1) (m .2) in
+        let x : rank nodes counts order g < rank nodes counts order h = leads-falls order o p i b d in
+        let y : rank nodes counts order f < rank nodes counts order g = leads-falls order o q (m .0) (m .1) (m .2) in
         omega arith
 
     -- where there is an order, no node leads to itself
-    pub ordered-unlooped : (order : List ℕ) → Ordered words args (word counts) cs order → Looped words args (word counts) cs → ⊥
+    pub ordered-unlooped : (order : List ℕ) → Ordered nodes arguments (word counts) cs order → Looped nodes arguments (word counts) cs → ⊥
     ordered-unlooped order o (h, b, l) =
         let m = leads-head cs l in
         let x = leads-falls order o l (m .0) (m .1) (m .2) in
         omega arith
 
 -- what leads reaches
-pub leads-reaches : (words args : List ℕ) (s : Sections words args) (cs : List ℕ) (ps : List (ℕ × ℕ)) (h : Inside (nodesFrom words args) ps) (c : IsClosure (nodesFrom words args) ps (classOf cs)) (counts : List ℕ) (k : Counts words args counts (nodeCount words)) {i j : ℕ} → Leads words args (word counts) cs i j → Reaches (nodesFrom words args) ps i j
-leads-reaches words args s cs ps h c counts k (next {h = i} {g = g} j b l e) =
-    let n : j < countOf words i = looked-at k i j b l in
-    let a : argumentOf words args i j < length (nodesFrom words args) = rw (nodes-long words args) (looked-node words args s counts k i j b l) in
-    let d : i < length (nodesFrom words args) = rw (nodes-long words args) b in
-    step (same {i = i} d) (application-from words args i b (counted-application words args s i j b n)) (place-argument words args s i j b n)
-    (rw e at (c .joined (argumentOf words args i j) a))
-leads-reaches words args s cs ps h c counts k (further p q) =
-    steps (leads-reaches words args s cs ps h c counts k p) (leads-reaches words args s cs ps h c counts k q)
+pub leads-reaches : (nodes arguments : List ℕ) (s : Sections nodes arguments) (cs : List ℕ) (ps : List (ℕ × ℕ)) (h : Inside (nodesFrom nodes arguments) ps) (c : IsClosure (nodesFrom nodes arguments) ps (classOf cs)) (counts : List ℕ) (k : Counts nodes arguments counts (nodeCount nodes)) {i j : ℕ} → Leads nodes arguments (word counts) cs i j → Reaches (nodesFrom nodes arguments) ps i j
+leads-reaches nodes arguments s cs ps h c counts k (next {h = i} {g = g} j b l e) =
+    let n : j < countOf nodes i = looked-at k i j b l in
+    let a : argumentOf nodes arguments i j < length (nodesFrom nodes arguments) = rw (nodes-long nodes arguments) (looked-node nodes arguments s counts k i j b l) in
+    let d : i < length (nodesFrom nodes arguments) = rw (nodes-long nodes arguments) b in
+    step (same {i = i} d) (application-from nodes arguments i b (counted-application nodes arguments s i j b n)) (place-argument nodes arguments s i j b n)
+    (rw e at (c .joined (argumentOf nodes arguments i j) a))
+leads-reaches nodes arguments s cs ps h c counts k (further p q) =
+    steps (leads-reaches nodes arguments s cs ps h c counts k p) (leads-reaches nodes arguments s cs ps h c counts k q)
 
-module _ (words args : List ℕ) (s : Sections words args) (counts : List ℕ) (k : Counts words args counts (nodeCount words)) (cs : List ℕ) (partition : Partition (nodeCount words) cs) (heads : ClosedHeads words args counts cs) (ps : List (ℕ × ℕ)) (h : Inside (nodesFrom words args) ps) (c : IsClosure (nodesFrom words args) ps (classOf cs)) (order : List ℕ) (o : Ordered words args (word counts) cs order) where
+module _ (nodes arguments : List ℕ) (s : Sections nodes arguments) (counts : List ℕ) (k : Counts nodes arguments counts (nodeCount nodes)) (cs : List ℕ) (partition : Partition (nodeCount nodes) cs) (heads : ClosedHeads nodes arguments counts cs) (ps : List (ℕ × ℕ)) (h : Inside (nodesFrom nodes arguments) ps) (c : IsClosure (nodesFrom nodes arguments) ps (classOf cs)) (order : List ℕ) (o : Ordered nodes arguments (word counts) cs order) where
   -- the ranks of heads are small
-  pub ordered-enough : (i : ℕ) → i < length (nodesFrom words args) → rank words counts order (classOf cs i) < suc (nodeCount words + suc (length order))
+  pub ordered-enough : (i : ℕ) → i < length (nodesFrom nodes arguments) → rank nodes counts order (classOf cs i) < suc (nodeCount nodes + suc (length order))
   ordered-enough i b =
-      let q : i < nodeCount words = counted words args i b in
-      let r = rank-met words counts order (length order) (classOf cs i) (omega arith) (partition .below i q) (o .whole i q) in
+      let q : i < nodeCount nodes = counted nodes arguments i b in
+      let r = rank-met nodes counts order (length order) (classOf cs i) (omega arith) (partition .below i q) (o .whole i q) in
       omega arith
 
   -- the head of an argument of a head has a smaller rank
-  argument-falls : (i : ℕ) → i < nodeCount words → (j : ℕ) → j < countOf words (classOf cs i) → rank words counts order (classOf cs (argumentOf words args (classOf cs i) j)) < rank words counts order (classOf cs i)
+  argument-falls : (i : ℕ) → i < nodeCount nodes → (j : ℕ) → j < countOf nodes (classOf cs i) → rank nodes counts order (classOf cs (argumentOf nodes arguments (classOf cs i) j)) < rank nodes counts order (classOf cs i)
   argument-falls i b j l = go (k .some (classOf cs i) g)
     where
-      g : classOf cs i < nodeCount words
+      g : classOf cs i < nodeCount nodes
       g = partition .below i b
 
-      a : argumentOf words args (classOf cs i) j < classOf cs i
+      a : argumentOf nodes arguments (classOf cs i) j < classOf cs i
       a = s .smaller (classOf cs i) j g l
 
       -- the head is a closed application, and so is that of its argument
-      shut : word counts (classOf cs i) ≡ 0 → rank words counts order (classOf cs (argumentOf words args (classOf cs i) j)) < rank words counts order (classOf cs i)
+      shut : word counts (classOf cs i) ≡ 0 → rank nodes counts order (classOf cs (argumentOf nodes arguments (classOf cs i) j)) < rank nodes counts order (classOf cs i)
       shut e =
-          let m = closed-argument words args s counts k (classOf cs i) j g l e in
-          let x = rank-leaf words counts order (classOf cs i) e in
-          let y = rank-leaf words counts order (classOf cs (argumentOf words args (classOf cs i) j)) (heads .closed _ m .none) in
+          let m = closed-argument nodes arguments s counts k (classOf cs i) j g l e in
+          let x = rank-leaf nodes counts order (classOf cs i) e in
+          let y = rank-leaf nodes counts order (classOf cs (argumentOf nodes arguments (classOf cs i) j)) (heads .closed _ m .none) in
           let z = heads .least _ m in
           omega (arith, a, x, y, z)
 
-      go : (word counts (classOf cs i) ≡ 0) ⊎ (word counts (classOf cs i) ≡ countOf words (classOf cs i)) → rank words counts order (classOf cs (argumentOf words args (classOf cs i) j)) < rank words counts order (classOf cs i)
+      go : (word counts (classOf cs i) ≡ 0) ⊎ (word counts (classOf cs i) ≡ countOf nodes (classOf cs i)) → rank nodes counts order (classOf cs (argumentOf nodes arguments (classOf cs i) j)) < rank nodes counts order (classOf cs i)
       go (inl e) = shut e
       go (inr e) =
-          rank-falls words args counts cs order (o .listed) (classOf cs i) (o .whole i b) j (omega (arith, e, l)) (partition .below _ (omega (arith, a, g)))
+          rank-falls nodes arguments counts cs order (o .listed) (classOf cs i) (o .whole i b) j (omega (arith, e, l)) (partition .below _ (omega (arith, a, g)))
 
   -- classes in order are a solved form
-  pub ordered-solved : Solved (nodesFrom words args) ps (classOf cs) (rank words counts order)
+  pub ordered-solved : Solved (nodesFrom nodes arguments) ps (classOf cs) (rank nodes counts order)
   ordered-solved =
       record {
         closure = c;
         falls = λ i f us b e a m.
-            let q : i < nodeCount words = counted words args i b in
-            let r = argument-place words args s (classOf cs i) (partition .below i q) f us e a m in
+            let q : i < nodeCount nodes = counted nodes arguments i b in
+            let r = argument-place nodes arguments s (classOf cs i) (partition .below i q) f us e a m in
             rw (r .2) (argument-falls i q (r .0) (r .1));
       }
 
   -- so they decide: unified
-  pub ordered-unified : outcome (nodesFrom words args) ps ≡ unified
+  pub ordered-unified : outcome (nodesFrom nodes arguments) ps ≡ unified
   ordered-unified =
-      solved-decides (nodesFrom words args) (sections-well-formed words args s) ps h (classOf cs) (rank words counts order) ordered-solved (suc (nodeCount words + suc (length order))) ordered-enough .0
+      solved-decides (nodesFrom nodes arguments) (sections-well-formed nodes arguments s) ps h (classOf cs) (rank nodes counts order) ordered-solved (suc (nodeCount nodes + suc (length order))) ordered-enough .0

@@ -137,7 +137,7 @@ unfolding leastNodes
 variables-inside {words} {args} {v} s = go (decLt (length (v .nodes)) (v .count))
   where
     long : length (take (v .count) (v .nodes)) ≡ v .count
-    long = ap length (s .nodes) ∙ length-map (variablesOf (nodesFrom words args)) (nodeOf (nodesFrom words args)) ∙ sym (s .counted)
+    long = ap length (s .least) ∙ length-map (variablesOf (nodesFrom words args)) (nodeOf (nodesFrom words args)) ∙ sym (s .counted)
 
     go : Dec (length (v .nodes) < v .count) → v .count ≤ length (v .nodes)
     go (yes q) = let e = ap length (take-all (v .count) (v .nodes) (omega arith)) in omega (arith, e, long)
@@ -183,7 +183,7 @@ module _ {words args left right : List ℕ} {labels : Labels} (g : Listable word
   pub begun-list : (take (v .count - 0) (v .nodes) ≡ leastNodes (nodesFrom words args)) × (length (take (v .count - 0) (v .nodes)) ≤ 64)
   begun-list =
       let z : v .count - 0 ≡ v .count = omega arith in
-      (ap (λ (n : ℕ). take n (v .nodes)) z ∙ s .lists .nodes, omega (arith, part-long (v .nodes) (v .count) (variables-inside (s .lists)), s .lists .within))
+      (ap (λ (n : ℕ). take n (v .nodes)) z ∙ s .lists .least, omega (arith, part-long (v .nodes) (v .count) (variables-inside (s .lists)), s .lists .within))
 
   -- they stand for pairs that every substitution unifies
   pub begun-always : StandsAlways words args cs

@@ -13,82 +13,82 @@ use Rattle.table.proofs.BoolLaws.{and-true-left, and-true-right}
 use Rattle.nodes.specs.Code.Open.{Marked, markedTest, Counts, ClosedHeads, KeepsClosed}
 use Rattle.nodes.specs.Code.Uniting.{strengthOf}
 
-module _ (words counts : List ℕ) (i : ℕ) where
+module _ (nodes counts : List ℕ) (i : ℕ) where
   -- the test tells that the node is one
-  pub marked-true : i < nodeCount words → markedTest words counts i ≡ true → Marked words counts i
+  pub marked-true : i < nodeCount nodes → markedTest nodes counts i ≡ true → Marked nodes counts i
   unfolding markedTest
   marked-true h e =
       record {
         node = h;
-        applied = eqb-false (kindOf words i) 0 (not-true _ (and-true-left (not (eqb (kindOf words i) 0)) (eqb (word counts i) 0) e));
-        none = eqb-true (word counts i) 0 (and-true-right (not (eqb (kindOf words i) 0)) (eqb (word counts i) 0) e);
+        applied = eqb-false (kindOf nodes i) 0 (not-true _ (and-true-left (not (eqb (kindOf nodes i) 0)) (eqb (word counts i) 0) e));
+        none = eqb-true (word counts i) 0 (and-true-right (not (eqb (kindOf nodes i) 0)) (eqb (word counts i) 0) e);
       }
 
   -- a closed application passes it
-  pub marked-test : Marked words counts i → markedTest words counts i ≡ true
+  pub marked-test : Marked nodes counts i → markedTest nodes counts i ≡ true
   unfolding markedTest
-  marked-test m = rw (ne-eqb (kindOf words i) 0 (m .applied), eq-eqb (word counts i) 0 (m .none))
+  marked-test m = rw (ne-eqb (kindOf nodes i) 0 (m .applied), eq-eqb (word counts i) 0 (m .none))
 
   -- so a node that does not is none
-  pub marked-false : markedTest words counts i ≡ false → Marked words counts i → ⊥
+  pub marked-false : markedTest nodes counts i ≡ false → Marked nodes counts i → ⊥
   marked-false e m = false≢true (sym e ∙ marked-test m)
 
   -- a variable has no strength
-  pub strength-variable : kindOf words i ≡ 0 → strengthOf words counts i ≡ 0
+  pub strength-variable : kindOf nodes i ≡ 0 → strengthOf nodes counts i ≡ 0
   unfolding strengthOf
-  strength-variable e = rw (eq-eqb (kindOf words i) 0 e)
+  strength-variable e = rw (eq-eqb (kindOf nodes i) 0 e)
 
   -- an application whose arguments are looked at has some
-  pub strength-open : (kindOf words i ≡ 0 → ⊥) → (word counts i ≡ 0 → ⊥) → strengthOf words counts i ≡ 1
+  pub strength-open : (kindOf nodes i ≡ 0 → ⊥) → (word counts i ≡ 0 → ⊥) → strengthOf nodes counts i ≡ 1
   unfolding strengthOf
-  strength-open k d = rw (ne-eqb (kindOf words i) 0 k, ne-eqb (word counts i) 0 d)
+  strength-open k d = rw (ne-eqb (kindOf nodes i) 0 k, ne-eqb (word counts i) 0 d)
 
   -- a closed application has most
-  pub strength-closed : (kindOf words i ≡ 0 → ⊥) → word counts i ≡ 0 → strengthOf words counts i ≡ 2
+  pub strength-closed : (kindOf nodes i ≡ 0 → ⊥) → word counts i ≡ 0 → strengthOf nodes counts i ≡ 2
   unfolding strengthOf
-  strength-closed k e = rw (ne-eqb (kindOf words i) 0 k, eq-eqb (word counts i) 0 e)
+  strength-closed k e = rw (ne-eqb (kindOf nodes i) 0 k, eq-eqb (word counts i) 0 e)
 
   -- any application has some
-  pub strength-some : (kindOf words i ≡ 0 → ⊥) → 1 ≤ strengthOf words counts i
+  pub strength-some : (kindOf nodes i ≡ 0 → ⊥) → 1 ≤ strengthOf nodes counts i
   strength-some k = go (ℕ-discrete (word counts i) 0)
     where
-      go : Dec (word counts i ≡ 0) → 1 ≤ strengthOf words counts i
+      go : Dec (word counts i ≡ 0) → 1 ≤ strengthOf nodes counts i
       go (yes e) = let r = strength-closed k e in omega (arith, r)
       go (no d) = let r = strength-open k d in omega (arith, r)
 
 -- an argument that is looked at is one
-pub looked-at : {words args counts : List ℕ} → Counts words args counts (nodeCount words) → (i j : ℕ) → i < nodeCount words → j < word counts i → j < countOf words i
-looked-at {words} {args} {counts} k i j b l = go (k .some i b)
+pub looked-at : {nodes arguments counts : List ℕ} → Counts nodes arguments counts (nodeCount nodes) → (i j : ℕ) → i < nodeCount nodes → j < word counts i → j < countOf nodes i
+looked-at {nodes} {arguments} {counts} k i j b l = go (k .some i b)
   where
-    go : (word counts i ≡ 0) ⊎ (word counts i ≡ countOf words i) → j < countOf words i
+    go : (word counts i ≡ 0) ⊎ (word counts i ≡ countOf nodes i) → j < countOf nodes i
     go (inl e) = absurd (omega (arith, e, l))
     go (inr e) = omega (arith, e, l)
 
 -- where a variable stays, a variable goes
-pub weaker-variable : (words counts : List ℕ) (g h : ℕ) → strengthOf words counts g ≤ strengthOf words counts h → kindOf words h ≡ 0 → kindOf words g ≡ 0
-weaker-variable words counts g h l e = go (ℕ-discrete (kindOf words g) 0)
+pub weaker-variable : (nodes counts : List ℕ) (g h : ℕ) → strengthOf nodes counts g ≤ strengthOf nodes counts h → kindOf nodes h ≡ 0 → kindOf nodes g ≡ 0
+weaker-variable nodes counts g h l e = go (ℕ-discrete (kindOf nodes g) 0)
   where
-    go : Dec (kindOf words g ≡ 0) → kindOf words g ≡ 0
+    go : Dec (kindOf nodes g ≡ 0) → kindOf nodes g ≡ 0
     go (yes z) = z
     go (no z) =
-        let x = strength-some words counts g z in
-        let y = strength-variable words counts h e in
+        let x = strength-some nodes counts g z in
+        let y = strength-variable nodes counts h e in
         absurd (omega (arith, l, x, y))
 
 -- where a closed application goes, another stays
-pub weaker-closed : (words counts : List ℕ) (g h : ℕ) → h < nodeCount words → strengthOf words counts g ≤ strengthOf words counts h → Marked words counts g → Marked words counts h
-weaker-closed words counts g h p l m =
-    let x = strength-closed words counts g (m .applied) (m .none) in
-    go x (ℕ-discrete (kindOf words h) 0) (ℕ-discrete (word counts h) 0)
+pub weaker-closed : (nodes counts : List ℕ) (g h : ℕ) → h < nodeCount nodes → strengthOf nodes counts g ≤ strengthOf nodes counts h → Marked nodes counts g → Marked nodes counts h
+weaker-closed nodes counts g h p l m =
+    let x = strength-closed nodes counts g (m .applied) (m .none) in
+    go x (ℕ-discrete (kindOf nodes h) 0) (ℕ-discrete (word counts h) 0)
   where
-    go : strengthOf words counts g ≡ 2 → Dec (kindOf words h ≡ 0) → Dec (word counts h ≡ 0) → Marked words counts h
-    go x (yes k) d = let y = strength-variable words counts h k in absurd (omega (arith, l, x, y))
+    go : strengthOf nodes counts g ≡ 2 → Dec (kindOf nodes h ≡ 0) → Dec (word counts h ≡ 0) → Marked nodes counts h
+    go x (yes k) d = let y = strength-variable nodes counts h k in absurd (omega (arith, l, x, y))
     go x (no k) (yes d) = record { node = p; applied = k; none = d }
-    go x (no k) (no d) = let y = strength-open words counts h k d in absurd (omega (arith, l, x, y))
+    go x (no k) (no d) = let y = strength-open nodes counts h k d in absurd (omega (arith, l, x, y))
 
 -- closed applications that keep their heads have closed heads
-pub closed-kept : (words args counts cs cs′ : List ℕ) → ClosedHeads words args counts cs → KeepsClosed words counts cs cs′ → ClosedHeads words args counts cs′
-closed-kept words args counts cs cs′ c k =
+pub closed-kept : (nodes arguments counts cs cs′ : List ℕ) → ClosedHeads nodes arguments counts cs → KeepsClosed nodes counts cs cs′ → ClosedHeads nodes arguments counts cs′
+closed-kept nodes arguments counts cs cs′ c k =
     record {
       closed = λ i m. rw (k i m) (c .closed i m);
       least = λ i m. rw (k i m) (c .least i m);

@@ -20,10 +20,10 @@ tabulate (suc n) f = tabulate n f ++ (f n ∷ [])
 
 -- Node i of a nodes section. "Kind 0 is a variable"; "Kind 1 is an application".
 unfoldable pub readNode : List ℕ → List ℕ → ℕ → Node
-readNode words arguments i =
-    cond (eqb (kindOf words i) 0)
-    (variable (nameOf words i))
-    (application (nameOf words i) (take (countOf words i) (drop (firstOf words i) arguments)))
+readNode nodes arguments i =
+    cond (eqb (kindOf nodes i) 0)
+    (variable (nameOf nodes i))
+    (application (nameOf nodes i) (take (countOf nodes i) (drop (firstOf nodes i) arguments)))
 
 -- The nodes of a table.
 unfoldable pub nodesIn : List ℕ → List Node

@@ -86,29 +86,29 @@ module _ (t : List ℕ) (a b : ℕ) where
     accepted-words lent = rw (accepted-table (length lent))
 
 -- A number is no node, or both are: n is the number of nodes.
-module _ (words args : List ℕ) (a b n : ℕ) (e : n ≡ nodeCount words) where
+module _ (nodes arguments : List ℕ) (a b n : ℕ) (e : n ≡ nodeCount nodes) where
   -- a number is no node
-  pub answers-node : (lent : List ℕ) → (leb n a || leb n b) ≡ true → AnswersByNodes (nodesFrom words args) a b lent (Unification.Refused Refusal.NotANode) lent
+  pub answers-node : (lent : List ℕ) → (leb n a || leb n b) ≡ true → AnswersByNodes (nodesFrom nodes arguments) a b lent (Unification.Refused Refusal.NotANode) lent
   unfolding called wordsAfter
   answers-node lent g =
-      let h : (leb (length (nodesFrom words args)) a || leb (length (nodesFrom words args)) b) ≡ true = rw (nodes-long words args ∙ sym e) g in
+      let h : (leb (length (nodesFrom nodes arguments)) a || leb (length (nodesFrom nodes arguments)) b) ≡ true = rw (nodes-long nodes arguments ∙ sym e) g in
       record { answer = rw h; words = rw h }
 
   -- both are
-  pub nodes-given : (leb n a || leb n b) ≡ false → (a < nodeCount words) × (b < nodeCount words)
+  pub nodes-given : (leb n a || leb n b) ≡ false → (a < nodeCount nodes) × (b < nodeCount nodes)
   nodes-given g =
       let p = leb-false n a (or-false-left (leb n a) (leb n b) g) in
       let q = leb-false n b (or-false-right (leb n a) (leb n b) g) in
       (omega (arith, p), omega (arith, q))
 
 -- Two nodes, the lent words, and what unifying begins with.
-module _ (words args : List ℕ) (s : Sections words args) (a b : ℕ) (h : (a < nodeCount words) × (b < nodeCount words)) (lent : List ℕ) (v : Variables) (cs : List ℕ) (g : BeginsShared words args v cs) where
+module _ (nodes arguments : List ℕ) (s : Sections nodes arguments) (a b : ℕ) (h : (a < nodeCount nodes) × (b < nodeCount nodes)) (lent : List ℕ) (v : Variables) (cs : List ℕ) (g : BeginsShared nodes arguments v cs) where
   abbrev ns : List Node
-  ns = nodesFrom words args
+  ns = nodesFrom nodes arguments
 
   both : (leb (length ns) a || leb (length ns) b) ≡ false
   both =
-      or-both-false (leb (length ns) a) (leb (length ns) b) (lt-leb (length ns) a (is-node words args a (h .0))) (lt-leb (length ns) b (is-node words args b (h .1)))
+      or-both-false (leb (length ns) a) (leb (length ns) b) (lt-leb (length ns) a (is-node nodes arguments a (h .0))) (lt-leb (length ns) b (is-node nodes arguments b (h .1)))
 
   -- too few words are lent
   pub answers-few : length lent < v .count → AnswersByNodes ns a b lent (Unification.Refused Refusal.TooFewLent) lent
@@ -130,11 +130,11 @@ module _ (words args : List ℕ) (s : Sections words args) (a b : ℕ) (h : (a <
       either x y u (inr m) = g .same σ x y m
 
   -- Enough words are lent, and the classes are extended by the pair.
-  module _ (l : v .count ≤ length lent) (counts next : List ℕ) (r : Extended) (cs′ next′ : List ℕ) (x : Extends words args counts cs next a b r cs′ next′) where
+  module _ (l : v .count ≤ length lent) (counts next : List ℕ) (r : Extended) (cs′ next′ : List ℕ) (x : Extends nodes arguments counts cs next a b r cs′ next′) where
     -- what unifying the two nodes comes to
     comes : extended r ≡ outcome ns ((a, b) ∷ [])
     comes =
-        x .answers (g .pairs) (g .stands) ∙ outcome-together ns (sections-well-formed words args s) a b (is-node words args a (h .0)) (is-node words args b (h .1)) (g .pairs) (g .stands .inside) (g .same)
+        x .answers (g .pairs) (g .stands) ∙ outcome-together ns (sections-well-formed nodes arguments s) a b (is-node nodes arguments a (h .0)) (is-node nodes arguments b (h .1)) (g .pairs) (g .stands .inside) (g .same)
 
     -- it is the answer
     answers-ended : (u : Unification) (lent′ : List ℕ) → told u ≡ ended (extended r) → lent′ ≡ wordsAfter (ended (extended r)) (wordsOf ns ((a, b) ∷ [])) lent → AnswersByNodes ns a b lent u lent′
@@ -155,7 +155,7 @@ module _ (words args : List ℕ) (s : Sections words args) (a b : ℕ) (h : (a <
     answers-occurs e = answers-ended Unification.Occurs lent (rw e) (rw e)
 
     module _ (e : r ≡ Extended.Unified) where
-      unified-stands : Stands words args cs′ ((a, b) ∷ g .pairs)
+      unified-stands : Stands nodes arguments cs′ ((a, b) ∷ g .pairs)
       unified-stands = x .stands e (g .pairs) (g .stands)
 
       one-inside : Inside ns ((a, b) ∷ [])
@@ -164,10 +164,10 @@ module _ (words args : List ℕ) (s : Sections words args) (a b : ℕ) (h : (a <
       -- their words are those of the pair
       one-words : wordsOf ns ((a, b) ∷ g .pairs) ≡ wordsOf ns ((a, b) ∷ [])
       one-words =
-          same-unifiers ns (sections-well-formed words args s) ((a, b) ∷ g .pairs) ((a, b) ∷ []) (unified-stands .inside) one-inside pair-alone (outcome-unified ns (sections-well-formed words args s) ((a, b) ∷ g .pairs) (unified-stands .inside) .0 (sym (x .answers (g .pairs) (g .stands)) ∙ ap extended e))
+          same-unifiers ns (sections-well-formed nodes arguments s) ((a, b) ∷ g .pairs) ((a, b) ∷ []) (unified-stands .inside) one-inside pair-alone (outcome-unified ns (sections-well-formed nodes arguments s) ((a, b) ∷ g .pairs) (unified-stands .inside) .0 (sym (x .answers (g .pairs) (g .stands)) ∙ ap extended e))
 
       -- unified: the binding words are left
-      pub answers-unified : (lent′ : List ℕ) → Leaves words args cs′ lent lent′ → AnswersByNodes ns a b lent Unification.Unified lent′
+      pub answers-unified : (lent′ : List ℕ) → Leaves nodes arguments cs′ lent lent′ → AnswersByNodes ns a b lent Unification.Unified lent′
       unfolding wordsAfter
       answers-unified lent′ w =
           answers-ended Unification.Unified lent′ (rw e)
@@ -178,10 +178,10 @@ pub circles-ready : (n : ℕ) (cs next : List ℕ) → n ≤ maxNodes → length
 circles-ready n cs next b e d h = (d, rw e h, omega (arith, b, e))
 
 -- the least nodes of the variables present, for which enough words are lent
-pub list-given : (words args : List ℕ) (v : Variables) (n : ℕ) → Lists words args v → v .count ≤ n → (take (v .count - 0) (v .nodes) ≡ leastNodes (nodesFrom words args)) × (length (take (v .count - 0) (v .nodes)) ≤ n)
-list-given words args v n l h =
-    let e : take (v .count - 0) (v .nodes) ≡ leastNodes (nodesFrom words args) = ap (λ (k : ℕ). take k (v .nodes)) (sub-zero (v .count)) ∙ l .nodes in
-    let d = ap length e ∙ least-long words args in
+pub list-given : (nodes arguments : List ℕ) (v : Variables) (n : ℕ) → Lists nodes arguments v → v .count ≤ n → (take (v .count - 0) (v .nodes) ≡ leastNodes (nodesFrom nodes arguments)) × (length (take (v .count - 0) (v .nodes)) ≤ n)
+list-given nodes arguments v n l h =
+    let e : take (v .count - 0) (v .nodes) ≡ leastNodes (nodesFrom nodes arguments) = ap (λ (k : ℕ). take k (v .nodes)) (sub-zero (v .count)) ∙ l .least in
+    let d = ap length e ∙ least-long nodes arguments in
     let c = l .counted in
     (e, omega (arith, d, c))
 

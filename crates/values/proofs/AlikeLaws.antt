@@ -15,130 +15,130 @@ use Rattle.nodes.specs.Code.Named.{valueName, AlikeUpTo, Alike}
 use Rattle.values.specs.Code.Naming.{keys, keyUpTo, keyOf, Compared}
 
 -- Being alike is an equivalence, and gives one key.
-module _ {words args cs names : List ℕ} where
+module _ {nodes arguments cs names : List ℕ} where
   -- a node is alike itself
-  pub alike-same : (g : ℕ) → Alike words args cs names g g
-  alike-same g = record { name = refl; count = refl; arguments = λ j q. refl }
+  pub alike-same : (g : ℕ) → Alike nodes arguments cs names g g
+  alike-same g = record { name = refl; count = refl; per-argument = λ j q. refl }
 
   -- turned round
-  pub alike-back : {g h : ℕ} → Alike words args cs names g h → Alike words args cs names h g
+  pub alike-back : {g h : ℕ} → Alike nodes arguments cs names g h → Alike nodes arguments cs names h g
   alike-back {g} {h} s =
       record {
         name = sym (s .name);
         count = sym (s .count);
-        arguments = λ j q. sym (s .arguments j (let e = s .count in omega (arith, e, q)));
+        per-argument = λ j q. sym (s .per-argument j (let e = s .count in omega (arith, e, q)));
       }
 
   -- and on from one to the next
-  pub alike-on : {g h k : ℕ} → Alike words args cs names g h → Alike words args cs names h k → Alike words args cs names g k
+  pub alike-on : {g h k : ℕ} → Alike nodes arguments cs names g h → Alike nodes arguments cs names h k → Alike nodes arguments cs names g k
   alike-on {g} {h} {k} s t =
       record {
         name = s .name ∙ t .name;
         count = s .count ∙ t .count;
-        arguments = λ j q. s .arguments j q ∙ t .arguments j (let e = s .count in omega (arith, e, q));
+        per-argument = λ j q. s .per-argument j q ∙ t .per-argument j (let e = s .count in omega (arith, e, q));
       }
 
-  key-alike-up-to : {g h : ℕ} → Alike words args cs names g h → (j : ℕ) → j ≤ countOf words g → keyUpTo words args cs names g j ≡ keyUpTo words args cs names h j
+  key-alike-up-to : {g h : ℕ} → Alike nodes arguments cs names g h → (j : ℕ) → j ≤ countOf nodes g → keyUpTo nodes arguments cs names g j ≡ keyUpTo nodes arguments cs names h j
   unfolding keyUpTo
   key-alike-up-to {g} {h} s zero l = rw (s .name, s .count)
-  key-alike-up-to {g} {h} s (suc j) l = rw (key-alike-up-to s j (omega arith), s .arguments j (omega arith))
+  key-alike-up-to {g} {h} s (suc j) l = rw (key-alike-up-to s j (omega arith), s .per-argument j (omega arith))
 
   -- nodes that are alike have one key
-  pub key-alike : {g h : ℕ} → Alike words args cs names g h → keyOf words args cs names g ≡ keyOf words args cs names h
+  pub key-alike : {g h : ℕ} → Alike nodes arguments cs names g h → keyOf nodes arguments cs names g ≡ keyOf nodes arguments cs names h
   unfolding keyOf
   key-alike {g} {h} s =
-      key-alike-up-to s (countOf words g) (omega arith) ∙ ap (keyUpTo words args cs names h) (s .count)
+      key-alike-up-to s (countOf nodes g) (omega arith) ∙ ap (keyUpTo nodes arguments cs names h) (s .count)
 
 -- Two lists of names agree on the arguments of node h.
 abbrev pub NamesKept : List ℕ → List ℕ → List ℕ → List ℕ → List ℕ → ℕ → Type 0
-NamesKept words args cs names news h = (j : ℕ) → j < countOf words h → valueName cs news (argumentOf words args h j) ≡ valueName cs names (argumentOf words args h j)
+NamesKept nodes arguments cs names news h = (j : ℕ) → j < countOf nodes h → valueName cs news (argumentOf nodes arguments h j) ≡ valueName cs names (argumentOf nodes arguments h j)
 
 -- The key depends on the names of arguments.
-module _ (words args cs names news : List ℕ) where
-  key-kept-up-to : (h : ℕ) → NamesKept words args cs names news h → (j : ℕ) → j ≤ countOf words h → keyUpTo words args cs news h j ≡ keyUpTo words args cs names h j
+module _ (nodes arguments cs names news : List ℕ) where
+  key-kept-up-to : (h : ℕ) → NamesKept nodes arguments cs names news h → (j : ℕ) → j ≤ countOf nodes h → keyUpTo nodes arguments cs news h j ≡ keyUpTo nodes arguments cs names h j
   unfolding keyUpTo
   key-kept-up-to h s zero l = refl
   key-kept-up-to h s (suc j) l = rw (key-kept-up-to h s j (omega arith), s j (omega arith))
 
   -- so it is kept
-  pub key-kept : (h : ℕ) → NamesKept words args cs names news h → keyOf words args cs news h ≡ keyOf words args cs names h
+  pub key-kept : (h : ℕ) → NamesKept nodes arguments cs names news h → keyOf nodes arguments cs news h ≡ keyOf nodes arguments cs names h
   unfolding keyOf
-  key-kept h s = key-kept-up-to h s (countOf words h) (omega arith)
+  key-kept h s = key-kept-up-to h s (countOf nodes h) (omega arith)
 
 -- what is alike stays so
-pub alike-kept : (words args cs names news : List ℕ) {g h : ℕ} → NamesKept words args cs names news g → NamesKept words args cs names news h → Alike words args cs names g h → Alike words args cs news g h
-alike-kept words args cs names news s t a =
+pub alike-kept : (nodes arguments cs names news : List ℕ) {g h : ℕ} → NamesKept nodes arguments cs names news g → NamesKept nodes arguments cs names news h → Alike nodes arguments cs names g h → Alike nodes arguments cs news g h
+alike-kept nodes arguments cs names news s t a =
     record {
       name = a .name;
       count = a .count;
-      arguments = λ j q. s j q ∙ a .arguments j q ∙ sym (t j (let e = a .count in omega (arith, e, q)));
+      per-argument = λ j q. s j q ∙ a .per-argument j q ∙ sym (t j (let e = a .count in omega (arith, e, q)));
     }
 
 -- and was so
-pub alike-was : (words args cs names news : List ℕ) {g h : ℕ} → NamesKept words args cs names news g → NamesKept words args cs names news h → Alike words args cs news g h → Alike words args cs names g h
-alike-was words args cs names news s t = alike-kept words args cs news names (λ j q. sym (s j q)) (λ j q. sym (t j q))
+pub alike-was : (nodes arguments cs names news : List ℕ) {g h : ℕ} → NamesKept nodes arguments cs names news g → NamesKept nodes arguments cs names news h → Alike nodes arguments cs news g h → Alike nodes arguments cs names g h
+alike-was nodes arguments cs names news s t = alike-kept nodes arguments cs news names (λ j q. sym (s j q)) (λ j q. sym (t j q))
 
 -- The loop that makes a key.
-module _ (words args cs names : List ℕ) (h : ℕ) where
+module _ (nodes arguments cs names : List ℕ) (h : ℕ) where
   -- the symbol
-  pub key-start : (name n : ℕ) → name ≡ nameOf words h → n ≡ countOf words h → ((name * 40503 % 65536 / 256 + n) % keys ≡ keyUpTo words args cs names h 0) × ((name * 40503 % 65536 / 256 + n) % keys < keys)
+  pub key-start : (name n : ℕ) → name ≡ nameOf nodes h → n ≡ countOf nodes h → ((name * 40503 % 65536 / 256 + n) % keys ≡ keyUpTo nodes arguments cs names h 0) × ((name * 40503 % 65536 / 256 + n) % keys < keys)
   unfolding keyUpTo
   key-start name n e d = (rw (e, d), mod-lt _ (omega arith))
 
   -- one argument more
-  pub key-next : (x j v w : ℕ) → x ≡ keyUpTo words args cs names h j → w ≡ v → v ≡ valueName cs names (argumentOf words args h j) → ((x * 157 + w + 1) % keys ≡ keyUpTo words args cs names h (j + 1)) × ((x * 157 + w + 1) % keys < keys)
+  pub key-next : (x j v w : ℕ) → x ≡ keyUpTo nodes arguments cs names h j → w ≡ v → v ≡ valueName cs names (argumentOf nodes arguments h j) → ((x * 157 + w + 1) % keys ≡ keyUpTo nodes arguments cs names h (j + 1)) × ((x * 157 + w + 1) % keys < keys)
   unfolding keyUpTo
   key-next x j v w e d f = (rw (add-one j, e, d, f), mod-lt _ (omega arith))
 
   -- all of them
-  pub key-end : (x j n : ℕ) → x ≡ keyUpTo words args cs names h j → n ≡ countOf words h → j ≤ n → n ≤ j → x ≡ keyOf words args cs names h
+  pub key-end : (x j n : ℕ) → x ≡ keyUpTo nodes arguments cs names h j → n ≡ countOf nodes h → j ≤ n → n ≤ j → x ≡ keyOf nodes arguments cs names h
   unfolding keyOf
-  key-end x j n e d l m = e ∙ ap (keyUpTo words args cs names h) (let f : j ≡ n = omega arith in f ∙ d)
+  key-end x j n e d l m = e ∙ ap (keyUpTo nodes arguments cs names h) (let f : j ≡ n = omega arith in f ∙ d)
 
 -- The loop that compares nodes g and h.
-module _ (words args cs names : List ℕ) (g h : ℕ) where
-  module _ (r : Bool) (e : r ≡ symbolTest words g h) where
+module _ (nodes arguments cs names : List ℕ) (g h : ℕ) where
+  module _ (r : Bool) (e : r ≡ symbolTest nodes g h) where
     -- the symbols are different
-    pub compare-symbols : r ≡ false → Compared words args cs names g h false
+    pub compare-symbols : r ≡ false → Compared nodes arguments cs names g h false
     compare-symbols f =
         record {
           alike = λ z. absurd (false≢true z);
-          different = λ z a. false≢true (sym f ∙ e ∙ symbol-test words g h .1 (a .name, a .count));
+          different = λ z a. false≢true (sym f ∙ e ∙ symbol-test nodes g h .1 (a .name, a .count));
         }
 
     -- they are one
-    pub compare-start : r ≡ true → AlikeUpTo words args cs names g h 0
+    pub compare-start : r ≡ true → AlikeUpTo nodes arguments cs names g h 0
     compare-start f =
-        let t = symbol-test words g h .0 (sym e ∙ f) in
+        let t = symbol-test nodes g h .0 (sym e ∙ f) in
         record {
           name = t .0;
           count = t .1;
-          arguments = λ j q. absurd (omega arith);
+          per-argument = λ j q. absurd (omega arith);
         }
 
-  module _ (j n : ℕ) (l : n ≡ countOf words g) (s : AlikeUpTo words args cs names g h j) where
-    module _ (x y : ℕ) (d : x ≡ valueName cs names (argumentOf words args g j)) (e : y ≡ valueName cs names (argumentOf words args h j)) where
+  module _ (j n : ℕ) (l : n ≡ countOf nodes g) (s : AlikeUpTo nodes arguments cs names g h j) where
+    module _ (x y : ℕ) (d : x ≡ valueName cs names (argumentOf nodes arguments g j)) (e : y ≡ valueName cs names (argumentOf nodes arguments h j)) where
       -- one argument more has the same name
-      pub compare-next : x ≡ y → AlikeUpTo words args cs names g h (j + 1)
+      pub compare-next : x ≡ y → AlikeUpTo nodes arguments cs names g h (j + 1)
       compare-next f =
           record {
             name = s .name;
             count = s .count;
-            arguments = below-more (λ i. valueName cs names (argumentOf words args g i) ≡ valueName cs names (argumentOf words args h i)) j (s .arguments) (sym d ∙ f ∙ e);
+            per-argument = below-more (λ i. valueName cs names (argumentOf nodes arguments g i) ≡ valueName cs names (argumentOf nodes arguments h i)) j (s .per-argument) (sym d ∙ f ∙ e);
           }
 
       -- it has another
-      pub compare-different : j < n → (x ≡ y → ⊥) → Compared words args cs names g h false
+      pub compare-different : j < n → (x ≡ y → ⊥) → Compared nodes arguments cs names g h false
       compare-different m f =
           record {
             alike = λ z. absurd (false≢true z);
-            different = λ z a. f (d ∙ a .arguments j (omega arith) ∙ sym e);
+            different = λ z a. f (d ∙ a .per-argument j (omega arith) ∙ sym e);
           }
 
     -- all have the same names
-    pub compare-end : n ≤ j → Compared words args cs names g h true
+    pub compare-end : n ≤ j → Compared nodes arguments cs names g h true
     compare-end m =
         record {
-          alike = λ z. record { name = s .name; count = s .count; arguments = λ i q. s .arguments i (omega arith) };
+          alike = λ z. record { name = s .name; count = s .count; per-argument = λ i q. s .per-argument i (omega arith) };
           different = λ z. absurd (false≢true (sym z));
         }

@@ -16,62 +16,62 @@ use Rattle.unification.proofs.NodeLaws.{each-long, each-at, value-variable, val
 use Rattle.unification.proofs.SectionLaws.{run, run-long, pair-place, is-node, variable-from, application-from, sections-well-formed}
 use Rattle.nodes.specs.Code.Open.{Marked, Counts, ClosedHeads}
 
-module _ (words args : List ℕ) (s : Sections words args) (counts : List ℕ) (c : Counts words args counts (nodeCount words)) where
+module _ (nodes arguments : List ℕ) (s : Sections nodes arguments) (counts : List ℕ) (c : Counts nodes arguments counts (nodeCount nodes)) where
   abbrev ns : List Node
-  ns = nodesFrom words args
+  ns = nodesFrom nodes arguments
 
   w : WellFormed ns
-  w = sections-well-formed words args s
+  w = sections-well-formed nodes arguments s
 
   -- the term of an application
-  term : (i : ℕ) → i < nodeCount words → (kindOf words i ≡ 0 → ⊥) → value ns var i ≡ app (nameOf words i) (each (value ns var) (run words args i))
+  term : (i : ℕ) → i < nodeCount nodes → (kindOf nodes i ≡ 0 → ⊥) → value ns var i ≡ app (nameOf nodes i) (each (value ns var) (run nodes arguments i))
   term i h k =
-      value-application ns w var i (nameOf words i) (run words args i) (is-node words args i h) (application-from words args i h k)
+      value-application ns w var i (nameOf nodes i) (run nodes arguments i) (is-node nodes arguments i h) (application-from nodes arguments i h k)
 
   -- a node of the term of an application is one
-  applied-same : (i j : ℕ) → i < nodeCount words → j < nodeCount words → (kindOf words i ≡ 0 → ⊥) → value ns var i ≡ value ns var j → kindOf words j ≡ 0 → ⊥
+  applied-same : (i j : ℕ) → i < nodeCount nodes → j < nodeCount nodes → (kindOf nodes i ≡ 0 → ⊥) → value ns var i ≡ value ns var j → kindOf nodes j ≡ 0 → ⊥
   applied-same i j h l k e z =
-      let d : app (nameOf words i) (each (value ns var) (run words args i)) ≡ var (nameOf words j) = sym (term i h k) ∙ e ∙ value-variable ns w var j (nameOf words j) (is-node words args j l) (variable-from words args j l z) in
+      let d : app (nameOf nodes i) (each (value ns var) (run nodes arguments i)) ≡ var (nameOf nodes j) = sym (term i h k) ∙ e ∙ value-variable ns w var j (nameOf nodes j) (is-node nodes arguments j l) (variable-from nodes arguments j l z) in
       let y : _≡_ {A = ℕ} 0 1 = cc in
       omega arith
 
   -- applications of one term have as many arguments
   record SameArguments (i j : ℕ) : Type 0 where
-    count : countOf words i ≡ countOf words j
-    same : (q : ℕ) → q < countOf words j → value ns var (argumentOf words args i q) ≡ value ns var (argumentOf words args j q)
+    count : countOf nodes i ≡ countOf nodes j
+    same : (q : ℕ) → q < countOf nodes j → value ns var (argumentOf nodes arguments i q) ≡ value ns var (argumentOf nodes arguments j q)
 
   -- and arguments of the same terms
-  same-arguments : (i j : ℕ) → i < nodeCount words → j < nodeCount words → (kindOf words i ≡ 0 → ⊥) → (kindOf words j ≡ 0 → ⊥) → value ns var i ≡ value ns var j → SameArguments i j
+  same-arguments : (i j : ℕ) → i < nodeCount nodes → j < nodeCount nodes → (kindOf nodes i ≡ 0 → ⊥) → (kindOf nodes j ≡ 0 → ⊥) → value ns var i ≡ value ns var j → SameArguments i j
   same-arguments i j h l k m e =
-      let d : app (nameOf words i) (each (value ns var) (run words args i)) ≡ app (nameOf words j) (each (value ns var) (run words args j)) = sym (term i h k) ∙ e ∙ term j l m in
-      let a : each (value ns var) (run words args i) ≡ each (value ns var) (run words args j) = cc in
-      let n : countOf words i ≡ countOf words j = sym (run-long words args s i h) ∙ each-long (value ns var) (value ns var) (run words args i) (run words args j) a ∙ run-long words args s j l in
+      let d : app (nameOf nodes i) (each (value ns var) (run nodes arguments i)) ≡ app (nameOf nodes j) (each (value ns var) (run nodes arguments j)) = sym (term i h k) ∙ e ∙ term j l m in
+      let a : each (value ns var) (run nodes arguments i) ≡ each (value ns var) (run nodes arguments j) = cc in
+      let n : countOf nodes i ≡ countOf nodes j = sym (run-long nodes arguments s i h) ∙ each-long (value ns var) (value ns var) (run nodes arguments i) (run nodes arguments j) a ∙ run-long nodes arguments s j l in
       record {
         count = n;
-        same = λ q b. each-at (value ns var) (value ns var) (run words args i) (run words args j) a (argumentOf words args i q) (argumentOf words args j q) (pair-place words args s i j h l (argumentOf words args i q) (argumentOf words args j q) .1 (q, rw n b, b, refl, refl));
+        same = λ q b. each-at (value ns var) (value ns var) (run nodes arguments i) (run nodes arguments j) a (argumentOf nodes arguments i q) (argumentOf nodes arguments j q) (pair-place nodes arguments s i j h l (argumentOf nodes arguments i q) (argumentOf nodes arguments j q) .1 (q, rw n b, b, refl, refl));
       }
 
   -- a node of the term of a closed application is one
-  closed-same : (n i j : ℕ) → i < n → Marked words counts i → j < nodeCount words → value ns var i ≡ value ns var j → Marked words counts j
+  closed-same : (n i j : ℕ) → i < n → Marked nodes counts i → j < nodeCount nodes → value ns var i ≡ value ns var j → Marked nodes counts j
   closed-same zero i j b m l e = absurd (omega arith)
   closed-same (suc n) i j b m l e =
       record { node = l; applied = k; none = c .above j l (argument (λ g h. closed-same n g h)) }
     where
-      k : kindOf words j ≡ 0 → ⊥
+      k : kindOf nodes j ≡ 0 → ⊥
       k = applied-same i j (m .node) l (m .applied) e
 
       a : SameArguments i j
       a = same-arguments i j (m .node) l (m .applied) k e
 
-      argument : ((g h : ℕ) → g < n → Marked words counts g → h < nodeCount words → value ns var g ≡ value ns var h → Marked words counts h) → (q : ℕ) → q < countOf words j → Marked words counts (argumentOf words args j q)
+      argument : ((g h : ℕ) → g < n → Marked nodes counts g → h < nodeCount nodes → value ns var g ≡ value ns var h → Marked nodes counts h) → (q : ℕ) → q < countOf nodes j → Marked nodes counts (argumentOf nodes arguments j q)
       argument below q t =
-          let u : q < countOf words i = rw (a .count) t in
+          let u : q < countOf nodes i = rw (a .count) t in
           let x = s .smaller i q (m .node) u in
           let y = s .smaller j q l t in
-          below (argumentOf words args i q) (argumentOf words args j q) (omega (arith, x)) (c .below i (m .node) m q u) (omega (arith, y)) (a .same q t)
+          below (argumentOf nodes arguments i q) (argumentOf nodes arguments j q) (omega (arith, x)) (c .below i (m .node) m q u) (omega (arith, y)) (a .same q t)
 
   -- closed heads, where heads are not after their nodes and nodes have one head exactly if they have one term
-  pub heads-closed : (cs : List ℕ) → Partition (nodeCount words) cs → ((i : ℕ) → i < nodeCount words → classOf cs i ≤ i) → ((i : ℕ) → i < nodeCount words → value (nodesFrom words args) var i ≡ value (nodesFrom words args) var (classOf cs i)) → ((i j : ℕ) → i < nodeCount words → j < nodeCount words → value (nodesFrom words args) var i ≡ value (nodesFrom words args) var j → classOf cs i ≡ classOf cs j) → ClosedHeads words args counts cs
+  pub heads-closed : (cs : List ℕ) → Partition (nodeCount nodes) cs → ((i : ℕ) → i < nodeCount nodes → classOf cs i ≤ i) → ((i : ℕ) → i < nodeCount nodes → value (nodesFrom nodes arguments) var i ≡ value (nodesFrom nodes arguments) var (classOf cs i)) → ((i j : ℕ) → i < nodeCount nodes → j < nodeCount nodes → value (nodesFrom nodes arguments) var i ≡ value (nodesFrom nodes arguments) var j → classOf cs i ≡ classOf cs j) → ClosedHeads nodes arguments counts cs
   heads-closed cs p low valued shared =
       record {
         closed = λ i m. closed-same (suc i) i (classOf cs i) (omega arith) m (p .below i (m .node)) (valued i (m .node));

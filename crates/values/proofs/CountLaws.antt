@@ -18,38 +18,38 @@ use Rattle.nodes.specs.Code.Open.{Marked, markedTest, Counts, CountedAt}
 use Rattle.nodes.proofs.OpenLaws.{marked-true, marked-false}
 
 -- The first j arguments of node i are closed applications.
-pub record ClosedUpTo (words args counts : List ℕ) (i j : ℕ) : Type 0 where
-  pub closed : (q : ℕ) → q < j → Marked words counts (argumentOf words args i q)
+pub record ClosedUpTo (nodes arguments counts : List ℕ) (i j : ℕ) : Type 0 where
+  pub closed : (q : ℕ) → q < j → Marked nodes counts (argumentOf nodes arguments i q)
 
 -- at first none is asked for
-pub closed-none : (words args counts : List ℕ) (i : ℕ) → ClosedUpTo words args counts i 0
-closed-none words args counts i = record { closed = λ q h. absurd (omega arith) }
+pub closed-none : (nodes arguments counts : List ℕ) (i : ℕ) → ClosedUpTo nodes arguments counts i 0
+closed-none nodes arguments counts i = record { closed = λ q h. absurd (omega arith) }
 
-module _ (words args counts : List ℕ) (i j a : ℕ) (v : Bool) (small : a < nodeCount words) (is : a ≡ argumentOf words args i j) (e : v ≡ markedTest words counts a) where
+module _ (nodes arguments counts : List ℕ) (i j a : ℕ) (v : Bool) (small : a < nodeCount nodes) (is : a ≡ argumentOf nodes arguments i j) (e : v ≡ markedTest nodes counts a) where
   -- one argument more is closed
-  pub closed-next : v ≡ true → ClosedUpTo words args counts i j → ClosedUpTo words args counts i (j + 1)
+  pub closed-next : v ≡ true → ClosedUpTo nodes arguments counts i j → ClosedUpTo nodes arguments counts i (j + 1)
   closed-next t b =
       record {
-        closed = below-more (λ q. Marked words counts (argumentOf words args i q)) j (b .closed) (rw is at (marked-true words counts a small (sym e ∙ t)));
+        closed = below-more (λ q. Marked nodes counts (argumentOf nodes arguments i q)) j (b .closed) (rw is at (marked-true nodes counts a small (sym e ∙ t)));
       }
 
   -- one is not, so all are looked at
-  pub counted-some : (n : ℕ) → n ≡ countOf words i → j < n → v ≡ false → CountedAt words args counts i n
+  pub counted-some : (n : ℕ) → n ≡ countOf nodes i → j < n → v ≡ false → CountedAt nodes arguments counts i n
   counted-some n c l f =
       record {
         some = inr c;
         below = λ z. absurd (omega arith);
-        above = λ b. absurd (marked-false words counts a (sym e ∙ f) (rw is (b j (omega arith))));
+        above = λ b. absurd (marked-false nodes counts a (sym e ∙ f) (rw is (b j (omega arith))));
       }
 
 -- all are closed, so none is looked at
-pub counted-none : (words args counts : List ℕ) (i j n : ℕ) → n ≡ countOf words i → n ≤ j → ClosedUpTo words args counts i j → CountedAt words args counts i 0
-counted-none words args counts i j n c l b =
+pub counted-none : (nodes arguments counts : List ℕ) (i j n : ℕ) → n ≡ countOf nodes i → n ≤ j → ClosedUpTo nodes arguments counts i j → CountedAt nodes arguments counts i 0
+counted-none nodes arguments counts i j n c l b =
     record { some = inl refl; below = λ z q h. b .closed q (omega arith); above = λ z. refl }
 
 -- no node is counted yet
-pub counts-none : (words args counts : List ℕ) → nodeCount words ≤ length counts → Counts words args counts 0
-counts-none words args counts h =
+pub counts-none : (nodes arguments counts : List ℕ) → nodeCount nodes ≤ length counts → Counts nodes arguments counts 0
+counts-none nodes arguments counts h =
     record {
       enough = h;
       some = λ i l. absurd (omega arith);
@@ -57,7 +57,7 @@ counts-none words args counts h =
       above = λ i l. absurd (omega arith);
     }
 
-module _ (words args counts : List ℕ) (s : Sections words args) (i r : ℕ) (h : i < nodeCount words) (c : Counts words args counts i) (d : CountedAt words args counts i r) where
+module _ (nodes arguments counts : List ℕ) (s : Sections nodes arguments) (i r : ℕ) (h : i < nodeCount nodes) (c : Counts nodes arguments counts i) (d : CountedAt nodes arguments counts i r) where
   abbrev after : List ℕ
   after = set counts i r
 
@@ -68,41 +68,41 @@ module _ (words args counts : List ℕ) (s : Sections words args) (i r : ℕ) (h
   other k l = getD-set-other counts i k r 0 (λ z. omega (arith, l, z))
 
   -- closed applications below node i stay so
-  stays : (k : ℕ) → k < i → Marked words counts k → Marked words after k
+  stays : (k : ℕ) → k < i → Marked nodes counts k → Marked nodes after k
   stays k l m = record { node = m .node; applied = m .applied; none = other k l ∙ m .none }
 
   -- and were so
-  was : (k : ℕ) → k < i → Marked words after k → Marked words counts k
+  was : (k : ℕ) → k < i → Marked nodes after k → Marked nodes counts k
   was k l m = record { node = m .node; applied = m .applied; none = sym (other k l) ∙ m .none }
 
-  argument-below : (k j : ℕ) → k < i + 1 → j < countOf words k → argumentOf words args k j < i
+  argument-below : (k j : ℕ) → k < i + 1 → j < countOf nodes k → argumentOf nodes arguments k j < i
   argument-below k j l q =
       let a = s .smaller k j (omega arith) q in
       omega (arith, a)
 
   -- one node more
-  pub counts-next : Counts words args (set counts i r) (i + 1)
+  pub counts-next : Counts nodes arguments (set counts i r) (i + 1)
   counts-next =
       record {
         enough = rw (length-set counts i r) (c .enough);
-        some = below-more (λ k. (word after k ≡ 0) ⊎ (word after k ≡ countOf words k)) i (λ k l. rw (other k l) (c .some k l)) (rw here (d .some));
+        some = below-more (λ k. (word after k ≡ 0) ⊎ (word after k ≡ countOf nodes k)) i (λ k l. rw (other k l) (c .some k l)) (rw here (d .some));
         below = λ k l. below-at k l (ℕ-discrete k i);
         above = λ k l. above-at k l (ℕ-discrete k i);
       }
     where
-      below-at : (k : ℕ) → k < i + 1 → Dec (k ≡ i) → Marked words after k → (j : ℕ) → j < countOf words k → Marked words after (argumentOf words args k j)
+      below-at : (k : ℕ) → k < i + 1 → Dec (k ≡ i) → Marked nodes after k → (j : ℕ) → j < countOf nodes k → Marked nodes after (argumentOf nodes arguments k j)
       below-at k l (yes e) m j q =
-          stays (argumentOf words args k j) (argument-below k j l q) (rw e (d .below (sym here ∙ ap (word after) (sym e) ∙ m .none) j (rw e at q)))
+          stays (argumentOf nodes arguments k j) (argument-below k j l q) (rw e (d .below (sym here ∙ ap (word after) (sym e) ∙ m .none) j (rw e at q)))
       below-at k l (no n) m j q =
           let b : k < i = omega (arith, n) in
-          stays (argumentOf words args k j) (argument-below k j l q) (c .below k b (was k b m) j q)
+          stays (argumentOf nodes arguments k j) (argument-below k j l q) (c .below k b (was k b m) j q)
 
-      above-at : (k : ℕ) → k < i + 1 → Dec (k ≡ i) → ((j : ℕ) → j < countOf words k → Marked words after (argumentOf words args k j)) → word after k ≡ 0
+      above-at : (k : ℕ) → k < i + 1 → Dec (k ≡ i) → ((j : ℕ) → j < countOf nodes k → Marked nodes after (argumentOf nodes arguments k j)) → word after k ≡ 0
       above-at k l (yes e) m =
-          ap (word after) e ∙ here ∙ d .above (λ j q. was (argumentOf words args i j) (argument-below i j (omega arith) q) ((rw e at m) j q))
+          ap (word after) e ∙ here ∙ d .above (λ j q. was (argumentOf nodes arguments i j) (argument-below i j (omega arith) q) ((rw e at m) j q))
       above-at k l (no n) m =
           let b : k < i = omega (arith, n) in
-          other k b ∙ c .above k b (λ j q. was (argumentOf words args k j) (argument-below k j l q) (m j q))
+          other k b ∙ c .above k b (λ j q. was (argumentOf nodes arguments k j) (argument-below k j l q) (m j q))
 
   -- if some is false, no arguments of a node so far are looked at
   pub none-next : (some : Bool) → (some ≡ false → (k : ℕ) → k < i → word counts k ≡ 0) → (some || not (eqb r 0)) ≡ false → (k : ℕ) → k < i + 1 → word (set counts i r) k ≡ 0
@@ -110,5 +110,5 @@ module _ (words args counts : List ℕ) (s : Sections words args) (i r : ℕ) (h
       below-more (λ k. word after k ≡ 0) i (λ k l. other k l ∙ b (or-false-left some (not (eqb r 0)) e) k l) (here ∙ eqb-true r 0 (not-false _ (or-false-right some (not (eqb r 0)) e)))
 
 -- the counts of as many nodes as there are
-pub counts-end : (words args counts : List ℕ) (i n : ℕ) → n ≡ nodeCount words → i ≤ n → n ≤ i → Counts words args counts i → Counts words args counts (nodeCount words)
-counts-end words args counts i n c a b m = let e : nodeCount words ≡ i = omega arith in rw e m
+pub counts-end : (nodes arguments counts : List ℕ) (i n : ℕ) → n ≡ nodeCount nodes → i ≤ n → n ≤ i → Counts nodes arguments counts i → Counts nodes arguments counts (nodeCount nodes)
+counts-end nodes arguments counts i n c a b m = let e : nodeCount nodes ≡ i = omega arith in rw e m

@@ -13,19 +13,19 @@ use Rattle.values.specs.Code.Naming.{Nameable, keys, keyOf, keyAt, Compa
 use Rattle.values.proofs.AlikeLaws.{key-alike}
 
 -- no node stands twice in the order, so it is no longer than there are nodes
-pub order-short : (words args cs order : List ℕ) → Nameable words args cs order → length order ≤ nodeCount words
-order-short words args cs order o = go (decLt (nodeCount words) (length order))
+pub order-short : (nodes arguments cs order : List ℕ) → Nameable nodes arguments cs order → length order ≤ nodeCount nodes
+order-short nodes arguments cs order o = go (decLt (nodeCount nodes) (length order))
   where
-    go : Dec (nodeCount words < length order) → length order ≤ nodeCount words
+    go : Dec (nodeCount nodes < length order) → length order ≤ nodeCount nodes
     go (no n) = omega (arith, n)
     go (yes l) =
-        let r = pigeons (nodeCount words) (word order) (λ i h. o .node i (omega (arith, h, l))) in
+        let r = pigeons (nodeCount nodes) (word order) (λ i h. o .node i (omega (arith, h, l))) in
         absurd (o .once (r .0) (r .1) (r .2) (omega (arith, r .3, l)) (r .4))
 
 -- The search for the node at place p.
-module _ (words args cs order names buckets earlier : List ℕ) (p : ℕ) (s : Naming words args cs order names buckets earlier p) where
+module _ (nodes arguments cs order names buckets earlier : List ℕ) (p : ℕ) (s : Naming nodes arguments cs order names buckets earlier p) where
   -- the cursor starts at the last representative with the key
-  pub search-start : (k c : ℕ) → k < keys → c ≡ word buckets k → Searching words args cs order names p k c
+  pub search-start : (k c : ℕ) → k < keys → c ≡ word buckets k → Searching nodes arguments cs order names p k c
   search-start k c h d =
       rw d (record {
         at = λ b e. s .chained .bucket-is k b h e;
@@ -34,8 +34,8 @@ module _ (words args cs order names buckets earlier : List ℕ) (p : ℕ) (s : N
             omega (arith, t, m);
       })
 
-  module _ (k c : ℕ) (t : Searching words args cs order names p k c) where
-    search-past : (b : ℕ) → c ≡ suc b → (Alike words args cs names (word order b) (word order p) → ⊥) → Searching words args cs order names p k (word earlier b)
+  module _ (k c : ℕ) (t : Searching nodes arguments cs order names p k c) where
+    search-past : (b : ℕ) → c ≡ suc b → (Alike nodes arguments cs names (word order b) (word order p) → ⊥) → Searching nodes arguments cs order names p k (word earlier b)
     search-past b e n =
         let u = t .at b e in
         record {
@@ -45,7 +45,7 @@ module _ (words args cs order names buckets earlier : List ℕ) (p : ℕ) (s : N
           passed = λ q l m r f a. past q l m r f a (decLt q b) (ℕ-discrete q b);
         }
       where
-        past : (q : ℕ) → q < p → word earlier b ≤ q → Representative words order names q → keyAt words args cs order names q ≡ k → Alike words args cs names (word order q) (word order p) → Dec (q < b) → Dec (q ≡ b) → ⊥
+        past : (q : ℕ) → q < p → word earlier b ≤ q → Representative nodes order names q → keyAt nodes arguments cs order names q ≡ k → Alike nodes arguments cs names (word order q) (word order p) → Dec (q < b) → Dec (q ≡ b) → ⊥
         past q l m r f a (yes z) y =
             let u = t .at b e in
             let w = s .chained .earlier-reaches q b z (u .0) r (u .1) (f ∙ sym (u .2)) in
@@ -64,16 +64,16 @@ module _ (words args cs order names buckets earlier : List ℕ) (p : ℕ) (s : N
             let w = s .chained .earlier-is b d (u .0) (u .1) f in
             omega (arith, w .0, e)
 
-    search-inside : (b : ℕ) → c ≡ suc b → p < length order → (b < length order) × (b < length earlier) × (word order b < nodeCount words)
+    search-inside : (b : ℕ) → c ≡ suc b → p < length order → (b < length order) × (b < length earlier) × (word order b < nodeCount nodes)
     search-inside b e l =
         let u = t .at b e in
-        let h = order-short words args cs order (s .ordered) in
+        let h = order-short nodes arguments cs order (s .ordered) in
         let z = s .readable .sections .limit in
         let y = s .earlier-long in
         let i : b < length order = omega (arith, u .0) in
         (i, omega (arith, h, z, y, i), s .ordered .node b i)
 
-    search-hit : (b : ℕ) → c ≡ suc b → Alike words args cs names (word order b) (word order p) → Found words args cs order names p c
+    search-hit : (b : ℕ) → c ≡ suc b → Alike nodes arguments cs names (word order b) (word order p) → Found nodes arguments cs order names p c
     search-hit b e a =
         record {
           found = λ d f.
@@ -88,20 +88,20 @@ module _ (words args cs order names buckets earlier : List ℕ) (p : ℕ) (s : N
       one-more = omega (arith, n)
 
       -- the cursor is at a place, and a node stands there
-      pub cursor-inside : p < length order → (c - 1 < length order) × (c - 1 < length earlier) × (word order (c - 1) < nodeCount words)
+      pub cursor-inside : p < length order → (c - 1 < length order) × (c - 1 < length earlier) × (word order (c - 1) < nodeCount nodes)
       cursor-inside l = search-inside (c - 1) one-more l
 
       -- the nodes that are compared are nodes of the table
-      pub nodes-inside : p < length order → (g h : ℕ) → g ≡ word order (c - 1) → h ≡ word order p → (g < nodeCount words) × (h < nodeCount words)
+      pub nodes-inside : p < length order → (g h : ℕ) → g ≡ word order (c - 1) → h ≡ word order p → (g < nodeCount nodes) × (h < nodeCount nodes)
       nodes-inside l g h d e = (rw d (cursor-inside l .2), rw e (s .ordered .node p l))
 
-      module _ (g h : ℕ) (r : Bool) (d : g ≡ word order (c - 1)) (e : h ≡ word order p) (u : Compared words args cs names g h r) where
+      module _ (g h : ℕ) (r : Bool) (d : g ≡ word order (c - 1)) (e : h ≡ word order p) (u : Compared nodes arguments cs names g h r) where
         -- the node at the cursor is alike
-        pub search-found : r ≡ true → Found words args cs order names p c
+        pub search-found : r ≡ true → Found nodes arguments cs order names p c
         search-found f = search-hit (c - 1) one-more (rw (d, e) at (u .alike f))
 
         -- it is not, and the cursor goes on to the one before it
-        pub search-next : r ≡ false → (b : ℕ) → b ≡ word earlier (c - 1) → Searching words args cs order names p k b
+        pub search-next : r ≡ false → (b : ℕ) → b ≡ word earlier (c - 1) → Searching nodes arguments cs order names p k b
         search-next f b z = rw z (search-past (c - 1) one-more (λ a. u .different f (rw (d, e) a)))
 
       -- which stands before it
@@ -109,7 +109,7 @@ module _ (words args cs order names buckets earlier : List ℕ) (p : ℕ) (s : N
       search-less b z = rw z (search-falls (c - 1) one-more)
 
     -- no representative is left
-    pub search-nothing : k ≡ keyOf words args cs names (word order p) → c ≡ 0 → Found words args cs order names p 0
+    pub search-nothing : k ≡ keyOf nodes arguments cs names (word order p) → c ≡ 0 → Found nodes arguments cs order names p 0
     unfolding keyAt
     search-nothing e z =
         record {

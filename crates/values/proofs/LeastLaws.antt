@@ -30,142 +30,142 @@ use Rattle.values.specs.Code.Present.{variableNames, noted, Passes, Leas
 use Rattle.values.proofs.KeptLaws.{kept-none, kept-skip, kept-set, touched-skip, touched-set}
 
 -- a variable is noted at its number
-pub noted-variable : (words least : List ℕ) (i x : ℕ) → eqb (kindOf words i) 0 ≡ true → x ≡ nameOf words i → set least x i ≡ noted words least i
+pub noted-variable : (nodes least : List ℕ) (i x : ℕ) → eqb (kindOf nodes i) 0 ≡ true → x ≡ nameOf nodes i → set least x i ≡ noted nodes least i
 unfolding noted
-noted-variable words least i x k e = rw (k, e)
+noted-variable nodes least i x k e = rw (k, e)
 
 -- an application is not
-pub noted-other : (words least : List ℕ) (i : ℕ) → eqb (kindOf words i) 0 ≡ false → least ≡ noted words least i
+pub noted-other : (nodes least : List ℕ) (i : ℕ) → eqb (kindOf nodes i) 0 ≡ false → least ≡ noted nodes least i
 unfolding noted
-noted-other words least i k = rw k
+noted-other nodes least i k = rw k
 
 -- Node k is a variable.
 abbrev IsVariable : List ℕ → ℕ → Type 0
-IsVariable words k = kindOf words k ≡ 0
+IsVariable nodes k = kindOf nodes k ≡ 0
 
 -- The nodes from i on are noted.
-pub record NotedFrom (words least : List ℕ) (i : ℕ) : Type 0 where
+pub record NotedFrom (nodes least : List ℕ) (i : ℕ) : Type 0 where
   pub long : length least ≡ variableNames
-  pub kept : Kept (IsVariable words) (nameOf words) (λ k. k) i (nodeCount words) least
-  pub touched : (x : ℕ) → x < variableNames → Touched (IsVariable words) (nameOf words) (nodeCount words) i (nodeCount words) least x
+  pub kept : Kept (IsVariable nodes) (nameOf nodes) (λ k. k) i (nodeCount nodes) least
+  pub touched : (x : ℕ) → x < variableNames → Touched (IsVariable nodes) (nameOf nodes) (nodeCount nodes) i (nodeCount nodes) least x
 
 -- none is noted yet
-pub noted-none : (words least : List ℕ) (i : ℕ) → nodeCount words ≡ i → length least ≡ variableNames → ((x : ℕ) → x < variableNames → word least x ≡ nodeCount words) → NotedFrom words least i
-noted-none words least i e l h =
+pub noted-none : (nodes least : List ℕ) (i : ℕ) → nodeCount nodes ≡ i → length least ≡ variableNames → ((x : ℕ) → x < variableNames → word least x ≡ nodeCount nodes) → NotedFrom nodes least i
+noted-none nodes least i e l h =
     record {
       long = l;
-      kept = kept-none (IsVariable words) (nameOf words) (λ k. k) (nodeCount words) i (omega arith) least;
+      kept = kept-none (IsVariable nodes) (nameOf nodes) (λ k. k) (nodeCount nodes) i (omega arith) least;
       touched = λ x b. inl (h x b);
     }
 
-module _ (words args : List ℕ) (s : Sections words args) where
-  noted-next : (least : List ℕ) (i : ℕ) → i < nodeCount words → NotedFrom words least (suc i) → NotedFrom words (noted words least i) i
+module _ (nodes arguments : List ℕ) (s : Sections nodes arguments) where
+  noted-next : (least : List ℕ) (i : ℕ) → i < nodeCount nodes → NotedFrom nodes least (suc i) → NotedFrom nodes (noted nodes least i) i
   unfolding noted
-  noted-next least i h r = pick (ℕ-discrete (kindOf words i) 0)
+  noted-next least i h r = pick (ℕ-discrete (kindOf nodes i) 0)
     where
       n : ℕ
-      n = nodeCount words
+      n = nodeCount nodes
 
-      pick : Dec (kindOf words i ≡ 0) → NotedFrom words (cond (eqb (kindOf words i) 0) (set least (nameOf words i) i) least) i
+      pick : Dec (kindOf nodes i ≡ 0) → NotedFrom nodes (cond (eqb (kindOf nodes i) 0) (set least (nameOf nodes i) i) least) i
       pick (yes k) =
           let b = s .variable-name i h k in
           let l = r .long in
-          rw (eq-eqb (kindOf words i) 0 k)
+          rw (eq-eqb (kindOf nodes i) 0 k)
           (record {
-            long = length-set least (nameOf words i) i ∙ r .long;
-            kept = kept-set (IsVariable words) (nameOf words) (λ j. j) (nodeCount words) i least h k (omega (arith, b, l)) (r .kept);
-            touched = λ x z. touched-set (IsVariable words) (nameOf words) (λ j. j) (nodeCount words) (nodeCount words) i x least h k (r .touched x z);
+            long = length-set least (nameOf nodes i) i ∙ r .long;
+            kept = kept-set (IsVariable nodes) (nameOf nodes) (λ j. j) (nodeCount nodes) i least h k (omega (arith, b, l)) (r .kept);
+            touched = λ x z. touched-set (IsVariable nodes) (nameOf nodes) (λ j. j) (nodeCount nodes) (nodeCount nodes) i x least h k (r .touched x z);
           })
       pick (no k) =
-          rw (ne-eqb (kindOf words i) 0 k)
+          rw (ne-eqb (kindOf nodes i) 0 k)
           (record {
             long = r .long;
-            kept = kept-skip (IsVariable words) (nameOf words) (λ j. j) (nodeCount words) i least k (r .kept);
-            touched = λ x z. touched-skip (IsVariable words) (nameOf words) (λ j. j) (nodeCount words) (nodeCount words) i x least (r .touched x z);
+            kept = kept-skip (IsVariable nodes) (nameOf nodes) (λ j. j) (nodeCount nodes) i least k (r .kept);
+            touched = λ x z. touched-skip (IsVariable nodes) (nameOf nodes) (λ j. j) (nodeCount nodes) (nodeCount nodes) i x least (r .touched x z);
           })
 
   -- one node more
-  pub noted-down : (least : List ℕ) (i : ℕ) → 0 < i → i ≤ nodeCount words → NotedFrom words least i → NotedFrom words (noted words least (i - 1)) (i - 1)
+  pub noted-down : (least : List ℕ) (i : ℕ) → 0 < i → i ≤ nodeCount nodes → NotedFrom nodes least i → NotedFrom nodes (noted nodes least (i - 1)) (i - 1)
   noted-down least i h l r =
       let e : i ≡ suc (i - 1) = omega arith in
       noted-next least (i - 1) (omega arith) (rw e at r)
 
   -- what stands at x is the least node of variable x
-  noted-right : (least : List ℕ) → NotedFrom words least 0 → (x : ℕ) → x < variableNames → word least x ≡ nodeOf (nodesFrom words args) x
+  noted-right : (least : List ℕ) → NotedFrom nodes least 0 → (x : ℕ) → x < variableNames → word least x ≡ nodeOf (nodesFrom nodes arguments) x
   noted-right least r x b = go (r .touched x b)
     where
-      go : Touched (IsVariable words) (nameOf words) (nodeCount words) 0 (nodeCount words) least x → word least x ≡ nodeOf (nodesFrom words args) x
+      go : Touched (IsVariable nodes) (nameOf nodes) (nodeCount nodes) 0 (nodeCount nodes) least x → word least x ≡ nodeOf (nodesFrom nodes arguments) x
       go (inl e) =
-          e ∙ sym (nodes-long words args) ∙ sym (node-of-none (nodesFrom words args) x never)
+          e ∙ sym (nodes-long nodes arguments) ∙ sym (node-of-none (nodesFrom nodes arguments) x never)
         where
-          never : (i : ℕ) → i < length (nodesFrom words args) → nodeAt (nodesFrom words args) i ≡ variable x → ⊥
+          never : (i : ℕ) → i < length (nodesFrom nodes arguments) → nodeAt (nodesFrom nodes arguments) i ≡ variable x → ⊥
           never i h d =
-              let g : i < nodeCount words = rw (nodes-long words args) at h in
-              let v = section-variable words args s i g x .0 d in
+              let g : i < nodeCount nodes = rw (nodes-long nodes arguments) at h in
+              let v = section-variable nodes arguments s i g x .0 d in
               let k = r .kept .kept i (omega arith) g (v .0) in
-              let m : k .0 < nodeCount words = k .1 .holds .1 in
+              let m : k .0 < nodeCount nodes = k .1 .holds .1 in
               let q : word least x ≡ k .0 = ap (word least) (v .1) ∙ k .2 in
               omega (arith, q)
       go (inr (i, w)) =
           let k = r .kept .kept i (omega arith) (w .1) (w .2) in
           let q : word least x ≡ k .0 = ap (word least) (sym (w .3)) ∙ k .2 in
-          let a : k .0 < length (nodesFrom words args) = rw (nodes-long words args) (k .1 .holds .1) in
-          let d : nodeAt (nodesFrom words args) (k .0) ≡ variable x = section-variable words args s (k .0) (k .1 .holds .1) x .1 (k .1 .holds .2, sym (w .3) ∙ sym (k .1 .holds .3)) in
-          let l = node-of (nodesFrom words args) x (k .0, a, d) in
-          let c : nodeOf (nodesFrom words args) x < nodeCount words = rw (nodes-long words args) at (l .holds .0) in
-          let v = section-variable words args s (nodeOf (nodesFrom words args) x) c x .0 (l .holds .1) in
-          let y : nodeOf (nodesFrom words args) x ≤ k .0 = l .least (k .0) (a, d) in
-          let z : k .0 ≤ nodeOf (nodesFrom words args) x = k .1 .least (nodeOf (nodesFrom words args) x) (omega arith, c, v .0, sym (v .1) ∙ sym (w .3)) in
+          let a : k .0 < length (nodesFrom nodes arguments) = rw (nodes-long nodes arguments) (k .1 .holds .1) in
+          let d : nodeAt (nodesFrom nodes arguments) (k .0) ≡ variable x = section-variable nodes arguments s (k .0) (k .1 .holds .1) x .1 (k .1 .holds .2, sym (w .3) ∙ sym (k .1 .holds .3)) in
+          let l = node-of (nodesFrom nodes arguments) x (k .0, a, d) in
+          let c : nodeOf (nodesFrom nodes arguments) x < nodeCount nodes = rw (nodes-long nodes arguments) at (l .holds .0) in
+          let v = section-variable nodes arguments s (nodeOf (nodesFrom nodes arguments) x) c x .0 (l .holds .1) in
+          let y : nodeOf (nodesFrom nodes arguments) x ≤ k .0 = l .least (k .0) (a, d) in
+          let z : k .0 ≤ nodeOf (nodesFrom nodes arguments) x = k .1 .least (nodeOf (nodesFrom nodes arguments) x) (omega arith, c, v .0, sym (v .1) ∙ sym (w .3)) in
           omega (arith, q)
 
   -- what stands at x is a node or the number of nodes
-  noted-within : (least : List ℕ) → NotedFrom words least 0 → (x : ℕ) → x < variableNames → word least x ≤ nodeCount words
+  noted-within : (least : List ℕ) → NotedFrom nodes least 0 → (x : ℕ) → x < variableNames → word least x ≤ nodeCount nodes
   noted-within least r x b = go (r .touched x b)
     where
-      go : Touched (IsVariable words) (nameOf words) (nodeCount words) 0 (nodeCount words) least x → word least x ≤ nodeCount words
+      go : Touched (IsVariable nodes) (nameOf nodes) (nodeCount nodes) 0 (nodeCount nodes) least x → word least x ≤ nodeCount nodes
       go (inl e) = omega arith
       go (inr (i, w)) =
           let k = r .kept .kept i (omega arith) (w .1) (w .2) in
           let q : word least x ≡ k .0 = ap (word least) (sym (w .3)) ∙ k .2 in
-          let m : k .0 < nodeCount words = k .1 .holds .1 in
+          let m : k .0 < nodeCount nodes = k .1 .holds .1 in
           omega (arith, q)
 
   -- all are noted
-  pub noted-all : (least : List ℕ) (i : ℕ) → i ≤ 0 → NotedFrom words least i → LeastByName words args least
+  pub noted-all : (least : List ℕ) (i : ℕ) → i ≤ 0 → NotedFrom nodes least i → LeastByName nodes arguments least
   noted-all least i z t =
       let e : i ≡ 0 = omega arith in
       let r = rw e at t in
       record { long = r .long; within = noted-within least r; right = noted-right least r }
 
 -- a variable of which the number is not below e is passed by the next one
-pub passed-here : (words : List ℕ) (e i x : ℕ) → x ≡ nameOf words i → e ≤ x → x < variableNames → Passes words e i (x + 1)
-passed-here words e i x q l h =
+pub passed-here : (nodes : List ℕ) (e i x : ℕ) → x ≡ nameOf nodes i → e ≤ x → x < variableNames → Passes nodes e i (x + 1)
+passed-here nodes e i x q l h =
     record { more = omega arith; within = omega arith; past = λ k. omega arith }
 
 -- another is passed by e
-pub passed-before : (words : List ℕ) (e i x : ℕ) → x ≡ nameOf words i → x < e → e ≤ variableNames → Passes words e i e
-passed-before words e i x q l h = record { more = omega arith; within = h; past = λ k. omega arith }
+pub passed-before : (nodes : List ℕ) (e i x : ℕ) → x ≡ nameOf nodes i → x < e → e ≤ variableNames → Passes nodes e i e
+passed-before nodes e i x q l h = record { more = omega arith; within = h; past = λ k. omega arith }
 
 -- an application has none to pass
-pub passed-other : (words : List ℕ) (e i : ℕ) → eqb (kindOf words i) 0 ≡ false → e ≤ variableNames → Passes words e i e
-passed-other words e i q h =
-    record { more = omega arith; within = h; past = λ k. absurd (false≢true (sym q ∙ eq-eqb (kindOf words i) 0 k)) }
+pub passed-other : (nodes : List ℕ) (e i : ℕ) → eqb (kindOf nodes i) 0 ≡ false → e ≤ variableNames → Passes nodes e i e
+passed-other nodes e i q h =
+    record { more = omega arith; within = h; past = λ k. absurd (false≢true (sym q ∙ eq-eqb (kindOf nodes i) 0 k)) }
 
 -- The variables of the nodes from i on have numbers below e.
-pub record NamesBelow (words : List ℕ) (e i : ℕ) : Type 0 where
+pub record NamesBelow (nodes : List ℕ) (e i : ℕ) : Type 0 where
   pub within : e ≤ variableNames
-  pub below : (k : ℕ) → i ≤ k → k < nodeCount words → kindOf words k ≡ 0 → nameOf words k < e
+  pub below : (k : ℕ) → i ≤ k → k < nodeCount nodes → kindOf nodes k ≡ 0 → nameOf nodes k < e
 
 -- there is no node yet
-pub names-none : (words : List ℕ) (i : ℕ) → nodeCount words ≡ i → NamesBelow words 0 i
-names-none words i e = record { within = omega arith; below = λ k l h z. absurd (omega arith) }
+pub names-none : (nodes : List ℕ) (i : ℕ) → nodeCount nodes ≡ i → NamesBelow nodes 0 i
+names-none nodes i e = record { within = omega arith; below = λ k l h z. absurd (omega arith) }
 
 -- one node more
-pub names-down : (words : List ℕ) (e i r : ℕ) → NamesBelow words e i → Passes words e (i - 1) r → NamesBelow words r (i - 1)
-names-down words e i r b p =
+pub names-down : (nodes : List ℕ) (e i r : ℕ) → NamesBelow nodes e i → Passes nodes e (i - 1) r → NamesBelow nodes r (i - 1)
+names-down nodes e i r b p =
     record { within = p .within; below = λ k l h z. pick k h z (ℕ-discrete k (i - 1)) l }
   where
-    pick : (k : ℕ) → k < nodeCount words → kindOf words k ≡ 0 → Dec (k ≡ i - 1) → i - 1 ≤ k → nameOf words k < r
+    pick : (k : ℕ) → k < nodeCount nodes → kindOf nodes k ≡ 0 → Dec (k ≡ i - 1) → i - 1 ≤ k → nameOf nodes k < r
     pick k h z (yes q) l = rw q (p .past (rw q at z))
     pick k h z (no q) l =
         let a : i ≤ k = omega (arith, q) in
@@ -174,11 +174,11 @@ names-down words e i r b p =
         omega (arith, c, d)
 
 -- what stands past the numbers of all nodes is the number of nodes
-pub noted-end : (words least : List ℕ) (e i : ℕ) → i ≤ 0 → NotedFrom words least i → NamesBelow words e i → NoneFrom least (nodeCount words) e
-noted-end words least e i z t b =
+pub noted-end : (nodes least : List ℕ) (e i : ℕ) → i ≤ 0 → NotedFrom nodes least i → NamesBelow nodes e i → NoneFrom least (nodeCount nodes) e
+noted-end nodes least e i z t b =
     record { within = b .within; none = λ x l h. pick x l (t .touched x h) }
   where
-    pick : (x : ℕ) → e ≤ x → Touched (IsVariable words) (nameOf words) (nodeCount words) i (nodeCount words) least x → word least x ≡ nodeCount words
+    pick : (x : ℕ) → e ≤ x → Touched (IsVariable nodes) (nameOf nodes) (nodeCount nodes) i (nodeCount nodes) least x → word least x ≡ nodeCount nodes
     pick x l (inl q) = q
     pick x l (inr (k, w)) =
         let c = b .below k (w .0) (w .1) (w .2) in
@@ -284,49 +284,49 @@ selected-map p f (suc x) =
     last true = refl
     last false = refl
 
-module _ (words args : List ℕ) (s : Sections words args) (least : List ℕ) (l : LeastByName words args least) where
+module _ (nodes arguments : List ℕ) (s : Sections nodes arguments) (least : List ℕ) (l : LeastByName nodes arguments least) where
   -- variable x has a node
   has : ℕ → Bool
-  has x = ltb (word least x) (nodeCount words)
+  has x = ltb (word least x) (nodeCount nodes)
 
   -- a variable has a node exactly if it is present
-  has-present : (x : ℕ) → x < variableNames → has x ≡ true → Present (nodesFrom words args) x
+  has-present : (x : ℕ) → x < variableNames → has x ≡ true → Present (nodesFrom nodes arguments) x
   unfolding has
-  has-present x b e = go (present-or-not (nodesFrom words args) x)
+  has-present x b e = go (present-or-not (nodesFrom nodes arguments) x)
     where
-      go : Dec (Present (nodesFrom words args) x) → Present (nodesFrom words args) x
+      go : Dec (Present (nodesFrom nodes arguments) x) → Present (nodesFrom nodes arguments) x
       go (yes p) = p
       go (no d) =
-          let q : word least x < nodeCount words = ltb-true _ _ e in
-          let z : word least x ≡ nodeCount words = l .right x b ∙ node-of-none (nodesFrom words args) x (λ i h v. d (i, h, v)) ∙ nodes-long words args in
+          let q : word least x < nodeCount nodes = ltb-true _ _ e in
+          let z : word least x ≡ nodeCount nodes = l .right x b ∙ node-of-none (nodesFrom nodes arguments) x (λ i h v. d (i, h, v)) ∙ nodes-long nodes arguments in
           absurd (omega arith)
 
-  present-has : (x : ℕ) → Present (nodesFrom words args) x → (x < variableNames) × (has x ≡ true)
+  present-has : (x : ℕ) → Present (nodesFrom nodes arguments) x → (x < variableNames) × (has x ≡ true)
   unfolding has
   present-has x (i, h, v) =
-      let g : i < nodeCount words = rw (nodes-long words args) at h in
-      let r = section-variable words args s i g x .0 v in
+      let g : i < nodeCount nodes = rw (nodes-long nodes arguments) at h in
+      let r = section-variable nodes arguments s i g x .0 v in
       let b = s .variable-name i g (r .0) in
       let y : x < variableNames = omega (arith, r .1) in
-      let c : nodeOf (nodesFrom words args) x < nodeCount words = rw (nodes-long words args) at (node-of (nodesFrom words args) x (i, h, v) .holds .0) in
-      (y, lt-ltb (word least x) (nodeCount words) (rw (l .right x y) c))
+      let c : nodeOf (nodesFrom nodes arguments) x < nodeCount nodes = rw (nodes-long nodes arguments) at (node-of (nodesFrom nodes arguments) x (i, h, v) .holds .0) in
+      (y, lt-ltb (word least x) (nodeCount nodes) (rw (l .right x y) c))
 
   -- the variables present are those with a node
-  present-names : selected has variableNames ≡ variablesOf (nodesFrom words args)
+  present-names : selected has variableNames ≡ variablesOf (nodesFrom nodes arguments)
   present-names =
-      variables-one (nodesFrom words args) (selected has variableNames)
+      variables-one (nodesFrom nodes arguments) (selected has variableNames)
       (record {
         rising = selected-rises has variableNames;
         present = λ x. ((λ m. let r = selected-from has variableNames x m in has-present x (r .0) (r .1)), (λ p. let r = present-has x p in selected-member has variableNames x (r .0) (r .1)));
       })
 
   -- their least nodes, in rising order of variable number
-  pub present-least : presentBelow least (nodeCount words) variableNames ≡ leastNodes (nodesFrom words args)
+  pub present-least : presentBelow least (nodeCount nodes) variableNames ≡ leastNodes (nodesFrom nodes arguments)
   unfolding presentBelow has leastNodes
   present-least =
-      selected-map has (word least) variableNames ∙ map-same (word least) (nodeOf (nodesFrom words args)) (selected has variableNames) (λ x m. l .right x (selected-from has variableNames x m .0)) ∙ ap (map (nodeOf (nodesFrom words args))) present-names
+      selected-map has (word least) variableNames ∙ map-same (word least) (nodeOf (nodesFrom nodes arguments)) (selected has variableNames) (λ x m. l .right x (selected-from has variableNames x m .0)) ∙ ap (map (nodeOf (nodesFrom nodes arguments))) present-names
 
 -- there is one for each variable present
-pub least-long : (words args : List ℕ) → length (leastNodes (nodesFrom words args)) ≡ length (variablesOf (nodesFrom words args))
+pub least-long : (nodes arguments : List ℕ) → length (leastNodes (nodesFrom nodes arguments)) ≡ length (variablesOf (nodesFrom nodes arguments))
 unfolding leastNodes
-least-long words args = length-map (variablesOf (nodesFrom words args)) (nodeOf (nodesFrom words args))
+least-long nodes arguments = length-map (variablesOf (nodesFrom nodes arguments)) (nodeOf (nodesFrom nodes arguments))

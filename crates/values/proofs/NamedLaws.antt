@@ -16,78 +16,78 @@ use Rattle.unification.proofs.SectionLaws.{run, is-node, application-from, from
 use Rattle.nodes.specs.Code.Named.{valueName, Alike, Applied, Named, Readable}
 
 -- a node has a head, and the head a place among the names
-pub name-inside : (words args cs names : List ℕ) → Readable words args cs names → (i : ℕ) → i < nodeCount words → (i < length cs) × (classOf cs i < length names)
-name-inside words args cs names s i h =
+pub name-inside : (nodes arguments cs names : List ℕ) → Readable nodes arguments cs names → (i : ℕ) → i < nodeCount nodes → (i < length cs) × (classOf cs i < length names)
+name-inside nodes arguments cs names s i h =
     let e = s .partition .size in
     let n = s .long in
     let b = s .partition .below i h in
     (omega (arith, e), omega (arith, b, n))
 
-module _ (words args cs names : List ℕ) (s : Sections words args) (p : Partition (nodeCount words) cs) (m : Named words args cs names) where
-  inside : (i : ℕ) → i < length (nodesFrom words args) → classOf cs i < nodeCount words
-  inside i h = p .below i (counted words args i h)
+module _ (nodes arguments cs names : List ℕ) (s : Sections nodes arguments) (p : Partition (nodeCount nodes) cs) (m : Named nodes arguments cs names) where
+  inside : (i : ℕ) → i < length (nodesFrom nodes arguments) → classOf cs i < nodeCount nodes
+  inside i h = p .below i (counted nodes arguments i h)
 
   -- the name of a variable that is a head is the head
-  pub variable-name : (i x : ℕ) → i < length (nodesFrom words args) → nodeAt (nodesFrom words args) (classOf cs i) ≡ variable x → (kindOf words (classOf cs i) ≡ 0) × (valueName cs names i ≡ classOf cs i)
+  pub variable-name : (i x : ℕ) → i < length (nodesFrom nodes arguments) → nodeAt (nodesFrom nodes arguments) (classOf cs i) ≡ variable x → (kindOf nodes (classOf cs i) ≡ 0) × (valueName cs names i ≡ classOf cs i)
   variable-name i x h d =
-      let k = from-variable words args (classOf cs i) (inside i h) x d .0 in
-      (k, m .variable i (counted words args i h) k)
+      let k = from-variable nodes arguments (classOf cs i) (inside i h) x d .0 in
+      (k, m .variable i (counted nodes arguments i h) k)
 
   -- what is said of the names of arguments is said of them place by place
-  alike : (g h f f′ : ℕ) (us vs : List ℕ) → g < nodeCount words → h < nodeCount words → nodeAt (nodesFrom words args) g ≡ application f us → nodeAt (nodesFrom words args) h ≡ application f′ vs → OneSymbol f us f′ vs → SameNames (valueName cs names) us vs → Alike words args cs names g h
+  alike : (g h f f′ : ℕ) (us vs : List ℕ) → g < nodeCount nodes → h < nodeCount nodes → nodeAt (nodesFrom nodes arguments) g ≡ application f us → nodeAt (nodesFrom nodes arguments) h ≡ application f′ vs → OneSymbol f us f′ vs → SameNames (valueName cs names) us vs → Alike nodes arguments cs names g h
   alike g h f f′ us vs a b d e (y, l) n =
-      let q = from-application words args g a f us d in
-      let r = from-application words args h b f′ vs e in
-      let c : countOf words g ≡ countOf words h = sym (run-long words args s g a) ∙ ap length (sym (q .2)) ∙ l ∙ ap length (r .2) ∙ run-long words args s h b in
+      let q = from-application nodes arguments g a f us d in
+      let r = from-application nodes arguments h b f′ vs e in
+      let c : countOf nodes g ≡ countOf nodes h = sym (run-long nodes arguments s g a) ∙ ap length (sym (q .2)) ∙ l ∙ ap length (r .2) ∙ run-long nodes arguments s h b in
       record {
         name = sym (q .1) ∙ y ∙ r .1;
         count = c;
-        arguments = λ j i. n (argumentOf words args g j) (argumentOf words args h j) (rw (q .2, r .2) (pair-place words args s g h a b (argumentOf words args g j) (argumentOf words args h j) .1 (j, i, rw c at i, refl, refl)));
+        per-argument = λ j i. n (argumentOf nodes arguments g j) (argumentOf nodes arguments h j) (rw (q .2, r .2) (pair-place nodes arguments s g h a b (argumentOf nodes arguments g j) (argumentOf nodes arguments h j) .1 (j, i, rw c at i, refl, refl)));
       }
 
   -- and the other way round
-  same-names : (g h f f′ : ℕ) (us vs : List ℕ) → g < nodeCount words → h < nodeCount words → nodeAt (nodesFrom words args) g ≡ application f us → nodeAt (nodesFrom words args) h ≡ application f′ vs → Alike words args cs names g h → OneSymbol f us f′ vs × SameNames (valueName cs names) us vs
+  same-names : (g h f f′ : ℕ) (us vs : List ℕ) → g < nodeCount nodes → h < nodeCount nodes → nodeAt (nodesFrom nodes arguments) g ≡ application f us → nodeAt (nodesFrom nodes arguments) h ≡ application f′ vs → Alike nodes arguments cs names g h → OneSymbol f us f′ vs × SameNames (valueName cs names) us vs
   same-names g h f f′ us vs a b d e t =
-      let q = from-application words args g a f us d in
-      let r = from-application words args h b f′ vs e in
-      let l : length us ≡ length vs = ap length (q .2) ∙ run-long words args s g a ∙ t .count ∙ sym (run-long words args s h b) ∙ ap length (sym (r .2)) in
-      ((q .1 ∙ t .name ∙ sym (r .1), l), λ x y k. at x y (pair-place words args s g h a b x y .0 (rw (q .2, r .2) at k)))
+      let q = from-application nodes arguments g a f us d in
+      let r = from-application nodes arguments h b f′ vs e in
+      let l : length us ≡ length vs = ap length (q .2) ∙ run-long nodes arguments s g a ∙ t .count ∙ sym (run-long nodes arguments s h b) ∙ ap length (sym (r .2)) in
+      ((q .1 ∙ t .name ∙ sym (r .1), l), λ x y k. at x y (pair-place nodes arguments s g h a b x y .0 (rw (q .2, r .2) at k)))
     where
-      at : (x y : ℕ) → (j : ℕ) × (j < countOf words g) × (j < countOf words h) × (x ≡ argumentOf words args g j) × (y ≡ argumentOf words args h j) → valueName cs names x ≡ valueName cs names y
-      at x y (j, i, i′, u, v) = ap (valueName cs names) u ∙ t .arguments j i ∙ ap (valueName cs names) (sym v)
+      at : (x y : ℕ) → (j : ℕ) × (j < countOf nodes g) × (j < countOf nodes h) × (x ≡ argumentOf nodes arguments g j) × (y ≡ argumentOf nodes arguments h j) → valueName cs names x ≡ valueName cs names y
+      at x y (j, i, i′, u, v) = ap (valueName cs names) u ∙ t .per-argument j i ∙ ap (valueName cs names) (sym v)
 
   -- names of heads stand for values
-  pub named-valued : Valued (nodesFrom words args) (classOf cs) (valueName cs names)
+  pub named-valued : Valued (nodesFrom nodes arguments) (classOf cs) (valueName cs names)
   named-valued =
       record {
         one-head = λ i j h k e. ap (word names) e;
         variables = λ i j x y h k d e n.
             let a : classOf cs i ≡ classOf cs j = sym (variable-name i x h d .1) ∙ n ∙ variable-name j y k e .1 in
-            let z : variable x ≡ variable y = sym d ∙ ap (nodeAt (nodesFrom words args)) a ∙ e in
+            let z : variable x ≡ variable y = sym d ∙ ap (nodeAt (nodesFrom nodes arguments)) a ∙ e in
             cc;
         apart = λ i j x f us h k d e n.
             let a = variable-name i x h d in
-            m .application j (counted words args j k) (from-application words args (classOf cs j) (inside j k) f us e .0) (ap (kindOf words) (sym n ∙ a .1) ∙ a .0);
+            m .application j (counted nodes arguments j k) (from-application nodes arguments (classOf cs j) (inside j k) f us e .0) (ap (kindOf nodes) (sym n ∙ a .1) ∙ a .0);
         composed = λ i j f g us vs h k d e o n.
-            m .composed i j (counted words args i h) (counted words args j k) (applied i f us h d) (applied j g vs k e) (alike (classOf cs i) (classOf cs j) f g us vs (inside i h) (inside j k) d e o n);
+            m .composed i j (counted nodes arguments i h) (counted nodes arguments j k) (applied i f us h d) (applied j g vs k e) (alike (classOf cs i) (classOf cs j) f g us vs (inside i h) (inside j k) d e o n);
         taken-apart = λ i j f g us vs h k d e n.
-            same-names (classOf cs i) (classOf cs j) f g us vs (inside i h) (inside j k) d e (m .taken-apart i j (counted words args i h) (counted words args j k) (applied i f us h d) (applied j g vs k e) n);
+            same-names (classOf cs i) (classOf cs j) f g us vs (inside i h) (inside j k) d e (m .taken-apart i j (counted nodes arguments i h) (counted nodes arguments j k) (applied i f us h d) (applied j g vs k e) n);
       }
     where
-      applied : (i f : ℕ) (us : List ℕ) → i < length (nodesFrom words args) → nodeAt (nodesFrom words args) (classOf cs i) ≡ application f us → kindOf words (classOf cs i) ≡ 0 → ⊥
-      applied i f us h d = from-application words args (classOf cs i) (inside i h) f us d .0
+      applied : (i f : ℕ) (us : List ℕ) → i < length (nodesFrom nodes arguments) → nodeAt (nodesFrom nodes arguments) (classOf cs i) ≡ application f us → kindOf nodes (classOf cs i) ≡ 0 → ⊥
+      applied i f us h d = from-application nodes arguments (classOf cs i) (inside i h) f us d .0
 
 -- an application has a head with its symbol, and arguments with the names of its arguments
-pub head-alike : (words args cs names : List ℕ) → Sections words args → Partition (nodeCount words) cs → (ps : List (ℕ × ℕ)) → IsClosure (nodesFrom words args) ps (classOf cs) → (i : ℕ) → i < nodeCount words → (kindOf words i ≡ 0 → ⊥) → Applied words cs i × Alike words args cs names i (classOf cs i)
-head-alike words args cs names s p ps c i h n =
-    let x = c .applications i (nameOf words i) (run words args i) (is-node words args i h) (application-from words args i h n) in
+pub head-alike : (nodes arguments cs names : List ℕ) → Sections nodes arguments → Partition (nodeCount nodes) cs → (ps : List (ℕ × ℕ)) → IsClosure (nodesFrom nodes arguments) ps (classOf cs) → (i : ℕ) → i < nodeCount nodes → (kindOf nodes i ≡ 0 → ⊥) → Applied nodes cs i × Alike nodes arguments cs names i (classOf cs i)
+head-alike nodes arguments cs names s p ps c i h n =
+    let x = c .applications i (nameOf nodes i) (run nodes arguments i) (is-node nodes arguments i h) (application-from nodes arguments i h n) in
     let b = p .below i h in
-    let q = from-application words args (classOf cs i) b (nameOf words i) (x .arguments) (x .applied) in
-    let l : countOf words i ≡ countOf words (classOf cs i) = sym (run-long words args s i h) ∙ x .as-long ∙ ap length (q .2) ∙ run-long words args s (classOf cs i) b in (
+    let q = from-application nodes arguments (classOf cs i) b (nameOf nodes i) (x .arguments) (x .applied) in
+    let l : countOf nodes i ≡ countOf nodes (classOf cs i) = sym (run-long nodes arguments s i h) ∙ x .as-long ∙ ap length (q .2) ∙ run-long nodes arguments s (classOf cs i) b in (
       q .0,
       record {
         name = q .1;
         count = l;
-        arguments = λ j k. ap (word names) (x .one-head (argumentOf words args i j) (argumentOf words args (classOf cs i) j) (rw (q .2) (pair-place words args s i (classOf cs i) h b (argumentOf words args i j) (argumentOf words args (classOf cs i) j) .1 (j, k, rw l at k, refl, refl))));
+        per-argument = λ j k. ap (word names) (x .one-head (argumentOf nodes arguments i j) (argumentOf nodes arguments (classOf cs i) j) (rw (q .2) (pair-place nodes arguments s i (classOf cs i) h b (argumentOf nodes arguments i j) (argumentOf nodes arguments (classOf cs i) j) .1 (j, k, rw l at k, refl, refl))));
       },
     )

@@ -67,24 +67,24 @@ named-inside n cs names p l =
     }
 
 -- Heads that are not above their nodes: those that have arguments that are looked at, in rising order.
-module _ (words args : List ℕ) (s : Sections words args) (counts : List ℕ) (c : Counts words args counts (nodeCount words)) (cs : List ℕ) (p : Partition (nodeCount words) cs) (low : (i : ℕ) → i < nodeCount words → classOf cs i ≤ i) where
+module _ (nodes arguments : List ℕ) (s : Sections nodes arguments) (counts : List ℕ) (c : Counts nodes arguments counts (nodeCount nodes)) (cs : List ℕ) (p : Partition (nodeCount nodes) cs) (low : (i : ℕ) → i < nodeCount nodes → classOf cs i ≤ i) where
   -- Whether node i is its own head and has such arguments.
   dueHead : ℕ → Bool
   dueHead i = eqb (classOf cs i) i && ltb 0 (word counts i)
 
   -- Those that are.
   rising : List ℕ
-  rising = selected dueHead (nodeCount words)
+  rising = selected dueHead (nodeCount nodes)
 
-  due-at : (q : ℕ) → q < length rising → (word rising q < nodeCount words) × (0 < word counts (word rising q))
+  due-at : (q : ℕ) → q < length rising → (word rising q < nodeCount nodes) × (0 < word counts (word rising q))
   unfolding rising dueHead
   due-at q h =
-      let r = selected-from dueHead (nodeCount words) (word rising q) (placed rising q h) in
+      let r = selected-from dueHead (nodeCount nodes) (word rising q) (placed rising q h) in
       (r .0, ltb-true 0 (word counts (word rising q)) (and-true-right (eqb (classOf cs (word rising q)) (word rising q)) (ltb 0 (word counts (word rising q))) (r .1)))
 
   rises : (q r : ℕ) → q < r → r < length rising → word rising q < word rising r
   unfolding rising
-  rises q r l h = rising-places rising (selected-rises dueHead (nodeCount words)) q r l h
+  rises q r l h = rising-places rising (selected-rises dueHead (nodeCount nodes)) q r l h
 
   -- a place comes first if its node is lower
   lower : (q r : ℕ) → q < length rising → word rising q < word rising r → q < r
@@ -96,13 +96,13 @@ module _ (words args : List ℕ) (s : Sections words args) (counts : List ℕ) (
           let u : r < q → ⊥ = λ z. let y = rises r q z h in omega (arith, l, y) in
           omega (arith, n, u)
 
-  head-at : (i : ℕ) → i < nodeCount words → 0 < word counts (classOf cs i) → (q : ℕ) × (q < length rising) × (classOf cs i ≡ word rising q)
+  head-at : (i : ℕ) → i < nodeCount nodes → 0 < word counts (classOf cs i) → (q : ℕ) × (q < length rising) × (classOf cs i ≡ word rising q)
   unfolding rising dueHead
   head-at i h d =
-      member-place rising (classOf cs i) (selected-member dueHead (nodeCount words) (classOf cs i) (p .below i h) (rw (eq-eqb (classOf cs (classOf cs i)) (classOf cs i) (p .own i h), lt-ltb 0 (word counts (classOf cs i)) d)))
+      member-place rising (classOf cs i) (selected-member dueHead (nodeCount nodes) (classOf cs i) (p .below i h) (rw (eq-eqb (classOf cs (classOf cs i)) (classOf cs i) (p .own i h), lt-ltb 0 (word counts (classOf cs i)) d)))
 
   -- a head is met before every place that it must be before
-  head-met : (i r : ℕ) → i < nodeCount words → ((q : ℕ) → q < length rising → classOf cs i ≡ word rising q → q < r) → Met (word counts) rising r (classOf cs i)
+  head-met : (i r : ℕ) → i < nodeCount nodes → ((q : ℕ) → q < length rising → classOf cs i ≡ word rising q → q < r) → Met (word counts) rising r (classOf cs i)
   head-met i r h b = go (ℕ-discrete (word counts (classOf cs i)) 0)
     where
       go : Dec (word counts (classOf cs i) ≡ 0) → Met (word counts) rising r (classOf cs i)
@@ -112,7 +112,7 @@ module _ (words args : List ℕ) (s : Sections words args) (counts : List ℕ) (
           before (q .0) (b (q .0) (q .1) (q .2)) (sym (q .2))
 
   -- they are in an order in which those of arguments come first
-  rising-ordered : Ordered words args (word counts) cs rising
+  rising-ordered : Ordered nodes arguments (word counts) cs rising
   rising-ordered =
       record {
         listed = record {
@@ -122,17 +122,17 @@ module _ (words args : List ℕ) (s : Sections words args) (counts : List ℕ) (
           first = λ q h j d.
               let g = due-at q h .0 in
               let a = s .smaller (word rising q) j g (looked-at c (word rising q) j g d) in
-              let k : argumentOf words args (word rising q) j < nodeCount words = omega (arith, a, g) in
-              let b = low (argumentOf words args (word rising q) j) k in
-              head-met (argumentOf words args (word rising q) j) q k (λ r l e. lower r q l (omega (arith, a, b, e)));
+              let k : argumentOf nodes arguments (word rising q) j < nodeCount nodes = omega (arith, a, g) in
+              let b = low (argumentOf nodes arguments (word rising q) j) k in
+              head-met (argumentOf nodes arguments (word rising q) j) q k (λ r l e. lower r q l (omega (arith, a, b, e)));
         };
         whole = λ i h. head-met i (length rising) h (λ q l e. l);
       }
 
 -- Classes of no pair, and the names of their values.
-module _ (words args : List ℕ) (s : Sections words args) (cs order : List ℕ) (l : length cs ≡ nodeCount words) (d : length order ≡ nodeCount words) (t : Started words args cs order (nodeCount words)) (names : List ℕ) (m : NamedAlong words args cs order names) where
+module _ (nodes arguments : List ℕ) (s : Sections nodes arguments) (cs order : List ℕ) (l : length cs ≡ nodeCount nodes) (d : length order ≡ nodeCount nodes) (t : Started nodes arguments cs order (nodeCount nodes)) (names : List ℕ) (m : NamedAlong nodes arguments cs order names) where
   abbrev ns : List Node
-  ns = nodesFrom words args
+  ns = nodesFrom nodes arguments
 
   abbrev name : ℕ → ℕ
   name = valueName cs names
@@ -142,27 +142,27 @@ module _ (words args : List ℕ) (s : Sections words args) (cs order : List ℕ)
   heads = map (word names) cs
 
   w : WellFormed ns
-  w = sections-well-formed words args s
+  w = sections-well-formed nodes arguments s
 
-  p : Partition (nodeCount words) cs
-  p = start-partition words args s cs order l t
+  p : Partition (nodeCount nodes) cs
+  p = start-partition nodes arguments s cs order l t
 
   none : Inside ns []
   none a b m = absurd (List·Memᴰ·not-nil m)
 
   enough : (i : ℕ) → i < length ns → classOf cs i < length ns
-  enough i h = is-node words args (classOf cs i) (p .below i (counted words args i h))
+  enough i h = is-node nodes arguments (classOf cs i) (p .below i (counted nodes arguments i h))
 
   -- the values that no pair gives, by names
   by-name : (i j : ℕ) → i < length ns → j < length ns → value ns (solution (length ns) ns (classOf cs)) i ≡ value ns (solution (length ns) ns (classOf cs)) j ↔ (name i ≡ name j)
   by-name =
-      values-named ns w [] none (classOf cs) (λ i. i) (start-solved words args s cs order l t) (length ns) enough name (named-valued words args cs names s p (m .named))
+      values-named ns w [] none (classOf cs) (λ i. i) (start-solved nodes arguments s cs order l t) (length ns) enough name (named-valued nodes arguments cs names s p (m .named))
 
   -- every substitution comes after the one that no pair gives
   after : (i : ℕ) → i < length ns → termOf ns i ≡ sub var (value ns (solution (length ns) ns (classOf cs)) i)
   after i h =
       sym (sub-var (termOf ns i))
-      ∙ value-after ns w (solution (length ns) ns (classOf cs)) var var (solution-first ns w [] none (classOf cs) (λ i. i) (start-solved words args s cs order l t) (length ns) enough var (λ a b m. absurd (List·Memᴰ·not-nil m))) i h
+      ∙ value-after ns w (solution (length ns) ns (classOf cs)) var var (solution-first ns w [] none (classOf cs) (λ i. i) (start-solved nodes arguments s cs order l t) (length ns) enough var (λ a b m. absurd (List·Memᴰ·not-nil m))) i h
 
   -- nodes with one name have one term
   one-term : (i j : ℕ) → i < length ns → j < length ns → name i ≡ name j → termOf ns i ≡ termOf ns j
@@ -173,11 +173,11 @@ module _ (words args : List ℕ) (s : Sections words args) (cs order : List ℕ)
   one-name i j h k e = by-name i j h k .0 (ap (sub (solution (length ns) ns (classOf cs))) e)
 
   -- the head of a node is its name
-  at : (i : ℕ) → i < nodeCount words → word heads i ≡ name i
+  at : (i : ℕ) → i < nodeCount nodes → word heads i ≡ name i
   at i h = map-at (word names) cs i (omega arith)
 
   -- the name at a node is not above it, and stands at itself
-  earlier : (i : ℕ) → i < nodeCount words → (word names i ≤ i) × (word names (word names i) ≡ word names i)
+  earlier : (i : ℕ) → i < nodeCount nodes → (word names i ≤ i) × (word names (word names i) ≡ word names i)
   earlier i h =
       let q = m .along .earlier i (omega arith) in
       let x = t .place i h in
@@ -186,66 +186,66 @@ module _ (words args : List ℕ) (s : Sections words args) (cs order : List ℕ)
       (rw e (q .1), rw e (ap (word names) (sym y) ∙ q .3 ∙ y))
 
   -- a name is its own head where no pair is given
-  name-head : (i : ℕ) → i < nodeCount words → Dec (kindOf words (classOf cs i) ≡ 0) → classOf cs (name i) ≡ name i
+  name-head : (i : ℕ) → i < nodeCount nodes → Dec (kindOf nodes (classOf cs i) ≡ 0) → classOf cs (name i) ≡ name i
   name-head i h (yes k) = rw (m .named .variable i h k) (p .own i h)
   name-head i h (no n) =
-      itself words args s cs order l t (name i) (m .named .node i h) (m .named .application i h n)
+      itself nodes arguments s cs order l t (name i) (m .named .node i h) (m .named .application i h n)
 
   -- the head of a node is not above it, and has its name
   record HeadOf (k : ℕ) : Type 0 where
-    node : word heads k < nodeCount words
+    node : word heads k < nodeCount nodes
     low : word heads k ≤ k
     named : name (word heads k) ≡ name k
 
-  head-of : (k : ℕ) → k < nodeCount words → HeadOf k
+  head-of : (k : ℕ) → k < nodeCount nodes → HeadOf k
   head-of k h =
       let e = at k h in
-      let b = below words args s cs order l t k h in
+      let b = below nodes arguments s cs order l t k h in
       let q = earlier (classOf cs k) (p .below k h) in
       record {
         node = rw e (m .named .node k h);
         low = rw e (omega (arith, b, q .0));
-        named = rw e (ap (word names) (name-head k h (ℕ-discrete (kindOf words (classOf cs k)) 0)) ∙ q .1);
+        named = rw e (ap (word names) (name-head k h (ℕ-discrete (kindOf nodes (classOf cs k)) 0)) ∙ q .1);
       }
 
   -- nodes with one name have one head
-  one-head : (i j : ℕ) → i < nodeCount words → j < nodeCount words → name i ≡ name j → word heads i ≡ word heads j
+  one-head : (i j : ℕ) → i < nodeCount nodes → j < nodeCount nodes → name i ≡ name j → word heads i ≡ word heads j
   one-head i j h k e = at i h ∙ e ∙ sym (at j k)
 
-  own : (k : ℕ) → k < nodeCount words → word heads (word heads k) ≡ word heads k
+  own : (k : ℕ) → k < nodeCount nodes → word heads (word heads k) ≡ word heads k
   own k h = let q = head-of k h in one-head (word heads k) k (q .node) h (q .named)
 
   -- nodes with one term have one head
   term-head : (i j : ℕ) → i < length ns → j < length ns → termOf ns i ≡ termOf ns j → word heads i ≡ word heads j
-  term-head i j h k e = one-head i j (counted words args i h) (counted words args j k) (one-name i j h k e)
+  term-head i j h k e = one-head i j (counted nodes arguments i h) (counted nodes arguments j k) (one-name i j h k e)
 
   -- a head has the term of its node
   head-term : (i : ℕ) → i < length ns → termOf ns i ≡ termOf ns (word heads i)
   head-term i h =
-      let q = head-of i (counted words args i h) in
-      one-term i (word heads i) h (is-node words args (word heads i) (q .node)) (sym (q .named))
+      let q = head-of i (counted nodes arguments i h) in
+      one-term i (word heads i) h (is-node nodes arguments (word heads i) (q .node)) (sym (q .named))
 
   -- each class has a head
-  shared-partition : Partition (nodeCount words) heads
+  shared-partition : Partition (nodeCount nodes) heads
   shared-partition = record { size = length-map cs (word names) ∙ l; below = λ i h. head-of i h .node; own = own }
 
   -- constants of one name are alike, so they have one
-  shared-constants : OneConstant words heads
+  shared-constants : OneConstant nodes heads
   shared-constants i j a b e =
-      let x : classOf cs i ≡ i = itself words args s cs order l t i (a .node) (a .applied) in
-      let y : classOf cs j ≡ j = itself words args s cs order l t j (b .node) (b .applied) in
+      let x : classOf cs i ≡ i = itself nodes arguments s cs order l t i (a .node) (a .applied) in
+      let y : classOf cs j ≡ j = itself nodes arguments s cs order l t j (b .node) (b .applied) in
       let z = a .bare in
-      let k : Alike words args cs names i j = record { name = e; count = a .bare ∙ sym (b .bare); arguments = λ q h. absurd (omega (arith, h, z)) } in
+      let k : Alike nodes arguments cs names i j = record { name = e; count = a .bare ∙ sym (b .bare); per-argument = λ q h. absurd (omega (arith, h, z)) } in
       one-head i j (a .node) (b .node) (m .named .composed i j (a .node) (b .node) (rw x (a .applied)) (rw y (b .applied)) (rw (x, y) k))
 
   -- Each node and its head.
   pairs : List (ℕ × ℕ)
-  pairs = tabulate (nodeCount words) (λ i. (i, word heads i))
+  pairs = tabulate (nodeCount nodes) (λ i. (i, word heads i))
 
-  pair-from : (a b : ℕ) → List·Memᴰ (a, b) pairs → (a < nodeCount words) × (b ≡ word heads a)
+  pair-from : (a b : ℕ) → List·Memᴰ (a, b) pairs → (a < nodeCount nodes) × (b ≡ word heads a)
   unfolding pairs
   pair-from a b m =
-      let q = tabulate-from (nodeCount words) (λ i. (i, word heads i)) (a, b) m in
+      let q = tabulate-from (nodeCount nodes) (λ i. (i, word heads i)) (a, b) m in
       let e : a ≡ q .0 = ap (λ (z : ℕ × ℕ). z .0) (q .2) in
       let d : b ≡ word heads (q .0) = ap (λ (z : ℕ × ℕ). z .1) (q .2) in
       (rw e (q .1), d ∙ ap (word heads) (sym e))
@@ -253,20 +253,20 @@ module _ (words args : List ℕ) (s : Sections words args) (cs order : List ℕ)
   pairs-inside : Inside ns pairs
   pairs-inside a b m =
       let q = pair-from a b m in
-      (is-node words args a (q .0), rw (q .1) (is-node words args (word heads a) (head-of a (q .0) .node)))
+      (is-node nodes arguments a (q .0), rw (q .1) (is-node nodes arguments (word heads a) (head-of a (q .0) .node)))
 
   -- every substitution unifies them
   pairs-same : (σ : Substitution) → Unifies ns pairs σ
   pairs-same σ a b m =
       let q = pair-from a b m in
-      rw (q .1) (ap (sub σ) (head-term a (is-node words args a (q .0))))
+      rw (q .1) (ap (sub σ) (head-term a (is-node nodes arguments a (q .0))))
 
   -- the head of an application is one with its symbol, and their arguments have one head
   fits : (i f : ℕ) (us : List ℕ) → i < length ns → nodeAt ns i ≡ application f us → HeadFits ns (classOf heads) i f us
   fits i f us h e = go (nodeAt ns (word heads i)) refl
     where
       k : word heads i < length ns
-      k = is-node words args (word heads i) (head-of i (counted words args i h) .node)
+      k = is-node nodes arguments (word heads i) (head-of i (counted nodes arguments i h) .node)
 
       equal : value ns var i ≡ value ns var (word heads i)
       equal = ap (sub var) (head-term i h)
@@ -295,45 +295,45 @@ module _ (words args : List ℕ) (s : Sections words args) (cs order : List ℕ)
   unfolding pairs
   shared-closure =
       record {
-        joined = λ i h. given (tabulate-member (nodeCount words) (λ j. (j, word heads j)) i (counted words args i h));
+        joined = λ i h. given (tabulate-member (nodeCount nodes) (λ j. (j, word heads j)) i (counted nodes arguments i h));
         given = λ a b m. let q = pair-from a b m in sym (own a (q .0)) ∙ ap (word heads) (sym (q .1));
         one-variable = λ i j x h k d e. term-head i j h k (sym (sub-var (termOf ns i)) ∙ value-variable ns w var i x h d ∙ sym (value-variable ns w var j x k e) ∙ sub-var (termOf ns j));
         applications = fits;
       }
 
 -- nodes of one term are put together
-pub shared-together : (words args cs order names heads : List ℕ) → Sections words args → length cs ≡ nodeCount words → length order ≡ nodeCount words → Started words args cs order (nodeCount words) → NamedAlong words args cs order names → heads ≡ map (word names) cs → Together words args heads
-shared-together words args cs order names heads s l d t m e =
+pub shared-together : (nodes arguments cs order names heads : List ℕ) → Sections nodes arguments → length cs ≡ nodeCount nodes → length order ≡ nodeCount nodes → Started nodes arguments cs order (nodeCount nodes) → NamedAlong nodes arguments cs order names → heads ≡ map (word names) cs → Together nodes arguments heads
+shared-together nodes arguments cs order names heads s l d t m e =
     rw e
     (record {
       formed = λ counts c. record {
         partition = parts;
-        constants = shared-constants words args s cs order l d t names m;
-        closed = heads-closed words args s counts c (map (word names) cs) parts low (λ i h. ap (sub var) (head-term words args s cs order l d t names m i (is-node words args i h))) one-head;
-        order = rising words args s counts c (map (word names) cs) parts low;
-        ordered = rising-ordered words args s counts c (map (word names) cs) parts low;
+        constants = shared-constants nodes arguments s cs order l d t names m;
+        closed = heads-closed nodes arguments s counts c (map (word names) cs) parts low (λ i h. ap (sub var) (head-term nodes arguments s cs order l d t names m i (is-node nodes arguments i h))) one-head;
+        order = rising nodes arguments s counts c (map (word names) cs) parts low;
+        ordered = rising-ordered nodes arguments s counts c (map (word names) cs) parts low;
       };
-      pairs = pairs words args s cs order l d t names m;
+      pairs = pairs nodes arguments s cs order l d t names m;
       stands = record {
-        inside = pairs-inside words args s cs order l d t names m;
-        closure = shared-closure words args s cs order l d t names m;
+        inside = pairs-inside nodes arguments s cs order l d t names m;
+        closure = shared-closure nodes arguments s cs order l d t names m;
       };
-      same = pairs-same words args s cs order l d t names m;
-      first = record { first = low; own = own words args s cs order l d t names m };
+      same = pairs-same nodes arguments s cs order l d t names m;
+      first = record { first = low; own = own nodes arguments s cs order l d t names m };
     })
   where
-    low : (i : ℕ) → i < nodeCount words → classOf (map (word names) cs) i ≤ i
-    low i h = head-of words args s cs order l d t names m i h .low
+    low : (i : ℕ) → i < nodeCount nodes → classOf (map (word names) cs) i ≤ i
+    low i h = head-of nodes arguments s cs order l d t names m i h .low
 
-    parts : Partition (nodeCount words) (map (word names) cs)
-    parts = shared-partition words args s cs order l d t names m
+    parts : Partition (nodeCount nodes) (map (word names) cs)
+    parts = shared-partition nodes arguments s cs order l d t names m
 
-    one-head : (i j : ℕ) → i < nodeCount words → j < nodeCount words → value (nodesFrom words args) var i ≡ value (nodesFrom words args) var j → classOf (map (word names) cs) i ≡ classOf (map (word names) cs) j
+    one-head : (i j : ℕ) → i < nodeCount nodes → j < nodeCount nodes → value (nodesFrom nodes arguments) var i ≡ value (nodesFrom nodes arguments) var j → classOf (map (word names) cs) i ≡ classOf (map (word names) cs) j
     one-head i j h k q =
-        term-head words args s cs order l d t names m i j (is-node words args i h) (is-node words args j k) (sym (sub-var (termOf (nodesFrom words args) i)) ∙ q ∙ sub-var (termOf (nodesFrom words args) j))
+        term-head nodes arguments s cs order l d t names m i j (is-node nodes arguments i h) (is-node nodes arguments j k) (sym (sub-var (termOf (nodesFrom nodes arguments) i)) ∙ q ∙ sub-var (termOf (nodesFrom nodes arguments) j))
 
 -- what unifying begins with, by its parts
-pub begun-shared : {words args cs : List ℕ} {v : Variables} → Lists words args v → Together words args cs → BeginsShared words args v cs
+pub begun-shared : {nodes arguments cs : List ℕ} {v : Variables} → Lists nodes arguments v → Together nodes arguments cs → BeginsShared nodes arguments v cs
 begun-shared l t =
     record {
       lists = l;

@@ -31,145 +31,145 @@ use Rattle.values.specs.Code.Begins.{Lists}
 use Rattle.values.proofs.LeastLaws.{present-least, least-long}
 
 -- the head of a variable
-start-variable : (words args : List ℕ) (i : ℕ) → kindOf words i ≡ 0 → startHead words args i ≡ nodeOf (nodesFrom words args) (nameOf words i)
+start-variable : (nodes arguments : List ℕ) (i : ℕ) → kindOf nodes i ≡ 0 → startHead nodes arguments i ≡ nodeOf (nodesFrom nodes arguments) (nameOf nodes i)
 unfolding startHead
-start-variable words args i k = rw (eq-eqb (kindOf words i) 0 k)
+start-variable nodes arguments i k = rw (eq-eqb (kindOf nodes i) 0 k)
 
 -- the head of an application
-pub start-other : (words args : List ℕ) (i : ℕ) → (kindOf words i ≡ 0 → ⊥) → startHead words args i ≡ i
+pub start-other : (nodes arguments : List ℕ) (i : ℕ) → (kindOf nodes i ≡ 0 → ⊥) → startHead nodes arguments i ≡ i
 unfolding startHead
-start-other words args i k = rw (ne-eqb (kindOf words i) 0 k)
+start-other nodes arguments i k = rw (ne-eqb (kindOf nodes i) 0 k)
 
 -- nothing is done yet
-pub started-none : (words args cs order : List ℕ) → Started words args cs order 0
-started-none words args cs order = record { head = λ k h. absurd (omega arith); place = λ k h. absurd (omega arith) }
+pub started-none : (nodes arguments cs order : List ℕ) → Started nodes arguments cs order 0
+started-none nodes arguments cs order = record { head = λ k h. absurd (omega arith); place = λ k h. absurd (omega arith) }
 
 -- one node more
-pub started-next : (words args cs order : List ℕ) (i h : ℕ) → i < length cs → i < length order → h ≡ startHead words args i → Started words args cs order i → Started words args (set cs i h) (set order i i) (i + 1)
-started-next words args cs order i h a b e s =
+pub started-next : (nodes arguments cs order : List ℕ) (i h : ℕ) → i < length cs → i < length order → h ≡ startHead nodes arguments i → Started nodes arguments cs order i → Started nodes arguments (set cs i h) (set order i i) (i + 1)
+started-next nodes arguments cs order i h a b e s =
     record {
-      head = below-more (λ k. word (set cs i h) k ≡ startHead words args k) i (λ k l. getD-set-other cs i k h 0 (λ z. omega (arith, l, z)) ∙ s .head k l) (getD-set-same cs i h 0 a ∙ e);
+      head = below-more (λ k. word (set cs i h) k ≡ startHead nodes arguments k) i (λ k l. getD-set-other cs i k h 0 (λ z. omega (arith, l, z)) ∙ s .head k l) (getD-set-same cs i h 0 a ∙ e);
       place = below-more (λ k. word (set order i i) k ≡ k) i (λ k l. getD-set-other order i k i 0 (λ z. omega (arith, l, z)) ∙ s .place k l) (getD-set-same order i i 0 b);
     }
 
-module _ (words args : List ℕ) (s : Sections words args) where
-  least : (i : ℕ) → i < nodeCount words → kindOf words i ≡ 0 → Least (λ j. (j < length (nodesFrom words args)) × (nodeAt (nodesFrom words args) j ≡ variable (nameOf words i))) (nodeOf (nodesFrom words args) (nameOf words i))
+module _ (nodes arguments : List ℕ) (s : Sections nodes arguments) where
+  least : (i : ℕ) → i < nodeCount nodes → kindOf nodes i ≡ 0 → Least (λ j. (j < length (nodesFrom nodes arguments)) × (nodeAt (nodesFrom nodes arguments) j ≡ variable (nameOf nodes i))) (nodeOf (nodesFrom nodes arguments) (nameOf nodes i))
   least i h k =
-      node-of (nodesFrom words args) (nameOf words i) (i, rw (nodes-long words args) h, variable-from words args i h k)
+      node-of (nodesFrom nodes arguments) (nameOf nodes i) (i, rw (nodes-long nodes arguments) h, variable-from nodes arguments i h k)
 
   -- a head is not above its node
-  start-below : (i : ℕ) → i < nodeCount words → startHead words args i ≤ i
-  start-below i h = go (ℕ-discrete (kindOf words i) 0)
+  start-below : (i : ℕ) → i < nodeCount nodes → startHead nodes arguments i ≤ i
+  start-below i h = go (ℕ-discrete (kindOf nodes i) 0)
     where
-      go : Dec (kindOf words i ≡ 0) → startHead words args i ≤ i
+      go : Dec (kindOf nodes i ≡ 0) → startHead nodes arguments i ≤ i
       go (yes k) =
-          rw (start-variable words args i k)
-          (least i h k .least i (rw (nodes-long words args) h, variable-from words args i h k))
-      go (no k) = rw (start-other words args i k) (omega arith)
+          rw (start-variable nodes arguments i k)
+          (least i h k .least i (rw (nodes-long nodes arguments) h, variable-from nodes arguments i h k))
+      go (no k) = rw (start-other nodes arguments i k) (omega arith)
 
   -- the head of a variable is read from the list by variable number
-  pub start-read : (least : List ℕ) → LeastByName words args least → (i x : ℕ) → i < nodeCount words → eqb (kindOf words i) 0 ≡ true → x ≡ nameOf words i → (x < length least) × (word least x ≡ startHead words args i) × (word least x ≤ i)
+  pub start-read : (least : List ℕ) → LeastByName nodes arguments least → (i x : ℕ) → i < nodeCount nodes → eqb (kindOf nodes i) 0 ≡ true → x ≡ nameOf nodes i → (x < length least) × (word least x ≡ startHead nodes arguments i) × (word least x ≤ i)
   start-read least l i x h e q =
       let k = eqb-true _ _ e in
       let b = s .variable-name i h k in
       let m = l .long in
       let y : x < variableNames = omega (arith, b) in
-      let r : word least x ≡ startHead words args i = l .right x y ∙ ap (nodeOf (nodesFrom words args)) q ∙ sym (start-variable words args i k) in
+      let r : word least x ≡ startHead nodes arguments i = l .right x y ∙ ap (nodeOf (nodesFrom nodes arguments)) q ∙ sym (start-variable nodes arguments i k) in
       (omega arith, r, rw r (start-below i h))
 
-  module _ (cs order : List ℕ) (m : length cs ≡ nodeCount words) (t : Started words args cs order (nodeCount words)) where
+  module _ (cs order : List ℕ) (m : length cs ≡ nodeCount nodes) (t : Started nodes arguments cs order (nodeCount nodes)) where
     -- a head is not above its node
-    pub below : (i : ℕ) → i < nodeCount words → classOf cs i ≤ i
+    pub below : (i : ℕ) → i < nodeCount nodes → classOf cs i ≤ i
     below i h = rw (t .head i h) (start-below i h)
 
     -- the head of a variable is a node of it
-    of-variable : (i x : ℕ) → i < nodeCount words → nodeAt (nodesFrom words args) i ≡ variable x → classOf cs i ≡ nodeOf (nodesFrom words args) x
+    of-variable : (i x : ℕ) → i < nodeCount nodes → nodeAt (nodesFrom nodes arguments) i ≡ variable x → classOf cs i ≡ nodeOf (nodesFrom nodes arguments) x
     of-variable i x h e =
-        let v = section-variable words args s i h x .0 e in
-        t .head i h ∙ start-variable words args i (v .0) ∙ ap (nodeOf (nodesFrom words args)) (sym (v .1))
+        let v = section-variable nodes arguments s i h x .0 e in
+        t .head i h ∙ start-variable nodes arguments i (v .0) ∙ ap (nodeOf (nodesFrom nodes arguments)) (sym (v .1))
 
-    at-head : (i : ℕ) → i < nodeCount words → kindOf words i ≡ 0 → nodeAt (nodesFrom words args) (classOf cs i) ≡ variable (nameOf words i)
+    at-head : (i : ℕ) → i < nodeCount nodes → kindOf nodes i ≡ 0 → nodeAt (nodesFrom nodes arguments) (classOf cs i) ≡ variable (nameOf nodes i)
     at-head i h k =
-        rw (of-variable i (nameOf words i) h (variable-from words args i h k)) (least i h k .holds .1)
+        rw (of-variable i (nameOf nodes i) h (variable-from nodes arguments i h k)) (least i h k .holds .1)
 
     -- an application is its own head
-    pub itself : (i : ℕ) → i < nodeCount words → (kindOf words i ≡ 0 → ⊥) → classOf cs i ≡ i
-    itself i h k = t .head i h ∙ start-other words args i k
+    pub itself : (i : ℕ) → i < nodeCount nodes → (kindOf nodes i ≡ 0 → ⊥) → classOf cs i ≡ i
+    itself i h k = t .head i h ∙ start-other nodes arguments i k
 
     -- each class has a head
-    pub start-partition : Partition (nodeCount words) cs
+    pub start-partition : Partition (nodeCount nodes) cs
     start-partition =
         record {
           size = m;
           below = λ i h. let b = below i h in omega (arith, b);
-          own = λ i h. own i h (ℕ-discrete (kindOf words i) 0);
+          own = λ i h. own i h (ℕ-discrete (kindOf nodes i) 0);
         }
       where
-        own : (i : ℕ) → i < nodeCount words → Dec (kindOf words i ≡ 0) → classOf cs (classOf cs i) ≡ classOf cs i
+        own : (i : ℕ) → i < nodeCount nodes → Dec (kindOf nodes i ≡ 0) → classOf cs (classOf cs i) ≡ classOf cs i
         own i h (yes k) =
             let b = below i h in
-            of-variable (classOf cs i) (nameOf words i) (omega (arith, b)) (at-head i h k) ∙ sym (of-variable i (nameOf words i) h (variable-from words args i h k))
+            of-variable (classOf cs i) (nameOf nodes i) (omega (arith, b)) (at-head i h k) ∙ sym (of-variable i (nameOf nodes i) h (variable-from nodes arguments i h k))
         own i h (no k) = ap (classOf cs) (itself i h k)
 
     -- they are the classes of no pair
-    start-closure : IsClosure (nodesFrom words args) [] (classOf cs)
+    start-closure : IsClosure (nodesFrom nodes arguments) [] (classOf cs)
     start-closure =
         record {
-          joined = λ i h. joined i (rw (nodes-long words args) at h) (ℕ-discrete (kindOf words i) 0);
+          joined = λ i h. joined i (rw (nodes-long nodes arguments) at h) (ℕ-discrete (kindOf nodes i) 0);
           given = λ a b n. absurd (List·Memᴰ·not-nil n);
-          one-variable = λ i j x p q d e. of-variable i x (rw (nodes-long words args) at p) d ∙ sym (of-variable j x (rw (nodes-long words args) at q) e);
+          one-variable = λ i j x p q d e. of-variable i x (rw (nodes-long nodes arguments) at p) d ∙ sym (of-variable j x (rw (nodes-long nodes arguments) at q) e);
           applications = λ i f us p e.
-              let h : i < nodeCount words = rw (nodes-long words args) at p in
+              let h : i < nodeCount nodes = rw (nodes-long nodes arguments) at p in
               record {
                 arguments = us;
-                applied = rw (itself i h (from-application words args i h f us e .0)) e;
+                applied = rw (itself i h (from-application nodes arguments i h f us e .0)) e;
                 as-long = refl;
                 one-head = λ a b n. let r = zip-at us us a b .0 n in ap (classOf cs) (r .3 ∙ sym (r .4));
               };
         }
       where
-        joined : (i : ℕ) → i < nodeCount words → Dec (kindOf words i ≡ 0) → Joined (nodesFrom words args) [] i (classOf cs i)
+        joined : (i : ℕ) → i < nodeCount nodes → Dec (kindOf nodes i ≡ 0) → Joined (nodesFrom nodes arguments) [] i (classOf cs i)
         joined i h (yes k) =
             let b = below i h in
-            let c : classOf cs i < nodeCount words = omega (arith, b) in
-            one-variable {i = i} {j = classOf cs i} (rw (nodes-long words args) h) (rw (nodes-long words args) c) (variable-from words args i h k) (at-head i h k)
-        joined i h (no k) = rw (itself i h k) (same {i = i} (rw (nodes-long words args) h))
+            let c : classOf cs i < nodeCount nodes = omega (arith, b) in
+            one-variable {i = i} {j = classOf cs i} (rw (nodes-long nodes arguments) h) (rw (nodes-long nodes arguments) c) (variable-from nodes arguments i h k) (at-head i h k)
+        joined i h (no k) = rw (itself i h k) (same {i = i} (rw (nodes-long nodes arguments) h))
 
     -- they are a solved form: an argument's head is below its node
-    pub start-solved : Solved (nodesFrom words args) [] (classOf cs) (λ i. i)
+    pub start-solved : Solved (nodesFrom nodes arguments) [] (classOf cs) (λ i. i)
     start-solved =
         record {
           closure = start-closure;
           falls = λ i f us p e a n.
-              let b = below i (rw (nodes-long words args) at p) in
-              let q = sections-well-formed words args s .smaller (classOf cs i) f us (omega (arith, b, p)) e a n in
-              let h : a < nodeCount words = rw (nodes-long words args) at (let z : a < length (nodesFrom words args) = omega (arith, b, p, q) in z) in
+              let b = below i (rw (nodes-long nodes arguments) at p) in
+              let q = sections-well-formed nodes arguments s .smaller (classOf cs i) f us (omega (arith, b, p)) e a n in
+              let h : a < nodeCount nodes = rw (nodes-long nodes arguments) at (let z : a < length (nodesFrom nodes arguments) = omega (arith, b, p, q) in z) in
               let d = below a h in
               omega (arith, d, q);
         }
 
-    module _ (l : length order ≡ nodeCount words) where
+    module _ (l : length order ≡ nodeCount nodes) where
       -- nodes can be named in their own order
-      pub start-nameable : Nameable words args cs order
+      pub start-nameable : Nameable nodes arguments cs order
       start-nameable =
           record {
-            node = λ p h. let g : p < nodeCount words = omega arith in rw (t .place p g) g;
+            node = λ p h. let g : p < nodeCount nodes = omega arith in rw (t .place p g) g;
             once = λ p q h k e.
                 let x = t .place p (omega arith) in
                 let y = t .place q (omega arith) in
                 omega (arith, x, y);
             first = λ p q j h k c e.
-                let g : q < nodeCount words = omega arith in
+                let g : q < nodeCount nodes = omega arith in
                 let d = t .place q g in
                 let a = s .smaller q j g (rw d at c) in
-                let b = below (argumentOf words args q j) (omega (arith, a)) in
-                let x : classOf cs (argumentOf words args q j) ≡ word order p = rw d at e in
+                let b = below (argumentOf nodes arguments q j) (omega (arith, a)) in
+                let x : classOf cs (argumentOf nodes arguments q j) ≡ word order p = rw d at e in
                 let y = t .place p (omega arith) in
                 omega (arith, a, b, x, y);
           }
 
       -- and every head stands in it
-      pub start-whole : (names : List ℕ) → Whole words cs order names
+      pub start-whole : (names : List ℕ) → Whole nodes cs order names
       start-whole names =
           all
           (λ i h.
@@ -177,13 +177,13 @@ module _ (words args : List ℕ) (s : Sections words args) where
           (classOf cs i, omega (arith, b), t .place (classOf cs i) (omega (arith, b))))
 
 -- the variables present, by their least nodes
-pub present-lists : {v : Variables} (words args least : List ℕ) (n : ℕ) → Sections words args → LeastByName words args least → n ≡ nodeCount words → ListsPresent least n (v .count) (v .nodes) → Lists words args v
-present-lists words args least n s l e p =
+pub present-lists : {v : Variables} (nodes arguments least : List ℕ) (n : ℕ) → Sections nodes arguments → LeastByName nodes arguments least → n ≡ nodeCount nodes → ListsPresent least n (v .count) (v .nodes) → Lists nodes arguments v
+present-lists nodes arguments least n s l e p =
     record {
       within = p .within;
-      counted = p .counted ∙ ap length present ∙ least-long words args;
-      nodes = p .listed ∙ present;
+      counted = p .counted ∙ ap length present ∙ least-long nodes arguments;
+      least = p .listed ∙ present;
     }
   where
-    present : presentBelow least n variableNames ≡ leastNodes (nodesFrom words args)
-    present = rw e (present-least words args s least l)
+    present : presentBelow least n variableNames ≡ leastNodes (nodesFrom nodes arguments)
+    present = rw e (present-least nodes arguments s least l)

@@ -16,12 +16,12 @@ use Rattle.nodes.specs.Code.Formed.{Stands}
 use Rattle.branches.specs.declared.Labels.{Labels}
 
 -- What is known of the sections of an accepted table and of its numbers of labels.
-pub record Listable (words args left right : List ℕ) (labels : Labels) : Type 0 where
-  pub sections : Sections words args
+pub record Listable (nodes arguments left right : List ℕ) (labels : Labels) : Type 0 where
+  pub sections : Sections nodes arguments
   pub left-few : length left ≤ maxTerms
   pub right-few : length right ≤ maxTerms
-  pub left-nodes : (j : ℕ) → j < length left → word left j < nodeCount words
-  pub right-nodes : (j : ℕ) → j < length right → word right j < nodeCount words
+  pub left-nodes : (j : ℕ) → j < length left → word left j < nodeCount nodes
+  pub right-nodes : (j : ℕ) → j < length right → word right j < nodeCount nodes
   pub left-labels : labels .left ≤ maxLabels
   pub right-labels : labels .right ≤ maxLabels
 
@@ -36,10 +36,10 @@ abbrev pub pairsIn : List ℕ → List ℕ → List ℕ → ℕ → List (ℕ ×
 pairsIn left right entry i = pairedBy left right (take i entry) []
 
 -- Classes cs stand for pairs with the same unifiers as those of the first i digits of an entry.
-pub record Standing (words args left right cs entry : List ℕ) (i : ℕ) : Type 0 where
+pub record Standing (nodes arguments left right cs entry : List ℕ) (i : ℕ) : Type 0 where
   pub pairs : List (ℕ × ℕ)
-  pub stands : Stands words args cs pairs
-  pub unifiers : (σ : Substitution) → Unifies (nodesFrom words args) pairs σ ↔ Unifies (nodesFrom words args) (pairsIn left right entry i) σ
+  pub stands : Stands nodes arguments cs pairs
+  pub unifiers : (σ : Substitution) → Unifies (nodesFrom nodes arguments) pairs σ ↔ Unifies (nodesFrom nodes arguments) (pairsIn left right entry i) σ
 
 -- The marks of the right terms in an entry: 0 where paired.
 abbrev pub marksIn : List ℕ → List ℕ → List ℕ → List ℕ
@@ -47,7 +47,7 @@ marksIn left right entry = take (length right) (drop (length left) entry)
 
 -- How many words an entry has.
 abbrev pub widthOf : List ℕ → List ℕ → List ℕ → List ℕ → ℕ
-widthOf words args left right = length left + length right + length (variablesOf (nodesFrom words args))
+widthOf nodes arguments left right = length left + length right + length (variablesOf (nodesFrom nodes arguments))
 
 -- The mark of the right term that digit d counts to: 0 where it is paired, or where the two have no common value.
 pub record FreeMark (left known entry : List ℕ) (i d mark : ℕ) : Type 0 where

@@ -22,17 +22,17 @@ abbrev pub listIn : List ℕ → ℕ → List ℕ
 listIn known v = take v (drop 320 known)
 
 -- The counts of arguments and the marks of pairs are right.
-pub record PairsKnown (words args left right known : List ℕ) : Type 0 where
+pub record PairsKnown (nodes arguments left right known : List ℕ) : Type 0 where
   pub size : length known ≡ knownBytes
-  pub counts : Counts words args known (nodeCount words)
-  pub partners : MayPair words args left right (mayIn known)
+  pub counts : Counts nodes arguments known (nodeCount nodes)
+  pub partners : MayPair nodes arguments left right (mayIn known)
 
 -- The counts of arguments and the least nodes of the variables are right.
-pub record KnownOf (words args known : List ℕ) : Type 0 where
+pub record KnownOf (nodes arguments known : List ℕ) : Type 0 where
   pub size : length known ≡ knownBytes
-  pub counts : Counts words args known (nodeCount words)
-  pub lists : listIn known (length (leastNodes (nodesFrom words args))) ≡ leastNodes (nodesFrom words args)
+  pub counts : Counts nodes arguments known (nodeCount nodes)
+  pub lists : listIn known (length (leastNodes (nodesFrom nodes arguments))) ≡ leastNodes (nodesFrom nodes arguments)
 
 -- The counts of arguments stay.
 abbrev pub KeepsCounts : List ℕ → List ℕ → List ℕ → Type 0
-KeepsCounts words known known′ = (i : ℕ) → i < nodeCount words → word known′ i ≡ word known i
+KeepsCounts nodes known known′ = (i : ℕ) → i < nodeCount nodes → word known′ i ≡ word known i

@@ -30,31 +30,31 @@ abbrev pub Keyed : List ℕ → List ℕ → List ℕ → ℕ → ℕ → Type 0
 Keyed left right entry i key = key ≡ keyOfDigits (length right) (take i entry)
 
 -- The first i left digits of an entry count from 1, and the terms that they can pair are nodes.
-pub record Pairable (words left right entry : List ℕ) (i : ℕ) : Type 0 where
+pub record Pairable (nodes left right entry : List ℕ) (i : ℕ) : Type 0 where
   pub depth : i ≤ length left
   pub positive : (j : ℕ) → j < i → 0 < word entry j
-  pub left-nodes : (j : ℕ) → j < length left → word left j < nodeCount words
-  pub right-nodes : (j : ℕ) → j < length right → word right j < nodeCount words
+  pub left-nodes : (j : ℕ) → j < length left → word left j < nodeCount nodes
+  pub right-nodes : (j : ℕ) → j < length right → word right j < nodeCount nodes
 
 -- In the lent words before `at`, an entry lies at a place that has the binding words of pairs with this key, which have a unifier.
-pub record Lies (words args left right : List ℕ) (key place : ℕ) (lent : List ℕ) (at : ℕ) : Type 0 where
+pub record Lies (nodes arguments left right : List ℕ) (key place : ℕ) (lent : List ℕ) (at : ℕ) : Type 0 where
   pub digits : List ℕ
   pub long : length digits ≡ length left
   pub positive : (j : ℕ) → j < length digits → 0 < word digits j
   pub keyed : key ≡ suc (keyOfDigits (length right) digits)
-  pub room : place + widthOf words args left right ≤ at
-  pub unifiable : outcome (nodesFrom words args) (pairedBy left right digits []) ≡ unified
-  pub bound : take (length (variablesOf (nodesFrom words args))) (drop (place + (length left + length right)) lent) ≡ wordsOf (nodesFrom words args) (pairedBy left right digits [])
+  pub room : place + widthOf nodes arguments left right ≤ at
+  pub unifiable : outcome (nodesFrom nodes arguments) (pairedBy left right digits []) ≡ unified
+  pub bound : take (length (variablesOf (nodesFrom nodes arguments))) (drop (place + (length left + length right)) lent) ≡ wordsOf (nodesFrom nodes arguments) (pairedBy left right digits [])
 
 -- What is remembered: in each slot nothing, or one more than a key, and a place.
-pub record Remembers (words args left right memory lent : List ℕ) (at : ℕ) : Type 0 where
+pub record Remembers (nodes arguments left right memory lent : List ℕ) (at : ℕ) : Type 0 where
   pub size : length memory ≡ slots + slots
   pub room : at ≤ length lent
-  pub lies : (s : ℕ) → s < slots → (word memory s ≡ 0 → ⊥) → Lies words args left right (word memory s) (word memory (slots + s)) lent at
+  pub lies : (s : ℕ) → s < slots → (word memory s ≡ 0 → ⊥) → Lies nodes arguments left right (word memory s) (word memory (slots + s)) lent at
 
 -- The binding words of the pairs of the first i left digits stand behind the digits of an entry.
-pub record Bound (words args left right entry : List ℕ) (i : ℕ) (entry′ : List ℕ) : Type 0 where
-  pub words-put : entry′ ≡ take (length left + length right) entry ++ wordsOf (nodesFrom words args) (pairsIn left right entry i)
+pub record Bound (nodes arguments left right entry : List ℕ) (i : ℕ) (entry′ : List ℕ) : Type 0 where
+  pub words-put : entry′ ≡ take (length left + length right) entry ++ wordsOf (nodesFrom nodes arguments) (pairsIn left right entry i)
 
 -- A place is noted for a key, if words were used from it on.
 pub record Notes (memory : List ℕ) (key at used : ℕ) (memory′ : List ℕ) : Type 0 where

@@ -15,24 +15,24 @@ use Rattle.nodes.specs.Code.Formed.{Formed}
 use Rattle.classes.specs.Code.Stands.{StandsAlways, Never}
 
 -- What trying a pair by itself needs to know: of the sections, of open and closed applications, and of the classes.
-pub record Triable (words args counts cs next : List ℕ) : Type 0 where
-  pub sections : Sections words args
-  pub counts-right : Counts words args counts (nodeCount words)
-  pub formed : Formed words args counts cs
-  pub trailed : Trailed (nodeCount words) cs next
-  pub stands : StandsAlways words args cs
+pub record Triable (nodes arguments counts cs next : List ℕ) : Type 0 where
+  pub sections : Sections nodes arguments
+  pub counts-right : Counts nodes arguments counts (nodeCount nodes)
+  pub formed : Formed nodes arguments counts cs
+  pub trailed : Trailed (nodeCount nodes) cs next
+  pub stands : StandsAlways nodes arguments cs
 
 -- The same of the classes, whatever the counts are, as long as these are right.
-pub record Trying (words args cs next : List ℕ) : Type 0 where
-  pub sections : Sections words args
-  pub formed : (counts : List ℕ) → Counts words args counts (nodeCount words) → Formed words args counts cs
-  pub trailed : Trailed (nodeCount words) cs next
-  pub stands : StandsAlways words args cs
+pub record Trying (nodes arguments cs next : List ℕ) : Type 0 where
+  pub sections : Sections nodes arguments
+  pub formed : (counts : List ℕ) → Counts nodes arguments counts (nodeCount nodes) → Formed nodes arguments counts cs
+  pub trailed : Trailed (nodeCount nodes) cs next
+  pub stands : StandsAlways nodes arguments cs
 
 -- A pair of terms with mark 0 has no common value.
-pub record MayPair (words args left right may : List ℕ) : Type 0 where
+pub record MayPair (nodes arguments left right may : List ℕ) : Type 0 where
   pub size : length may ≡ maxTerms * maxTerms
-  pub never : (i j : ℕ) → i < length left → j < length right → word may (maxTerms * i + j) ≡ 0 → Never (nodesFrom words args) (word left i) (word right j)
+  pub never : (i j : ℕ) → i < length left → j < length right → word may (maxTerms * i + j) ≡ 0 → Never (nodesFrom nodes arguments) (word left i) (word right j)
 
 -- Left term q may be paired with right term j, and the mark of this is not 0.
 unfoldable pub partnerAt : List ℕ → ℕ → List ℕ → ℕ → Bool

@@ -59,8 +59,8 @@ unfoldable pub hopeless : ℕ → ℕ → ℕ → ℕ → Bool
 hopeless k l left unpaired = eqb k 0 && ltb left unpaired || eqb l 0 && ltb unpaired left
 
 -- The digits of the first i left terms in an entry, and the key and the weight that go with them.
-pub record Branching (words args left right entry : List ℕ) (key weight unpaired i : ℕ) : Type 0 where
-  pub size : length entry ≡ widthOf words args left right
+pub record Branching (nodes arguments left right entry : List ℕ) (key weight unpaired i : ℕ) : Type 0 where
+  pub size : length entry ≡ widthOf nodes arguments left right
   pub depth : i ≤ length left
   pub positive : (j : ℕ) → j < i → 0 < word entry j
   pub counted : unpaired ≡ unpairedIn (marksIn left right entry)
@@ -68,36 +68,36 @@ pub record Branching (words args left right entry : List ℕ) (key weight unpair
   pub weighed : weight ≡ 16 ^ i
 
 -- What the walk needs to know at depth i: of the sections and the labels, of what is known and prepared, of the classes and the branch, of what is remembered, and of the lent words.
-pub record Walking (words args left right : List ℕ) (labels : Labels) (known prepared cs next : List ℕ) (key weight unpaired i : ℕ) (entry memory lent : List ℕ) (at : ℕ) : Type 0 where
-  pub listable : Listable words args left right labels
-  pub known-right : KnownOf words args known
-  pub partners : MayPair words args left right (mayIn known)
-  pub formed : Formed words args known cs
-  pub trailed : Trailed (nodeCount words) cs next
-  pub ready : Prepared words args known cs prepared
-  pub standing : Standing words args left right cs entry i
-  pub branching : Branching words args left right entry key weight unpaired i
-  pub remembers : Remembers words args left right memory lent at
+pub record Walking (nodes arguments left right : List ℕ) (labels : Labels) (known prepared cs next : List ℕ) (key weight unpaired i : ℕ) (entry memory lent : List ℕ) (at : ℕ) : Type 0 where
+  pub listable : Listable nodes arguments left right labels
+  pub known-right : KnownOf nodes arguments known
+  pub partners : MayPair nodes arguments left right (mayIn known)
+  pub formed : Formed nodes arguments known cs
+  pub trailed : Trailed (nodeCount nodes) cs next
+  pub ready : Prepared nodes arguments known cs prepared
+  pub standing : Standing nodes arguments left right cs entry i
+  pub branching : Branching nodes arguments left right entry key weight unpaired i
+  pub remembers : Remembers nodes arguments left right memory lent at
   pub room : at ≤ length lent
 
 -- What writing the entries of a branch needs to know: its pairs have a unifier, and their binding words stand behind the digits.
-pub record Ending (words args left right : List ℕ) (labels : Labels) (key weight unpaired i : ℕ) (entry memory lent : List ℕ) (at : ℕ) : Type 0 where
-  pub listable : Listable words args left right labels
-  pub branching : Branching words args left right entry key weight unpaired i
-  pub unifiable : outcome (nodesFrom words args) (pairsIn left right entry i) ≡ unified
-  pub bound : drop (length left + length right) entry ≡ wordsOf (nodesFrom words args) (pairsIn left right entry i)
-  pub remembers : Remembers words args left right memory lent at
+pub record Ending (nodes arguments left right : List ℕ) (labels : Labels) (key weight unpaired i : ℕ) (entry memory lent : List ℕ) (at : ℕ) : Type 0 where
+  pub listable : Listable nodes arguments left right labels
+  pub branching : Branching nodes arguments left right entry key weight unpaired i
+  pub unifiable : outcome (nodesFrom nodes arguments) (pairsIn left right entry i) ≡ unified
+  pub bound : drop (length left + length right) entry ≡ wordsOf (nodesFrom nodes arguments) (pairsIn left right entry i)
+  pub remembers : Remembers nodes arguments left right memory lent at
   pub room : at ≤ length lent
 
 -- The entries below the branch that stands in an entry at depth i.
 abbrev pub branchEntries : List ℕ → List ℕ → List ℕ → List ℕ → Labels → List ℕ → ℕ → List (List ℕ)
-branchEntries words args left right labels entry i =
-    below (nodesFrom words args) right (labels .left) (labels .right) (drop i left) (take i entry) (pairsIn left right entry i) (marksIn left right entry)
+branchEntries nodes arguments left right labels entry i =
+    below (nodesFrom nodes arguments) right (labels .left) (labels .right) (drop i left) (take i entry) (pairsIn left right entry i) (marksIn left right entry)
 
 -- Those whose next left term has digit d.
 abbrev pub digitEntries : List ℕ → List ℕ → List ℕ → List ℕ → Labels → List ℕ → ℕ → ℕ → List (List ℕ)
-digitEntries words args left right labels entry i d =
-    onDigit (nodesFrom words args) right (below (nodesFrom words args) right (labels .left) (labels .right) (drop (i + 1) left)) (take i entry) (pairsIn left right entry i) (marksIn left right entry) (word left i) d
+digitEntries nodes arguments left right labels entry i d =
+    onDigit (nodesFrom nodes arguments) right (below (nodesFrom nodes arguments) right (labels .left) (labels .right) (drop (i + 1) left)) (take i entry) (pairsIn left right entry i) (marksIn left right entry) (word left i) d
 
 -- The digits of the first i left terms and the marks are as before.
 pub record KeepsBranch (left right : List ℕ) (i : ℕ) (entry entry′ : List ℕ) : Type 0 where
@@ -105,53 +105,53 @@ pub record KeepsBranch (left right : List ℕ) (i : ℕ) (entry entry′ : List 
   pub marks : marksIn left right entry′ ≡ marksIn left right entry
 
 -- Entries es are written; the branch at depth i is as before, and what is remembered is right, unless an entry did not fit.
-pub record WritesBelow (es : List (List ℕ)) (words args left right : List ℕ) (i : ℕ) (entry memory lent : List ℕ) (at : ℕ) (entry′ memory′ lent′ : List ℕ) (w : Written) : Type 0 where
+pub record WritesBelow (es : List (List ℕ)) (nodes arguments left right : List ℕ) (i : ℕ) (entry memory lent : List ℕ) (at : ℕ) (entry′ memory′ lent′ : List ℕ) (w : Written) : Type 0 where
   pub writes : Writes es lent at lent′ w
   pub size : length entry′ ≡ length entry
   pub keeps : w .missed ≡ 0 → KeepsBranch left right i entry entry′
-  pub remembers : w .missed ≡ 0 → Remembers words args left right memory′ lent′ (w .used)
+  pub remembers : w .missed ≡ 0 → Remembers nodes arguments left right memory′ lent′ (w .used)
 
 -- The entries below the branch are written.
 abbrev pub Walked : List ℕ → List ℕ → List ℕ → List ℕ → Labels → ℕ → List ℕ → List ℕ → List ℕ → ℕ → List ℕ → List ℕ → List ℕ → Written → Type 0
-Walked words args left right labels i entry memory lent at entry′ memory′ lent′ w =
-    WritesBelow (branchEntries words args left right labels entry i) words args left right i entry memory lent at entry′ memory′ lent′ w
+Walked nodes arguments left right labels i entry memory lent at entry′ memory′ lent′ w =
+    WritesBelow (branchEntries nodes arguments left right labels entry i) nodes arguments left right i entry memory lent at entry′ memory′ lent′ w
 
 -- The same for those of one digit.
 abbrev pub Stepped : List ℕ → List ℕ → List ℕ → List ℕ → Labels → ℕ → ℕ → List ℕ → List ℕ → List ℕ → ℕ → List ℕ → List ℕ → List ℕ → Written → Type 0
-Stepped words args left right labels i d entry memory lent at entry′ memory′ lent′ w =
-    WritesBelow (digitEntries words args left right labels entry i d) words args left right i entry memory lent at entry′ memory′ lent′ w
+Stepped nodes arguments left right labels i d entry memory lent at entry′ memory′ lent′ w =
+    WritesBelow (digitEntries nodes arguments left right labels entry i d) nodes arguments left right i entry memory lent at entry′ memory′ lent′ w
 
 -- What is needed where left term i has its digit in the entry, and is paired by it: the pair of a and b is still to be joined to the classes.
-pub record Joining (words args left right : List ℕ) (labels : Labels) (known prepared cs next : List ℕ) (key weight unpaired i a b : ℕ) (entry memory lent : List ℕ) (at : ℕ) : Type 0 where
-  pub listable : Listable words args left right labels
-  pub known-right : KnownOf words args known
-  pub partners : MayPair words args left right (mayIn known)
-  pub formed : Formed words args known cs
-  pub trailed : Trailed (nodeCount words) cs next
-  pub ready : Prepared words args known cs prepared
-  pub standing : Standing words args left right cs entry i
-  pub branching : Branching words args left right entry key weight unpaired (i + 1)
+pub record Joining (nodes arguments left right : List ℕ) (labels : Labels) (known prepared cs next : List ℕ) (key weight unpaired i a b : ℕ) (entry memory lent : List ℕ) (at : ℕ) : Type 0 where
+  pub listable : Listable nodes arguments left right labels
+  pub known-right : KnownOf nodes arguments known
+  pub partners : MayPair nodes arguments left right (mayIn known)
+  pub formed : Formed nodes arguments known cs
+  pub trailed : Trailed (nodeCount nodes) cs next
+  pub ready : Prepared nodes arguments known cs prepared
+  pub standing : Standing nodes arguments left right cs entry i
+  pub branching : Branching nodes arguments left right entry key weight unpaired (i + 1)
   pub pair : pairsIn left right entry (i + 1) ≡ (a, b) ∷ pairsIn left right entry i
-  pub first : a < nodeCount words
-  pub second : b < nodeCount words
-  pub remembers : Remembers words args left right memory lent at
+  pub first : a < nodeCount nodes
+  pub second : b < nodeCount nodes
+  pub remembers : Remembers nodes arguments left right memory lent at
   pub room : at ≤ length lent
 
 -- The entries below the branch are written, if the pair of a and b can be joined to those before it.
 abbrev pub WalkedJoined : List ℕ → List ℕ → List ℕ → List ℕ → Labels → ℕ → ℕ → ℕ → List ℕ → List ℕ → List ℕ → ℕ → List ℕ → List ℕ → List ℕ → Written → Type 0
-WalkedJoined words args left right labels i a b entry memory lent at entry′ memory′ lent′ w =
-    WritesBelow (ifUnified (outcome (nodesFrom words args) ((a, b) ∷ pairsIn left right entry i)) (branchEntries words args left right labels entry (i + 1))) words args left right (i + 1) entry memory lent at entry′ memory′ lent′ w
+WalkedJoined nodes arguments left right labels i a b entry memory lent at entry′ memory′ lent′ w =
+    WritesBelow (ifUnified (outcome (nodesFrom nodes arguments) ((a, b) ∷ pairsIn left right entry i)) (branchEntries nodes arguments left right labels entry (i + 1))) nodes arguments left right (i + 1) entry memory lent at entry′ memory′ lent′ w
 
 -- What the loop over digits keeps: those from d on are still to be written, and the branch is as it was.
-pub record Turning (words args left right : List ℕ) (labels : Labels) (i : ℕ) (entry₀ lent₀ : List ℕ) (at₀ d : ℕ) (entry memory lent : List ℕ) (at : ℕ) : Type 0 where
+pub record Turning (nodes arguments left right : List ℕ) (labels : Labels) (i : ℕ) (entry₀ lent₀ : List ℕ) (at₀ d : ℕ) (entry memory lent : List ℕ) (at : ℕ) : Type 0 where
   pub first : 0 < d
   pub last : d ≤ suc (length right + labels .right)
   pub size : length entry ≡ length entry₀
   pub keeps : KeepsBranch left right i entry₀ entry
-  pub remembers : Remembers words args left right memory lent at
-  pub remains : Remains (branchEntries words args left right labels entry₀ i) lent₀ at₀ (over d (suc (length right + labels .right) - d) (λ e. digitEntries words args left right labels entry₀ i e)) lent at
+  pub remembers : Remembers nodes arguments left right memory lent at
+  pub remains : Remains (branchEntries nodes arguments left right labels entry₀ i) lent₀ at₀ (over d (suc (length right + labels .right) - d) (λ e. digitEntries nodes arguments left right labels entry₀ i e)) lent at
 
 -- The entries below the branch without digits.
 abbrev pub allEntries : List ℕ → List ℕ → List ℕ → List ℕ → Labels → List (List ℕ)
-allEntries words args left right labels =
-    below (nodesFrom words args) right (labels .left) (labels .right) left [] [] (replicate (length right) 1)
+allEntries nodes arguments left right labels =
+    below (nodesFrom nodes arguments) right (labels .left) (labels .right) left [] [] (replicate (length right) 1)

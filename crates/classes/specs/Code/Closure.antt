@@ -38,27 +38,27 @@ pub record ClosureUpTo (ns : List Node) (ps : List (ℕ × ℕ)) (cs : List ℕ)
 
 -- Arguments j of nodes g and h.
 unfoldable pub argumentPair : List ℕ → List ℕ → ℕ → ℕ → ℕ → ℕ × ℕ
-argumentPair words args g h j = (argumentOf words args g j, argumentOf words args h j)
+argumentPair nodes arguments g h j = (argumentOf nodes arguments g j, argumentOf nodes arguments h j)
 
 -- The pairs of arguments of nodes g and h.
 unfoldable pub argumentPairs : List ℕ → List ℕ → ℕ → ℕ → List (ℕ × ℕ)
-argumentPairs words args g h = tabulate (countOf words g) (argumentPair words args g h)
+argumentPairs nodes arguments g h = tabulate (countOf nodes g) (argumentPair nodes arguments g h)
 
 -- What joining needs to know: of the sections, of open and closed applications, and of the classes.
-pub record Joinable (words args counts cs next : List ℕ) : Type 0 where
-  pub sections : Sections words args
-  pub counts-right : Counts words args counts (nodeCount words)
-  pub partition : Partition (nodeCount words) cs
-  pub closed : ClosedHeads words args counts cs
-  pub trailed : Trailed (nodeCount words) cs next
+pub record Joinable (nodes arguments counts cs next : List ℕ) : Type 0 where
+  pub sections : Sections nodes arguments
+  pub counts-right : Counts nodes arguments counts (nodeCount nodes)
+  pub partition : Partition (nodeCount nodes) cs
+  pub closed : ClosedHeads nodes arguments counts cs
+  pub trailed : Trailed (nodeCount nodes) cs next
 
 -- What joining nodes a and b comes to: the pair is done, and whatever the closure then joins, or there is a clash. Heads that are left were
 -- heads before, and closed applications keep theirs.
-pub record Joins (words args counts cs next : List ℕ) (a b : ℕ) (fine : Bool) (cs′ next′ : List ℕ) : Type 0 where
-  pub partition : Partition (nodeCount words) cs′
-  pub merges : Merges (nodeCount words) cs next cs′ next′
-  pub fewer : roots (nodeCount words) cs′ ≤ roots (nodeCount words) cs
-  pub heads : (i : ℕ) → i < nodeCount words → classOf cs (classOf cs′ i) ≡ classOf cs′ i
-  pub kept : KeepsClosed words counts cs cs′
-  pub done : fine ≡ true → (ps todo : List (ℕ × ℕ)) → ClosureUpTo (nodesFrom words args) ps cs ((a, b) ∷ todo) → ClosureUpTo (nodesFrom words args) ps cs′ todo
-  pub clashes : fine ≡ false → (ps todo : List (ℕ × ℕ)) → ClosureUpTo (nodesFrom words args) ps cs ((a, b) ∷ todo) → Clash (nodesFrom words args) ps
+pub record Joins (nodes arguments counts cs next : List ℕ) (a b : ℕ) (fine : Bool) (cs′ next′ : List ℕ) : Type 0 where
+  pub partition : Partition (nodeCount nodes) cs′
+  pub merges : Merges (nodeCount nodes) cs next cs′ next′
+  pub fewer : roots (nodeCount nodes) cs′ ≤ roots (nodeCount nodes) cs
+  pub heads : (i : ℕ) → i < nodeCount nodes → classOf cs (classOf cs′ i) ≡ classOf cs′ i
+  pub kept : KeepsClosed nodes counts cs cs′
+  pub done : fine ≡ true → (ps todo : List (ℕ × ℕ)) → ClosureUpTo (nodesFrom nodes arguments) ps cs ((a, b) ∷ todo) → ClosureUpTo (nodesFrom nodes arguments) ps cs′ todo
+  pub clashes : fine ≡ false → (ps todo : List (ℕ × ℕ)) → ClosureUpTo (nodesFrom nodes arguments) ps cs ((a, b) ∷ todo) → Clash (nodesFrom nodes arguments) ps

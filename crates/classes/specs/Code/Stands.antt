@@ -24,19 +24,19 @@ extended Occurs = occurs
 
 -- Classes cs are extended by the pair of a and b: the answer is what unifying the longer list comes to. Where that is unified, classes cs′
 -- stand for it, closed applications keep their heads, and the joins can be undone; otherwise the classes are as before.
-pub record Extends (words args counts cs next : List ℕ) (a b : ℕ) (r : Extended) (cs′ next′ : List ℕ) : Type 0 where
-  pub answers : (ps : List (ℕ × ℕ)) → Stands words args cs ps → extended r ≡ outcome (nodesFrom words args) ((a, b) ∷ ps)
-  pub formed : r ≡ Unified → (ps : List (ℕ × ℕ)) → Stands words args cs ps → Formed words args counts cs′
-  pub stands : r ≡ Unified → (ps : List (ℕ × ℕ)) → Stands words args cs ps → Stands words args cs′ ((a, b) ∷ ps)
-  pub merges : Merges (nodeCount words) cs next cs′ next′
+pub record Extends (nodes arguments counts cs next : List ℕ) (a b : ℕ) (r : Extended) (cs′ next′ : List ℕ) : Type 0 where
+  pub answers : (ps : List (ℕ × ℕ)) → Stands nodes arguments cs ps → extended r ≡ outcome (nodesFrom nodes arguments) ((a, b) ∷ ps)
+  pub formed : r ≡ Unified → (ps : List (ℕ × ℕ)) → Stands nodes arguments cs ps → Formed nodes arguments counts cs′
+  pub stands : r ≡ Unified → (ps : List (ℕ × ℕ)) → Stands nodes arguments cs ps → Stands nodes arguments cs′ ((a, b) ∷ ps)
+  pub merges : Merges (nodeCount nodes) cs next cs′ next′
   pub failed : (r ≡ Unified → ⊥) → (cs′ ≡ cs) × (next′ ≡ next)
-  pub kept : r ≡ Unified → KeepsClosed words counts cs cs′
+  pub kept : r ≡ Unified → KeepsClosed nodes counts cs cs′
 
 -- The classes stand for pairs that every substitution unifies.
-pub record StandsAlways (words args cs : List ℕ) : Type 0 where
+pub record StandsAlways (nodes arguments cs : List ℕ) : Type 0 where
   pub pairs : List (ℕ × ℕ)
-  pub stands : Stands words args cs pairs
-  pub same : (σ : Substitution) → Unifies (nodesFrom words args) pairs σ
+  pub stands : Stands nodes arguments cs pairs
+  pub same : (σ : Substitution) → Unifies (nodesFrom nodes arguments) pairs σ
 
 -- No list of pairs with the pair of a and b has a unifier.
 abbrev pub Never : List Node → ℕ → ℕ → Type 0

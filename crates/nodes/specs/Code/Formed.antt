@@ -12,25 +12,25 @@ use Rattle.nodes.specs.Code.Open.{ClosedHeads}
 use Rattle.nodes.specs.Code.Order.{Ordered}
 
 -- Node i is a constant.
-pub record IsConstant (words : List ℕ) (i : ℕ) : Type 0 where
-  pub node : i < nodeCount words
-  pub applied : kindOf words i ≡ 0 → ⊥
-  pub bare : countOf words i ≡ 0
+pub record IsConstant (nodes : List ℕ) (i : ℕ) : Type 0 where
+  pub node : i < nodeCount nodes
+  pub applied : kindOf nodes i ≡ 0 → ⊥
+  pub bare : countOf nodes i ≡ 0
 
 -- Constants of one name have one head.
 abbrev pub OneConstant : List ℕ → List ℕ → Type 0
-OneConstant words cs = (i j : ℕ) → IsConstant words i → IsConstant words j → nameOf words i ≡ nameOf words j → classOf cs i ≡ classOf cs j
+OneConstant nodes cs = (i j : ℕ) → IsConstant nodes i → IsConstant nodes j → nameOf nodes i ≡ nameOf nodes j → classOf cs i ≡ classOf cs j
 
 -- Heads of classes of nodes: constants of one name have one, closed applications keep theirs, and those with arguments that are looked at
 -- can be put in order.
-pub record Formed (words args counts cs : List ℕ) : Type 0 where
-  pub partition : Partition (nodeCount words) cs
-  pub constants : OneConstant words cs
-  pub closed : ClosedHeads words args counts cs
+pub record Formed (nodes arguments counts cs : List ℕ) : Type 0 where
+  pub partition : Partition (nodeCount nodes) cs
+  pub constants : OneConstant nodes cs
+  pub closed : ClosedHeads nodes arguments counts cs
   pub order : List ℕ
-  pub ordered : Ordered words args (word counts) cs order
+  pub ordered : Ordered nodes arguments (word counts) cs order
 
 -- They are the classes of a list of pairs.
-pub record Stands (words args cs : List ℕ) (ps : List (ℕ × ℕ)) : Type 0 where
-  pub inside : Inside (nodesFrom words args) ps
-  pub closure : IsClosure (nodesFrom words args) ps (classOf cs)
+pub record Stands (nodes arguments cs : List ℕ) (ps : List (ℕ × ℕ)) : Type 0 where
+  pub inside : Inside (nodesFrom nodes arguments) ps
+  pub closure : IsClosure (nodesFrom nodes arguments) ps (classOf cs)

@@ -38,9 +38,9 @@ pub record Merged (n : ℕ) (cs next : List ℕ) (g h : ℕ) (cs′ next′ : Li
   pub linked : next′ ≡ notedGone (exchanged next g h) g
 
 -- The same where h is as strong.
-pub record Goes (words counts cs next : List ℕ) (g h : ℕ) (cs′ next′ : List ℕ) : Type 0 where
+pub record Goes (nodes counts cs next : List ℕ) (g h : ℕ) (cs′ next′ : List ℕ) : Type 0 where
   pub merged : Merged (length cs) cs next g h cs′ next′
-  pub weaker : strengthOf words counts g ≤ strengthOf words counts h
+  pub weaker : strengthOf nodes counts g ≤ strengthOf nodes counts h
 
 -- One class has become a part of another.
 abbrev pub OneMerged : ℕ → List ℕ → List ℕ → List ℕ → List ℕ → Type 0

@@ -12,7 +12,7 @@ use Rattle.nodes.specs.Code.Circle.{Follows, Circles}
 
 -- How strong head i is: an application is stronger than a variable, a closed one than an open one.
 unfoldable pub strengthOf : List ℕ → List ℕ → ℕ → ℕ
-strengthOf words counts i = cond (eqb (kindOf words i) 0) 0 (cond (eqb (word counts i) 0) 2 1)
+strengthOf nodes counts i = cond (eqb (kindOf nodes i) 0) 0 (cond (eqb (word counts i) 0) 2 1)
 
 -- Node g of n can be come back to: the next of each node is a node, and g follows on the one after it.
 pub record Circling (n : ℕ) (next : List ℕ) (g : ℕ) : Type 0 where

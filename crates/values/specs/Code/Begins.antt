@@ -24,21 +24,21 @@ use Rattle.values.specs.Code.Present.{variableNames, leastNodes}
 use Rattle.nodes.specs.Code.Formed.{IsConstant, OneConstant, Formed, Stands}
 
 -- The variables present, by their least nodes.
-pub record Lists (words args : List ℕ) (v : Variables) : Type 0 where
+pub record Lists (nodes arguments : List ℕ) (v : Variables) : Type 0 where
   pub within : v .count ≤ variableNames
-  pub counted : v .count ≡ length (variablesOf (nodesFrom words args))
-  pub nodes : take (v .count) (v .nodes) ≡ leastNodes (nodesFrom words args)
+  pub counted : v .count ≡ length (variablesOf (nodesFrom nodes arguments))
+  pub least : take (v .count) (v .nodes) ≡ leastNodes (nodesFrom nodes arguments)
 
 -- The binding words stand in the lent words, before those past them, for whatever pairs the classes stand for.
 abbrev pub Leaves : List ℕ → List ℕ → List ℕ → List ℕ → List ℕ → Type 0
-Leaves words args cs lent lent′ = (ps : List (ℕ × ℕ)) → Stands words args cs ps → lent′ ≡ wordsOf (nodesFrom words args) ps ++ drop (length (variablesOf (nodesFrom words args))) lent
+Leaves nodes arguments cs lent lent′ = (ps : List (ℕ × ℕ)) → Stands nodes arguments cs ps → lent′ ≡ wordsOf (nodesFrom nodes arguments) ps ++ drop (length (variablesOf (nodesFrom nodes arguments))) lent
 
 -- What unifying begins with: the variables present, and classes in which nodes of one term are together. They stand for
 -- pairs of nodes of one term, which every substitution unifies.
-pub record BeginsShared (words args : List ℕ) (v : Variables) (cs : List ℕ) : Type 0 where
-  pub lists : Lists words args v
-  pub formed : (counts : List ℕ) → Counts words args counts (nodeCount words) → Formed words args counts cs
+pub record BeginsShared (nodes arguments : List ℕ) (v : Variables) (cs : List ℕ) : Type 0 where
+  pub lists : Lists nodes arguments v
+  pub formed : (counts : List ℕ) → Counts nodes arguments counts (nodeCount nodes) → Formed nodes arguments counts cs
   pub pairs : List (ℕ × ℕ)
-  pub stands : Stands words args cs pairs
-  pub same : (σ : Substitution) → Unifies (nodesFrom words args) pairs σ
-  pub first : HeadsFirst (nodeCount words) cs
+  pub stands : Stands nodes arguments cs pairs
+  pub same : (σ : Substitution) → Unifies (nodesFrom nodes arguments) pairs σ
+  pub first : HeadsFirst (nodeCount nodes) cs

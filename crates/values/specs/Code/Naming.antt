@@ -12,10 +12,10 @@ use Rattle.nodes.specs.Code.Named.{valueName, Readable, Alike, Applied, Named}
 use Rattle.nodes.specs.Code.Formed.{OneConstant}
 
 -- Nodes in an order, no node twice: while a node is named, no name changes of an argument of it or of a node before it.
-pub record Nameable (words args cs order : List ℕ) : Type 0 where
-  pub node : (p : ℕ) → p < length order → word order p < nodeCount words
+pub record Nameable (nodes arguments cs order : List ℕ) : Type 0 where
+  pub node : (p : ℕ) → p < length order → word order p < nodeCount nodes
   pub once : (p q : ℕ) → p < q → q < length order → word order p ≡ word order q → ⊥
-  pub first : (p q j : ℕ) → q ≤ p → p < length order → j < countOf words (word order q) → classOf cs (argumentOf words args (word order q) j) ≡ word order p → ⊥
+  pub first : (p q j : ℕ) → q ≤ p → p < length order → j < countOf nodes (word order q) → classOf cs (argumentOf nodes arguments (word order q) j) ≡ word order p → ⊥
 
 -- Node g stands at some place of the order.
 abbrev pub IsPlaced : List ℕ → ℕ → Type 0
@@ -23,16 +23,16 @@ IsPlaced order g = (p : ℕ) × (p < length order) × (word order p ≡ g)
 
 -- Nodes with arguments stand in the order, among them every head that has some. The others name themselves, and constants of one
 -- name have one head.
-pub record Compounds (words cs order names : List ℕ) : Type 0 where
-  pub compound : (p : ℕ) → p < length order → 0 < countOf words (word order p)
-  pub placed : (i : ℕ) → i < nodeCount words → 0 < countOf words (classOf cs i) → IsPlaced order (classOf cs i)
-  pub itself : (i : ℕ) → i < nodeCount words → countOf words i ≡ 0 → word names i ≡ i
-  pub constants : OneConstant words cs
+pub record Compounds (nodes cs order names : List ℕ) : Type 0 where
+  pub compound : (p : ℕ) → p < length order → 0 < countOf nodes (word order p)
+  pub placed : (i : ℕ) → i < nodeCount nodes → 0 < countOf nodes (classOf cs i) → IsPlaced order (classOf cs i)
+  pub itself : (i : ℕ) → i < nodeCount nodes → countOf nodes i ≡ 0 → word names i ≡ i
+  pub constants : OneConstant nodes cs
 
 -- Which heads stand in the order: all, or those that have arguments.
-pub data Whole (words cs order names : List ℕ) : Type 0 where
-  all : ((i : ℕ) → i < nodeCount words → IsPlaced order (classOf cs i)) → Whole words cs order names
-  compounds : Compounds words cs order names → Whole words cs order names
+pub data Whole (nodes cs order names : List ℕ) : Type 0 where
+  all : ((i : ℕ) → i < nodeCount nodes → IsPlaced order (classOf cs i)) → Whole nodes cs order names
+  compounds : Compounds nodes cs order names → Whole nodes cs order names
 
 -- How many keys the table has.
 abbrev pub keys : ℕ
@@ -40,22 +40,22 @@ keys = 256
 
 -- The key of node h, made of its symbol and the names of its first j arguments.
 unfoldable pub keyUpTo : List ℕ → List ℕ → List ℕ → List ℕ → ℕ → ℕ → ℕ
-keyUpTo words args cs names h zero = (nameOf words h * 40503 % 65536 / 256 + countOf words h) % keys
-keyUpTo words args cs names h (suc j) =
-    (keyUpTo words args cs names h j * 157 + valueName cs names (argumentOf words args h j) + 1) % keys
+keyUpTo nodes arguments cs names h zero = (nameOf nodes h * 40503 % 65536 / 256 + countOf nodes h) % keys
+keyUpTo nodes arguments cs names h (suc j) =
+    (keyUpTo nodes arguments cs names h j * 157 + valueName cs names (argumentOf nodes arguments h j) + 1) % keys
 
 -- The key of node h.
 unfoldable pub keyOf : List ℕ → List ℕ → List ℕ → List ℕ → ℕ → ℕ
-keyOf words args cs names h = keyUpTo words args cs names h (countOf words h)
+keyOf nodes arguments cs names h = keyUpTo nodes arguments cs names h (countOf nodes h)
 
 -- Whether nodes g and h are alike.
-pub record Compared (words args cs names : List ℕ) (g h : ℕ) (r : Bool) : Type 0 where
-  pub alike : r ≡ true → Alike words args cs names g h
-  pub different : r ≡ false → Alike words args cs names g h → ⊥
+pub record Compared (nodes arguments cs names : List ℕ) (g h : ℕ) (r : Bool) : Type 0 where
+  pub alike : r ≡ true → Alike nodes arguments cs names g h
+  pub different : r ≡ false → Alike nodes arguments cs names g h → ⊥
 
 -- At place q stands an application that is named by itself.
-pub record Representative (words order names : List ℕ) (q : ℕ) : Type 0 where
-  pub application : kindOf words (word order q) ≡ 0 → ⊥
+pub record Representative (nodes order names : List ℕ) (q : ℕ) : Type 0 where
+  pub application : kindOf nodes (word order q) ≡ 0 → ⊥
   pub itself : word names (word order q) ≡ word order q
 
 -- Of the places before p, a bucket holds one more than the last of the representatives with its key, and each of these
@@ -68,49 +68,49 @@ pub record Chained (rep : ℕ → Type 0) (key : ℕ → ℕ) (buckets earlier :
 
 -- The key of the node at place q.
 unfoldable pub keyAt : List ℕ → List ℕ → List ℕ → List ℕ → List ℕ → ℕ → ℕ
-keyAt words args cs order names q = keyOf words args cs names (word order q)
+keyAt nodes arguments cs order names q = keyOf nodes arguments cs names (word order q)
 
 -- The node at place q has the name of a representative that is alike.
-pub record Represented (words args cs order names : List ℕ) (q : ℕ) : Type 0 where
+pub record Represented (nodes arguments cs order names : List ℕ) (q : ℕ) : Type 0 where
   pub place : ℕ
   pub before : place ≤ q
-  pub representative : Representative words order names place
+  pub representative : Representative nodes order names place
   pub named : word names (word order q) ≡ word order place
-  pub alike : Alike words args cs names (word order place) (word order q)
+  pub alike : Alike nodes arguments cs names (word order place) (word order q)
 
 -- The nodes before place p have their names.
-pub record NamedBefore (words args cs order names : List ℕ) (p : ℕ) : Type 0 where
-  pub variable : (q : ℕ) → q < p → kindOf words (word order q) ≡ 0 → word names (word order q) ≡ word order q
-  pub application : (q : ℕ) → q < p → (kindOf words (word order q) ≡ 0 → ⊥) → Represented words args cs order names q
-  pub apart : (q r : ℕ) → q < p → r < p → Representative words order names q → Representative words order names r → Alike words args cs names (word order q) (word order r) → q ≡ r
+pub record NamedBefore (nodes arguments cs order names : List ℕ) (p : ℕ) : Type 0 where
+  pub variable : (q : ℕ) → q < p → kindOf nodes (word order q) ≡ 0 → word names (word order q) ≡ word order q
+  pub application : (q : ℕ) → q < p → (kindOf nodes (word order q) ≡ 0 → ⊥) → Represented nodes arguments cs order names q
+  pub apart : (q r : ℕ) → q < p → r < p → Representative nodes order names q → Representative nodes order names r → Alike nodes arguments cs names (word order q) (word order r) → q ≡ r
 
 -- The nodes before place p have their names, and the representatives among them are in the table.
-pub record Naming (words args cs order names buckets earlier : List ℕ) (p : ℕ) : Type 0 where
-  pub readable : Readable words args cs names
-  pub ordered : Nameable words args cs order
-  pub whole : Whole words cs order names
+pub record Naming (nodes arguments cs order names buckets earlier : List ℕ) (p : ℕ) : Type 0 where
+  pub readable : Readable nodes arguments cs names
+  pub ordered : Nameable nodes arguments cs order
+  pub whole : Whole nodes cs order names
   pub buckets-long : length buckets ≡ keys
   pub earlier-long : length earlier ≡ maxNodes
-  pub named : NamedBefore words args cs order names p
-  pub chained : Chained (Representative words order names) (keyAt words args cs order names) buckets earlier p
+  pub named : NamedBefore nodes arguments cs order names p
+  pub chained : Chained (Representative nodes order names) (keyAt nodes arguments cs order names) buckets earlier p
 
 -- Each node of the order has the name of one that stands not after it and names itself.
 pub record NamedEarlier (order names : List ℕ) : Type 0 where
   pub earlier : (q : ℕ) → q < length order → (r : ℕ) × (r ≤ q) × (word names (word order q) ≡ word order r) × (word names (word order r) ≡ word order r)
 
 -- What naming comes to: a head that does not stand in the order names itself, and the name of an application is alike its head.
-pub record NamedAlong (words args cs order names : List ℕ) : Type 0 where
-  pub named : Named words args cs names
+pub record NamedAlong (nodes arguments cs order names : List ℕ) : Type 0 where
+  pub named : Named nodes arguments cs names
   pub along : NamedEarlier order names
-  pub outside : (i : ℕ) → i < nodeCount words → IsPlaced order (classOf cs i) ⊎ (valueName cs names i ≡ classOf cs i)
-  pub alike : (i : ℕ) → i < nodeCount words → Applied words cs i → Alike words args cs names (valueName cs names i) (classOf cs i)
+  pub outside : (i : ℕ) → i < nodeCount nodes → IsPlaced order (classOf cs i) ⊎ (valueName cs names i ≡ classOf cs i)
+  pub alike : (i : ℕ) → i < nodeCount nodes → Applied nodes cs i → Alike nodes arguments cs names (valueName cs names i) (classOf cs i)
 
 -- What is found for the node at place p: one more than the place of a representative that is alike, or 0 where there is none.
-pub record Found (words args cs order names : List ℕ) (p c : ℕ) : Type 0 where
-  pub found : (b : ℕ) → c ≡ suc b → (b < p) × Representative words order names b × Alike words args cs names (word order b) (word order p)
-  pub nothing : c ≡ 0 → (q : ℕ) → q < p → Representative words order names q → Alike words args cs names (word order q) (word order p) → ⊥
+pub record Found (nodes arguments cs order names : List ℕ) (p c : ℕ) : Type 0 where
+  pub found : (b : ℕ) → c ≡ suc b → (b < p) × Representative nodes order names b × Alike nodes arguments cs names (word order b) (word order p)
+  pub nothing : c ≡ 0 → (q : ℕ) → q < p → Representative nodes order names q → Alike nodes arguments cs names (word order q) (word order p) → ⊥
 
 -- On the way along the representatives with key k: those with the key from cursor c on are not alike the node at place p.
-pub record Searching (words args cs order names : List ℕ) (p k c : ℕ) : Type 0 where
-  pub at : (b : ℕ) → c ≡ suc b → (b < p) × Representative words order names b × (keyAt words args cs order names b ≡ k)
-  pub passed : (q : ℕ) → q < p → c ≤ q → Representative words order names q → keyAt words args cs order names q ≡ k → Alike words args cs names (word order q) (word order p) → ⊥
+pub record Searching (nodes arguments cs order names : List ℕ) (p k c : ℕ) : Type 0 where
+  pub at : (b : ℕ) → c ≡ suc b → (b < p) × Representative nodes order names b × (keyAt nodes arguments cs order names b ≡ k)
+  pub passed : (q : ℕ) → q < p → c ≤ q → Representative nodes order names q → keyAt nodes arguments cs order names q ≡ k → Alike nodes arguments cs names (word order q) (word order p) → ⊥

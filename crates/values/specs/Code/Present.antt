@@ -23,19 +23,19 @@ variableNames = maxVariable + 1
 
 -- A list by variable number, after node i was noted in it.
 unfoldable pub noted : List ℕ → List ℕ → ℕ → List ℕ
-noted words least i = cond (eqb (kindOf words i) 0) (set least (nameOf words i) i) least
+noted nodes least i = cond (eqb (kindOf nodes i) 0) (set least (nameOf nodes i) i) least
 
 -- A number r that is past the variable of node i, if it is one, and not below e.
-pub record Passes (words : List ℕ) (e i r : ℕ) : Type 0 where
+pub record Passes (nodes : List ℕ) (e i r : ℕ) : Type 0 where
   pub more : e ≤ r
   pub within : r ≤ variableNames
-  pub past : kindOf words i ≡ 0 → nameOf words i < r
+  pub past : kindOf nodes i ≡ 0 → nameOf nodes i < r
 
 -- The least node of each variable, by its number; the number of nodes where it has none.
-pub record LeastByName (words args least : List ℕ) : Type 0 where
+pub record LeastByName (nodes arguments least : List ℕ) : Type 0 where
   pub long : length least ≡ variableNames
-  pub within : (x : ℕ) → x < variableNames → word least x ≤ nodeCount words
-  pub right : (x : ℕ) → x < variableNames → word least x ≡ nodeOf (nodesFrom words args) x
+  pub within : (x : ℕ) → x < variableNames → word least x ≤ nodeCount nodes
+  pub right : (x : ℕ) → x < variableNames → word least x ≡ nodeOf (nodesFrom nodes arguments) x
 
 -- No variable from number e on has one of n nodes: n stands at its number.
 pub record NoneFrom (least : List ℕ) (n e : ℕ) : Type 0 where

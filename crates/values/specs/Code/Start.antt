@@ -16,11 +16,11 @@ use Rattle.nodes.specs.Code.Formed.{Formed, Stands}
 
 -- The head of node i: the least node of its variable, or itself.
 unfoldable pub startHead : List ℕ → List ℕ → ℕ → ℕ
-startHead words args i = cond (eqb (kindOf words i) 0) (nodeOf (nodesFrom words args) (nameOf words i)) i
+startHead nodes arguments i = cond (eqb (kindOf nodes i) 0) (nodeOf (nodesFrom nodes arguments) (nameOf nodes i)) i
 
 -- The nodes before i have their heads, and stand in their own order.
-pub record Started (words args cs order : List ℕ) (i : ℕ) : Type 0 where
-  pub head : (k : ℕ) → k < i → word cs k ≡ startHead words args k
+pub record Started (nodes arguments cs order : List ℕ) (i : ℕ) : Type 0 where
+  pub head : (k : ℕ) → k < i → word cs k ≡ startHead nodes arguments k
   pub place : (k : ℕ) → k < i → word order k ≡ k
 
 -- Each head has a place among the names.
@@ -28,9 +28,9 @@ pub record HeadsNamed (cs names : List ℕ) : Type 0 where
   pub inside : (i : ℕ) → i < length cs → word cs i < length names
 
 -- Classes in which nodes of one term are together: as `BeginsShared` of `Stands`, with no variables.
-pub record Together (words args cs : List ℕ) : Type 0 where
-  pub formed : (counts : List ℕ) → Counts words args counts (nodeCount words) → Formed words args counts cs
+pub record Together (nodes arguments cs : List ℕ) : Type 0 where
+  pub formed : (counts : List ℕ) → Counts nodes arguments counts (nodeCount nodes) → Formed nodes arguments counts cs
   pub pairs : List (ℕ × ℕ)
-  pub stands : Stands words args cs pairs
-  pub same : (σ : Substitution) → Unifies (nodesFrom words args) pairs σ
-  pub first : HeadsFirst (nodeCount words) cs
+  pub stands : Stands nodes arguments cs pairs
+  pub same : (σ : Substitution) → Unifies (nodesFrom nodes arguments) pairs σ
+  pub first : HeadsFirst (nodeCount nodes) cs
