@@ -33,22 +33,22 @@ use Rattle.binding.proofs.BindingLaws.{heads-named}
 nodes-few : (nodes arguments : List ℕ) → Sections nodes arguments → nodeCount nodes ≤ maxNodes
 nodes-few nodes arguments s = let z = s .limit in omega (arith, z)
 
-module _ (nodes arguments : List ℕ) (s : Sections nodes arguments) (counts cs : List ℕ) (k : Counts nodes arguments counts (nodeCount nodes)) (f : Formed nodes arguments counts cs) where
+module _ (nodes arguments : List ℕ) (s : Sections nodes arguments) (counts heads : List ℕ) (k : Counts nodes arguments counts (nodeCount nodes)) (f : Formed nodes arguments counts heads) where
   -- The term of a node.
   abbrev termAt : ℕ → Term
   termAt = value (nodesFrom nodes arguments) var
 
   -- closed applications of one class have one term
-  one-term : (a b : ℕ) → Marked nodes counts a → Marked nodes counts b → classOf cs a ≡ classOf cs b → termAt a ≡ termAt b
+  one-term : (a b : ℕ) → Marked nodes counts a → Marked nodes counts b → classOf heads a ≡ classOf heads b → termAt a ≡ termAt b
   one-term a b p q e = sym (f .closed .valued a p) ∙ ap termAt e ∙ f .closed .valued b q
 
   module _ (names : List ℕ) (l : length names ≡ nodeCount nodes) (t : Themselves names) where
     -- a class is named by its head
-    own-name : (i : ℕ) → i < nodeCount nodes → valueName cs names i ≡ classOf cs i
-    own-name i h = let b = f .partition .below i h in t .itself (classOf cs i) (omega (arith, b, l))
+    own-name : (i : ℕ) → i < nodeCount nodes → valueName heads names i ≡ classOf heads i
+    own-name i h = let b = f .partition .below i h in t .itself (classOf heads i) (omega (arith, b, l))
 
     -- closed applications that are alike have one head
-    closed-alike : (g h : ℕ) → Marked nodes counts g → Marked nodes counts h → Alike nodes arguments cs names g h → classOf cs g ≡ classOf cs h
+    closed-alike : (g h : ℕ) → Marked nodes counts g → Marked nodes counts h → Alike nodes arguments heads names g h → classOf heads g ≡ classOf heads h
     closed-alike g h p q a =
         let e : each termAt (run nodes arguments g) ≡ each termAt (run nodes arguments h) = each-equal termAt termAt (run nodes arguments g) (run nodes arguments h) (run-long nodes arguments s g (p .node) ∙ a .count ∙ sym (run-long nodes arguments s h (q .node))) (λ x y m. at x y (pair-place nodes arguments s g h (p .node) (q .node) x y .0 m)) in
         f .closed .shared g h p q (spelt g p ∙ ap (λ (n : ℕ). app n (each termAt (run nodes arguments g))) (a .name) ∙ ap (app (nameOf nodes h)) e ∙ sym (spelt h q))
@@ -64,39 +64,39 @@ module _ (nodes arguments : List ℕ) (s : Sections nodes arguments) (counts cs 
             ap termAt u ∙ one-term (argumentOf nodes arguments g j) (argumentOf nodes arguments h j) b c (sym (own-name (argumentOf nodes arguments g j) (b .node)) ∙ a .per-argument j i ∙ own-name (argumentOf nodes arguments h j) (c .node)) ∙ ap termAt (sym v)
 
     -- Where no argument of a head is looked at.
-    module _ (z : (i : ℕ) → i < nodeCount nodes → word counts (classOf cs i) ≡ 0) where
+    module _ (z : (i : ℕ) → i < nodeCount nodes → word counts (classOf heads i) ≡ 0) where
       -- a head that is an application is closed
-      head-closed : (i : ℕ) → i < nodeCount nodes → Applied nodes cs i → Marked nodes counts (classOf cs i)
+      head-closed : (i : ℕ) → i < nodeCount nodes → Applied nodes heads i → Marked nodes counts (classOf heads i)
       head-closed i h n = record { node = f .partition .below i h; applied = n; none = z i h }
 
       -- classes are named by their heads
-      closed-named : Named nodes arguments cs names
+      closed-named : Named nodes arguments heads names
       closed-named =
           record {
             node = λ i h. rw (own-name i h) (f .partition .below i h);
             variable = λ i h e. own-name i h;
             application = λ i h n. rw (own-name i h) n;
             composed = λ i j h b n m a.
-                ap (word names) (sym (f .partition .own i h) ∙ closed-alike (classOf cs i) (classOf cs j) (head-closed i h n) (head-closed j b m) a ∙ f .partition .own j b);
+                ap (word names) (sym (f .partition .own i h) ∙ closed-alike (classOf heads i) (classOf heads j) (head-closed i h n) (head-closed j b m) a ∙ f .partition .own j b);
             taken-apart = λ i j h b n m e.
-                let d : classOf cs i ≡ classOf cs j = sym (own-name i h) ∙ e ∙ own-name j b in
-                rw d (alike-same (classOf cs j));
+                let d : classOf heads i ≡ classOf heads j = sym (own-name i h) ∙ e ∙ own-name j b in
+                rw d (alike-same (classOf heads j));
           }
 
       -- so closed applications by nodes not after them
-      closed-least : NamesLeast nodes arguments counts cs names
+      closed-least : NamesLeast nodes arguments counts heads names
       closed-least =
           record {
-            alike = λ i h n. rw (own-name i h) (alike-same (classOf cs i));
+            alike = λ i h n. rw (own-name i h) (alike-same (classOf heads i));
             least = λ i m. rw (own-name i (m .node)) (f .closed .least i m);
           }
 
       -- which is what binding words need
-      pub themselves-named : HeadNames nodes arguments cs names × NamesLeast nodes arguments counts cs names
-      themselves-named = (heads-named nodes arguments cs names closed-named s (f .partition) l, closed-least)
+      pub themselves-named : HeadNames nodes arguments heads names × NamesLeast nodes arguments counts heads names
+      themselves-named = (heads-named nodes arguments heads names closed-named s (f .partition) l, closed-least)
 
   -- The closed heads with arguments, and behind them an order of the open ones.
-  module _ (closed placed : List ℕ) (c : ClosedListed nodes counts cs closed) (o : Ordered nodes arguments (word counts) cs placed) where
+  module _ (closed placed : List ℕ) (c : ClosedListed nodes counts heads closed) (o : Ordered nodes arguments (word counts) heads placed) where
     -- Both.
     abbrev order : List ℕ
     order = closed ++ placed
@@ -157,7 +157,7 @@ module _ (nodes arguments : List ℕ) (s : Sections nodes arguments) (counts cs 
         o .listed .once r v (omega (arith, h, u, w)) m (sym e ∙ z ∙ d)
 
     -- the head of an argument of a closed application stands before it, if it stands there
-    closed-first : (q g j : ℕ) → q < length closed → word order q ≡ word closed q → j < countOf nodes (word order q) → classOf cs (argumentOf nodes arguments (word order q) j) ≡ g → Marked nodes counts g × (g < word order q)
+    closed-first : (q g j : ℕ) → q < length closed → word order q ≡ word closed q → j < countOf nodes (word order q) → classOf heads (argumentOf nodes arguments (word order q) j) ≡ g → Marked nodes counts g × (g < word order q)
     closed-first q g j l e h d =
         let m = front-marked q l e in
         let a = k .below (word order q) (m .node) m j h in
@@ -165,7 +165,7 @@ module _ (nodes arguments : List ℕ) (s : Sections nodes arguments) (counts cs 
         let y = s .smaller (word order q) j (m .node) h in
         (rw d at (f .closed .closed (argumentOf nodes arguments (word order q) j) a), omega (arith, x, y, d))
 
-    part-first : (p q j : ℕ) → q ≤ p → Part p → Part q → j < countOf nodes (word order q) → classOf cs (argumentOf nodes arguments (word order q) j) ≡ word order p → ⊥
+    part-first : (p q j : ℕ) → q ≤ p → Part p → Part q → j < countOf nodes (word order q) → classOf heads (argumentOf nodes arguments (word order q) j) ≡ word order p → ⊥
     part-first p q j b (front l e) (front m d) h z = go (ℕ-discrete q p)
       where
         go : Dec (q ≡ p) → ⊥
@@ -192,7 +192,7 @@ module _ (nodes arguments : List ℕ) (s : Sections nodes arguments) (counts cs 
         met (before t y g) = o .listed .once t r (omega (arith, b, u, w, y)) l (g ∙ e)
 
     -- nodes can be named along both
-    prefix-nameable : Nameable nodes arguments cs (closed ++ placed)
+    prefix-nameable : Nameable nodes arguments heads (closed ++ placed)
     prefix-nameable =
         record {
           node = λ p h. part-node p (part p h);
@@ -203,7 +203,7 @@ module _ (nodes arguments : List ℕ) (s : Sections nodes arguments) (counts cs 
     -- they are not too many
     pub prefix-few : length closed + length placed ≤ maxNodes
     prefix-few =
-        let x = order-short nodes arguments cs order prefix-nameable in
+        let x = order-short nodes arguments heads order prefix-nameable in
         let y = nodes-few nodes arguments s in
         let z = length-append closed placed in
         omega (arith, x, y, z)
@@ -219,23 +219,23 @@ module _ (nodes arguments : List ℕ) (s : Sections nodes arguments) (counts cs 
         }
 
     -- a head with arguments stands in one of both
-    head-placed : (i : ℕ) → i < nodeCount nodes → 0 < countOf nodes (classOf cs i) → IsPlaced order (classOf cs i)
-    head-placed i h l = go (ℕ-discrete (word counts (classOf cs i)) 0)
+    head-placed : (i : ℕ) → i < nodeCount nodes → 0 < countOf nodes (classOf heads i) → IsPlaced order (classOf heads i)
+    head-placed i h l = go (ℕ-discrete (word counts (classOf heads i)) 0)
       where
-        b : classOf cs i < nodeCount nodes
+        b : classOf heads i < nodeCount nodes
         b = f .partition .below i h
 
         z : length order ≡ length closed + length placed
         z = length-append closed placed
 
-        met : (word counts (classOf cs i) ≡ 0 → ⊥) → Met (word counts) placed (length placed) (classOf cs i) → IsPlaced order (classOf cs i)
+        met : (word counts (classOf heads i) ≡ 0 → ⊥) → Met (word counts) placed (length placed) (classOf heads i) → IsPlaced order (classOf heads i)
         met n (leaf e) = absurd (n e)
         met n (before q m e) =
             (length closed + q, omega (arith, z, m), getD-append-add closed placed q 0 ∙ e)
 
-        go : Dec (word counts (classOf cs i) ≡ 0) → IsPlaced order (classOf cs i)
+        go : Dec (word counts (classOf heads i) ≡ 0) → IsPlaced order (classOf heads i)
         go (yes e) =
-            let r = c .whole (classOf cs i) (record { node = b; applied = counted-application nodes arguments s (classOf cs i) 0 b l; none = e }) l (f .partition .own i h) in
+            let r = c .whole (classOf heads i) (record { node = b; applied = counted-application nodes arguments s (classOf heads i) 0 b l; none = e }) l (f .partition .own i h) in
             let m = r .1 in
             (r .0, omega (arith, z, m), List·getD-append closed placed 0 (r .0) m ∙ r .2)
         go (no n) = met n (o .whole i h)
@@ -252,7 +252,7 @@ module _ (nodes arguments : List ℕ) (s : Sections nodes arguments) (counts cs 
       same-node q h = List·getD-append closed placed 0 q h
 
       -- no two places of the first are alike
-      closed-apart : (q r : ℕ) → q < length closed → r < length closed → Alike nodes arguments cs names (word order q) (word order r) → q ≡ r
+      closed-apart : (q r : ℕ) → q < length closed → r < length closed → Alike nodes arguments heads names (word order q) (word order r) → q ≡ r
       closed-apart q r h b a =
           let e : word closed q ≡ word closed r = sym (c .own q h) ∙ closed-alike names l t (word closed q) (word closed r) (c .marked q h) (c .marked r b) (rw (same-node q h, same-node r b) at a) ∙ c .own r b in
           go e (ℕ-discrete q r) (decLt q r)
@@ -263,7 +263,7 @@ module _ (nodes arguments : List ℕ) (s : Sections nodes arguments) (counts cs 
           go e (no n) (no d) = let x = c .rising r q (omega (arith, n, d)) h in absurd (omega (arith, x, e))
 
       -- the first are named
-      first-named : NamedBefore nodes arguments cs (closed ++ placed) names (length closed)
+      first-named : NamedBefore nodes arguments heads (closed ++ placed) names (length closed)
       first-named =
           record {
             variable = λ q h e. itself q (longer q h);
@@ -277,7 +277,7 @@ module _ (nodes arguments : List ℕ) (s : Sections nodes arguments) (counts cs 
             apart = λ q r h b x y. closed-apart q r h b;
           }
 
-      first-naming : (buckets earlier : List ℕ) → ClosedTable nodes arguments cs closed buckets earlier → Naming nodes arguments cs (closed ++ placed) names buckets earlier (length closed)
+      first-naming : (buckets earlier : List ℕ) → ClosedTable nodes arguments heads closed buckets earlier → Naming nodes arguments heads (closed ++ placed) names buckets earlier (length closed)
       unfolding keyAt
       first-naming buckets earlier x =
           record {
@@ -292,15 +292,15 @@ module _ (nodes arguments : List ℕ) (s : Sections nodes arguments) (counts cs 
             buckets-long = x .buckets-long;
             earlier-long = x .earlier-long;
             named = first-named;
-            chained = chained-same _ _ _ _ buckets earlier (length closed) (λ q h r. record { application = rw (same-node q h) (r .application); itself = rw (same-node q h) (r .itself) }) (λ q h r. record { application = rw (same-node q h) at (r .application); itself = rw (same-node q h) at (r .itself) }) (λ q h. ap (λ (g : ℕ). keyOf nodes arguments cs names g) (same-node q h)) (x .chained names l t);
+            chained = chained-same _ _ _ _ buckets earlier (length closed) (λ q h r. record { application = rw (same-node q h) (r .application); itself = rw (same-node q h) (r .itself) }) (λ q h r. record { application = rw (same-node q h) at (r .application); itself = rw (same-node q h) at (r .itself) }) (λ q h. ap (λ (g : ℕ). keyOf nodes arguments heads names g) (same-node q h)) (x .chained names l t);
           }
 
     -- what is named along them has the least names of closed applications
-    named-least : (names : List ℕ) → NamedAlong nodes arguments cs (closed ++ placed) names → NamesLeast nodes arguments counts cs names
+    named-least : (names : List ℕ) → NamedAlong nodes arguments heads (closed ++ placed) names → NamesLeast nodes arguments counts heads names
     named-least names m =
         record { alike = m .alike; least = λ i q. go i q (m .outside i (q .node)) }
       where
-        at : (i p : ℕ) → Marked nodes counts i → word order p ≡ classOf cs i → Part p → (r : ℕ) × (r ≤ p) × (word names (word order p) ≡ word order r) × (word names (word order r) ≡ word order r) → valueName cs names i ≤ i
+        at : (i p : ℕ) → Marked nodes counts i → word order p ≡ classOf heads i → Part p → (r : ℕ) × (r ≤ p) × (word names (word order p) ≡ word order r) × (word names (word order r) ≡ word order r) → valueName heads names i ≤ i
         at i p q e (back v b w d) x =
             let y = back-counts p v b d in
             let z = f .closed .closed i q .none in
@@ -308,13 +308,13 @@ module _ (nodes arguments : List ℕ) (s : Sections nodes arguments) (counts cs 
             absurd (omega (arith, y, z, u))
         at i p q e (front b d) (r, h, x, y) = pick (ℕ-discrete r p)
           where
-            n : valueName cs names i ≡ word order r
+            n : valueName heads names i ≡ word order r
             n = ap (word names) (sym e) ∙ x
 
-            z : classOf cs i ≤ i
+            z : classOf heads i ≤ i
             z = f .closed .least i q
 
-            pick : Dec (r ≡ p) → valueName cs names i ≤ i
+            pick : Dec (r ≡ p) → valueName heads names i ≤ i
             pick (yes u) = let w = ap (word order) u in omega (arith, n, w, e, z)
             pick (no u) =
                 let v : r < p = omega (arith, u, h) in
@@ -322,20 +322,20 @@ module _ (nodes arguments : List ℕ) (s : Sections nodes arguments) (counts cs 
                 let g = List·getD-append closed placed 0 r (omega (arith, v, b)) in
                 omega (arith, n, g, w, d, e, z)
 
-        go : (i : ℕ) → Marked nodes counts i → IsPlaced order (classOf cs i) ⊎ (valueName cs names i ≡ classOf cs i) → valueName cs names i ≤ i
+        go : (i : ℕ) → Marked nodes counts i → IsPlaced order (classOf heads i) ⊎ (valueName heads names i ≡ classOf heads i) → valueName heads names i ≤ i
         go i q (inr e) = let x = f .closed .least i q in omega (arith, e, x)
         go i q (inl (p, l, e)) = at i p q e (part p l) (m .along .earlier p l)
 
     -- The same for an order that is both.
     module _ (xs : List ℕ) (e : xs ≡ closed ++ placed) where
       -- naming goes on behind the closed ones
-      pub prefix-naming : (names : List ℕ) → length names ≡ nodeCount nodes → Themselves names → (buckets earlier : List ℕ) → ClosedTable nodes arguments cs closed buckets earlier → Naming nodes arguments cs xs names buckets earlier (length closed) × (length closed ≤ length xs)
+      pub prefix-naming : (names : List ℕ) → length names ≡ nodeCount nodes → Themselves names → (buckets earlier : List ℕ) → ClosedTable nodes arguments heads closed buckets earlier → Naming nodes arguments heads xs names buckets earlier (length closed) × (length closed ≤ length xs)
       prefix-naming names l t buckets earlier x =
           let z = ap length e ∙ length-append closed placed in
           (rw e (first-naming names l t buckets earlier x), omega (arith, z))
 
       -- and closed applications have the least names
-      pub prefix-least : (names : List ℕ) → NamedAlong nodes arguments cs xs names → NamesLeast nodes arguments counts cs names
+      pub prefix-least : (names : List ℕ) → NamedAlong nodes arguments heads xs names → NamesLeast nodes arguments counts heads names
       prefix-least names m = named-least names (rw e at m)
 
 -- where no argument of a node is looked at, none of a head is
@@ -350,13 +350,13 @@ none-open nodes counts opens o z i h = go (ℕ-discrete (word counts i) 0)
         absurd (omega (arith, l, z))
 
 -- nor where none of an order is taken
-pub none-placed : (nodes arguments counts cs order : List ℕ) (r : ℕ) → Ordered nodes arguments (word counts) cs (take r order) → r ≡ 0 → (i : ℕ) → i < nodeCount nodes → word counts (classOf cs i) ≡ 0
-none-placed nodes arguments counts cs order r o z i h = met (o .whole i h)
+pub none-placed : (nodes arguments counts heads order : List ℕ) (r : ℕ) → Ordered nodes arguments (word counts) heads (take r order) → r ≡ 0 → (i : ℕ) → i < nodeCount nodes → word counts (classOf heads i) ≡ 0
+none-placed nodes arguments counts heads order r o z i h = met (o .whole i h)
   where
     none : length (take r order) ≡ 0
     none = ap (λ (k : ℕ). length (take k order)) z
 
-    met : Met (word counts) (take r order) (length (take r order)) (classOf cs i) → word counts (classOf cs i) ≡ 0
+    met : Met (word counts) (take r order) (length (take r order)) (classOf heads i) → word counts (classOf heads i) ≡ 0
     met (leaf e) = e
     met (before q l e) = absurd (omega (arith, l, none))
 
@@ -368,9 +368,9 @@ order-put closed placed xs ys zs start end e d f g =
     ap (take (end - 0)) (g ∙ ap (λ (l : List ℕ). l ++ placed ++ drop (start + length placed) ys) h) ∙ take-at (closed ++ placed) (drop (start + length placed) ys) (end - 0) (sym z)
 
 -- where there are no prepared words there are no open applications
-pub prepared-none : (nodes arguments counts cs table : List ℕ) → Prepared nodes arguments counts cs table → length table ≡ 0 → OpenListed nodes counts table
-prepared-none nodes arguments counts cs table (with-open f) z = let s = f .size in absurd (omega (arith, s, z))
-prepared-none nodes arguments counts cs table (nothing e n) z =
+pub prepared-none : (nodes arguments counts heads table : List ℕ) → Prepared nodes arguments counts heads table → length table ≡ 0 → OpenListed nodes counts table
+prepared-none nodes arguments counts heads table (with-open f) z = let s = f .size in absurd (omega (arith, s, z))
+prepared-none nodes arguments counts heads table (nothing e n) z =
     record {
       node = λ p h. absurd (omega arith);
       applied = λ p h. absurd (omega arith);
@@ -378,12 +378,12 @@ prepared-none nodes arguments counts cs table (nothing e n) z =
     }
 
 -- and otherwise there are open applications
-pub prepared-open : (nodes arguments counts cs table : List ℕ) → Prepared nodes arguments counts cs table → (length table ≡ 0 → ⊥) → PreparedOpen nodes arguments counts cs table
-prepared-open nodes arguments counts cs table (with-open f) n = f
-prepared-open nodes arguments counts cs table (nothing e z) n = absurd (n e)
+pub prepared-open : (nodes arguments counts heads table : List ℕ) → Prepared nodes arguments counts heads table → (length table ≡ 0 → ⊥) → PreparedOpen nodes arguments counts heads table
+prepared-open nodes arguments counts heads table (with-open f) n = f
+prepared-open nodes arguments counts heads table (nothing e z) n = absurd (n e)
 
 -- Their parts, as the code takes them.
-module _ (nodes arguments counts cs table : List ℕ) (f : PreparedOpen nodes arguments counts cs table) where
+module _ (nodes arguments counts heads table : List ℕ) (f : PreparedOpen nodes arguments counts heads table) where
   -- the open applications
   pub prepared-opens : (r : ℕ) → r ≡ word table 1024 → OpenListed nodes counts (take (512 + r - 512) (drop 512 table))
   unfolding openIn
@@ -392,7 +392,7 @@ module _ (nodes arguments counts cs table : List ℕ) (f : PreparedOpen nodes ar
       rw d (f .open-listed)
 
   -- the closed ones, and the table of them
-  pub prepared-closed : (r : ℕ) → r ≡ word table 1025 → ClosedListed nodes counts cs (take (768 + r - 768) (drop 768 table)) × ClosedTable nodes arguments cs (take (768 + r - 768) (drop 768 table)) (take 256 table) (take 256 (drop 256 table))
+  pub prepared-closed : (r : ℕ) → r ≡ word table 1025 → ClosedListed nodes counts heads (take (768 + r - 768) (drop 768 table)) × ClosedTable nodes arguments heads (take (768 + r - 768) (drop 768 table)) (take 256 table) (take 256 (drop 256 table))
   unfolding closedIn bucketsIn earlierIn
   prepared-closed r e =
       let d : 768 + r - 768 ≡ word table 1025 = omega (arith, e) in

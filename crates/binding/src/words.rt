@@ -31,16 +31,16 @@ use values::prepared::OPEN_COUNT;
 fn note_application(
     nodes: &[u32],
     arguments: &[u32],
-    of: &[u8],
+    heads: &[u8],
     names: &[u8],
     by: &mut [u8],
     i: usize,
 )
-    requires { ⌜ HeadNames (now nodes) (now arguments) (now of) (now names) ⌝ }
+    requires { ⌜ HeadNames (now nodes) (now arguments) (now heads) (now names) ⌝ }
     requires { ⌜ (i < nodeCount (now nodes)) × (length (now by) ≡ nodeCount (now nodes)) ⌝ }
-    ensures { λ r. ⌜ now (by .exit) ≡ applicationNoted (now (of .entry)) (now (names .entry)) (now (by .entry)) i ⌝ }
+    ensures { λ r. ⌜ now (by .exit) ≡ applicationNoted (now (heads .entry)) (now (names .entry)) (now (by .entry)) i ⌝ }
 {
-    let name = lists::value_name(of, names, Node(i as u32));
+    let name = lists::value_name(heads, names, Node(i as u32));
     let least = lists::node_in(by, name.0 as usize);
     if i < least.0 as usize {
         by[name.0 as usize] = i as u8;
@@ -52,19 +52,19 @@ fn note_applications(
     nodes: &[u32],
     arguments: &[u32],
     opens: &[u16],
-    of: &[u8],
+    heads: &[u8],
     names: &[u8],
     by: &mut [u8],
 )
-    requires { ⌜ HeadNames (now nodes) (now arguments) (now of) (now names) ⌝ }
+    requires { ⌜ HeadNames (now nodes) (now arguments) (now heads) (now names) ⌝ }
     requires { ⌜ AreApplied (now nodes) (now opens) ⌝ }
     requires { ⌜ (length (now by) ≡ nodeCount (now nodes)) × Themselves (now by) ⌝ }
-    ensures { λ r. ⌜ OpenNoted (now (nodes .entry)) (now (of .entry)) (now (names .entry)) (now (opens .entry)) (now (by .exit)) (length (now (opens .entry))) ⌝ }
+    ensures { λ r. ⌜ OpenNoted (now (nodes .entry)) (now (heads .entry)) (now (names .entry)) (now (opens .entry)) (now (by .exit)) (length (now (opens .entry))) ⌝ }
 {
     let mut p: usize = 0;
     while p < opens.len() {
         let i = lists::entry(opens, p);
-        note_application(nodes, arguments, of, names, by, i);
+        note_application(nodes, arguments, heads, names, by, i);
         p += 1;
     }
 }
@@ -73,20 +73,20 @@ fn note_applications(
 fn note_free_variable(
     nodes: &[u32],
     arguments: &[u32],
-    of: &[u8],
+    heads: &[u8],
     names: &[u8],
     by: &mut [u8],
     list: &[u8],
     k: usize,
 )
-    requires { ⌜ HeadNames (now nodes) (now arguments) (now of) (now names) ⌝ }
+    requires { ⌜ HeadNames (now nodes) (now arguments) (now heads) (now names) ⌝ }
     requires { ⌜ (k < length (now list)) × AreNodes (now nodes) (now list) × (length (now by) ≡ nodeCount (now nodes)) ⌝ }
-    ensures { λ r. ⌜ now (by .exit) ≡ freeNoted (now (nodes .entry)) (now (of .entry)) (now (names .entry)) (now (list .entry)) (now (by .entry)) k ⌝ }
+    ensures { λ r. ⌜ now (by .exit) ≡ freeNoted (now (nodes .entry)) (now (heads .entry)) (now (names .entry)) (now (list .entry)) (now (by .entry)) k ⌝ }
 {
     let v = lists::node_in(list, k);
-    let head = lists::node_in(of, v.0 as usize);
+    let head = lists::node_in(heads, v.0 as usize);
     if sections::is_variable(nodes, head) {
-        let name = lists::value_name(of, names, v);
+        let name = lists::value_name(heads, names, v);
         by[name.0 as usize] = v.0 as u8;
     }
 }
@@ -95,19 +95,19 @@ fn note_free_variable(
 fn note_free_variables(
     nodes: &[u32],
     arguments: &[u32],
-    of: &[u8],
+    heads: &[u8],
     names: &[u8],
     by: &mut [u8],
     list: &[u8],
 )
-    requires { ⌜ HeadNames (now nodes) (now arguments) (now of) (now names) ⌝ }
+    requires { ⌜ HeadNames (now nodes) (now arguments) (now heads) (now names) ⌝ }
     requires { ⌜ AreNodes (now nodes) (now list) × (length (now by) ≡ nodeCount (now nodes)) ⌝ }
-    ensures { λ r. ⌜ FreeFrom (now (nodes .entry)) (now (of .entry)) (now (names .entry)) (now (list .entry)) (now (by .entry)) (now (by .exit)) 0 ⌝ }
+    ensures { λ r. ⌜ FreeFrom (now (nodes .entry)) (now (heads .entry)) (now (names .entry)) (now (list .entry)) (now (by .entry)) (now (by .exit)) 0 ⌝ }
 {
     let mut k = list.len();
     while 0 < k {
         k -= 1;
-        note_free_variable(nodes, arguments, of, names, by, list, k);
+        note_free_variable(nodes, arguments, heads, names, by, list, k);
     }
 }
 
@@ -115,18 +115,18 @@ fn note_free_variables(
 fn word_at(
     nodes: &[u32],
     arguments: &[u32],
-    of: &[u8],
+    heads: &[u8],
     names: &[u8],
     by: &[u8],
     list: &[u8],
     k: usize,
 ) -> u32
-    requires { ⌜ HeadNames (now nodes) (now arguments) (now of) (now names) ⌝ }
+    requires { ⌜ HeadNames (now nodes) (now arguments) (now heads) (now names) ⌝ }
     requires { ⌜ (k < length (now list)) × AreNodes (now nodes) (now list) × (length (now by) ≡ nodeCount (now nodes)) ⌝ }
-    ensures { λ r. ⌜ r ≡ word (now (by .entry)) (valueName (now (of .entry)) (now (names .entry)) (word (now (list .entry)) k)) ⌝ }
+    ensures { λ r. ⌜ r ≡ word (now (by .entry)) (valueName (now (heads .entry)) (now (names .entry)) (word (now (list .entry)) k)) ⌝ }
 {
     let v = lists::node_in(list, k);
-    let name = lists::value_name(of, names, v);
+    let name = lists::value_name(heads, names, v);
     lists::node_in(by, name.0 as usize).0
 }
 
@@ -134,19 +134,19 @@ fn word_at(
 fn write_words(
     nodes: &[u32],
     arguments: &[u32],
-    of: &[u8],
+    heads: &[u8],
     names: &[u8],
     by: &[u8],
     list: &[u8],
     out: &mut [u32],
 )
-    requires { ⌜ HeadNames (now nodes) (now arguments) (now of) (now names) ⌝ }
+    requires { ⌜ HeadNames (now nodes) (now arguments) (now heads) (now names) ⌝ }
     requires { ⌜ AreNodes (now nodes) (now list) × (length (now by) ≡ nodeCount (now nodes)) × (length (now list) ≤ length (now out)) ⌝ }
-    ensures { λ r. ⌜ now (out .exit) ≡ readAt (now (of .entry)) (now (names .entry)) (now (by .entry)) (now (list .entry)) ++ drop (length (now (list .entry))) (now (out .entry)) ⌝ }
+    ensures { λ r. ⌜ now (out .exit) ≡ readAt (now (heads .entry)) (now (names .entry)) (now (by .entry)) (now (list .entry)) ++ drop (length (now (list .entry))) (now (out .entry)) ⌝ }
 {
     let mut k: usize = 0;
     while k < list.len() {
-        out[k] = word_at(nodes, arguments, of, names, by, list, k);
+        out[k] = word_at(nodes, arguments, heads, names, by, list, k);
         k += 1;
     }
 }
@@ -156,21 +156,21 @@ fn find_words(
     nodes: &[u32],
     arguments: &[u32],
     opens: &[u16],
-    of: &[u8],
+    heads: &[u8],
     names: &[u8],
     by: &mut [u8],
     list: &[u8],
     out: &mut [u32],
 )
-    requires { ⌜ HeadNames (now nodes) (now arguments) (now of) (now names) ⌝ }
+    requires { ⌜ HeadNames (now nodes) (now arguments) (now heads) (now names) ⌝ }
     requires { ⌜ AreApplied (now nodes) (now opens) ⌝ }
     requires { ⌜ AreNodes (now nodes) (now list) × (length (now by) ≡ nodeCount (now nodes)) × (length (now list) ≤ length (now out)) ⌝ }
-    ensures { λ r. ⌜ WordsFound (now (nodes .entry)) (now (of .entry)) (now (names .entry)) (now (opens .entry)) (now (list .entry)) (now (out .entry)) (now (out .exit)) ⌝ }
+    ensures { λ r. ⌜ WordsFound (now (nodes .entry)) (now (heads .entry)) (now (names .entry)) (now (opens .entry)) (now (list .entry)) (now (out .entry)) (now (out .exit)) ⌝ }
 {
     names::name_themselves(by);
-    note_applications(nodes, arguments, opens, of, names, by);
-    note_free_variables(nodes, arguments, of, names, by, list);
-    write_words(nodes, arguments, of, names, by, list, out);
+    note_applications(nodes, arguments, opens, heads, names, by);
+    note_free_variables(nodes, arguments, heads, names, by, list);
+    write_words(nodes, arguments, heads, names, by, list, out);
 }
 
 // Puts the closed applications of a list in front of an order.
@@ -190,7 +190,7 @@ fn name_open(
     nodes: &[u32],
     arguments: &[u32],
     counts: &[u8],
-    of: &[u8],
+    heads: &[u8],
     closed: &[u16],
     placed: &[u8],
     buckets: &[u16],
@@ -199,12 +199,12 @@ fn name_open(
     names: &mut [u8],
 )
     requires { ⌜ Sections (now nodes) (now arguments) × Counts (now nodes) (now arguments) (now counts) (nodeCount (now nodes)) ⌝ }
-    requires { ⌜ Formed (now nodes) (now arguments) (now counts) (now of) ⌝ }
-    requires { ⌜ Ordered (now nodes) (now arguments) (word (now counts)) (now of) (now placed) ⌝ }
-    requires { ⌜ ClosedListed (now nodes) (now counts) (now of) (now closed) × ClosedTable (now nodes) (now arguments) (now of) (now closed) (now buckets) (now earlier) ⌝ }
+    requires { ⌜ Formed (now nodes) (now arguments) (now counts) (now heads) ⌝ }
+    requires { ⌜ Ordered (now nodes) (now arguments) (word (now counts)) (now heads) (now placed) ⌝ }
+    requires { ⌜ ClosedListed (now nodes) (now counts) (now heads) (now closed) × ClosedTable (now nodes) (now arguments) (now heads) (now closed) (now buckets) (now earlier) ⌝ }
     requires { ⌜ (length (now names) ≡ nodeCount (now nodes)) × Themselves (now names) ⌝ }
     requires { ⌜ length (now order) ≡ maxNodes + maxNodes ⌝ }
-    ensures { λ r. ⌜ Named (now (nodes .entry)) (now (arguments .entry)) (now (of .entry)) (now (names .exit)) × NamesLeast (now (nodes .entry)) (now (arguments .entry)) (now (counts .entry)) (now (of .entry)) (now (names .exit)) ⌝ }
+    ensures { λ r. ⌜ Named (now (nodes .entry)) (now (arguments .entry)) (now (heads .entry)) (now (names .exit)) × NamesLeast (now (nodes .entry)) (now (arguments .entry)) (now (counts .entry)) (now (heads .entry)) (now (names .exit)) ⌝ }
 {
     let start = closed.len();
     let end = start + placed.len();
@@ -213,7 +213,7 @@ fn name_open(
     names::name_after(
         nodes,
         arguments,
-        of,
+        heads,
         &order[0..end],
         start,
         buckets,
@@ -232,18 +232,18 @@ fn bind_open(
     buckets: &[u16],
     earlier: &[u16],
     list: &[u8],
-    of: &[u8],
+    heads: &[u8],
     names: &mut [u8],
     by: &mut [u8],
     out: &mut [u32],
 )
     requires { ⌜ Sections (now nodes) (now arguments) × Counts (now nodes) (now arguments) (now counts) (nodeCount (now nodes)) ⌝ }
-    requires { ⌜ Formed (now nodes) (now arguments) (now counts) (now of) ⌝ }
+    requires { ⌜ Formed (now nodes) (now arguments) (now counts) (now heads) ⌝ }
     requires { ⌜ OpenListed (now nodes) (now counts) (now opens) ⌝ }
-    requires { ⌜ ClosedListed (now nodes) (now counts) (now of) (now closed) × ClosedTable (now nodes) (now arguments) (now of) (now closed) (now buckets) (now earlier) ⌝ }
+    requires { ⌜ ClosedListed (now nodes) (now counts) (now heads) (now closed) × ClosedTable (now nodes) (now arguments) (now heads) (now closed) (now buckets) (now earlier) ⌝ }
     requires { ⌜ (now list ≡ leastNodes (nodesFrom (now nodes) (now arguments))) × (length (now list) ≤ length (now out)) ⌝ }
     requires { ⌜ (length (now names) ≡ nodeCount (now nodes)) × (length (now by) ≡ nodeCount (now nodes)) ⌝ }
-    ensures { λ r. ⌜ Leaves (now (nodes .entry)) (now (arguments .entry)) (now (of .entry)) (now (out .entry)) (now (out .exit)) ⌝ }
+    ensures { λ r. ⌜ Leaves (now (nodes .entry)) (now (arguments .entry)) (now (heads .entry)) (now (out .entry)) (now (out .exit)) ⌝ }
 {
     names::name_themselves(names);
     let n = sections::node_count(nodes, arguments);
@@ -253,13 +253,13 @@ fn bind_open(
         nodes,
         arguments,
         counts,
-        of,
+        heads,
         opens,
         &mut marks[0..n],
         &mut placed[0..n],
     );
     if count == 0 {
-        find_words(nodes, arguments, opens, of, names, by, list, out);
+        find_words(nodes, arguments, opens, heads, names, by, list, out);
         return;
     }
     let mut order = [0u8; MAX_NODES + MAX_NODES];
@@ -267,7 +267,7 @@ fn bind_open(
         nodes,
         arguments,
         counts,
-        of,
+        heads,
         closed,
         &placed[0..count],
         buckets,
@@ -275,7 +275,7 @@ fn bind_open(
         &mut order,
         names,
     );
-    find_words(nodes, arguments, opens, of, names, by, list, out);
+    find_words(nodes, arguments, opens, heads, names, by, list, out);
 }
 
 // The same where there are none.
@@ -285,20 +285,20 @@ fn bind_closed(
     counts: &[u8],
     none: &[u16],
     list: &[u8],
-    of: &[u8],
+    heads: &[u8],
     names: &mut [u8],
     by: &mut [u8],
     out: &mut [u32],
 )
     requires { ⌜ Sections (now nodes) (now arguments) × Counts (now nodes) (now arguments) (now counts) (nodeCount (now nodes)) ⌝ }
-    requires { ⌜ Formed (now nodes) (now arguments) (now counts) (now of) ⌝ }
+    requires { ⌜ Formed (now nodes) (now arguments) (now counts) (now heads) ⌝ }
     requires { ⌜ OpenListed (now nodes) (now counts) (now none) × (length (now none) ≡ 0) ⌝ }
     requires { ⌜ (now list ≡ leastNodes (nodesFrom (now nodes) (now arguments))) × (length (now list) ≤ length (now out)) ⌝ }
     requires { ⌜ (length (now names) ≡ nodeCount (now nodes)) × (length (now by) ≡ nodeCount (now nodes)) ⌝ }
-    ensures { λ r. ⌜ Leaves (now (nodes .entry)) (now (arguments .entry)) (now (of .entry)) (now (out .entry)) (now (out .exit)) ⌝ }
+    ensures { λ r. ⌜ Leaves (now (nodes .entry)) (now (arguments .entry)) (now (heads .entry)) (now (out .entry)) (now (out .exit)) ⌝ }
 {
     names::name_themselves(names);
-    find_words(nodes, arguments, none, of, names, by, list, out);
+    find_words(nodes, arguments, none, heads, names, by, list, out);
 }
 
 // The same, by the words that were prepared for it.
@@ -308,19 +308,19 @@ fn bind_prepared(
     counts: &[u8],
     prepared: &[u16],
     list: &[u8],
-    of: &[u8],
+    heads: &[u8],
     names: &mut [u8],
     by: &mut [u8],
     out: &mut [u32],
 )
     requires { ⌜ Sections (now nodes) (now arguments) × Counts (now nodes) (now arguments) (now counts) (nodeCount (now nodes)) ⌝ }
-    requires { ⌜ Formed (now nodes) (now arguments) (now counts) (now of) × Prepared (now nodes) (now arguments) (now counts) (now of) (now prepared) ⌝ }
+    requires { ⌜ Formed (now nodes) (now arguments) (now counts) (now heads) × Prepared (now nodes) (now arguments) (now counts) (now heads) (now prepared) ⌝ }
     requires { ⌜ (now list ≡ leastNodes (nodesFrom (now nodes) (now arguments))) × (length (now list) ≤ length (now out)) ⌝ }
     requires { ⌜ (length (now names) ≡ nodeCount (now nodes)) × (length (now by) ≡ nodeCount (now nodes)) ⌝ }
-    ensures { λ r. ⌜ Leaves (now (nodes .entry)) (now (arguments .entry)) (now (of .entry)) (now (out .entry)) (now (out .exit)) ⌝ }
+    ensures { λ r. ⌜ Leaves (now (nodes .entry)) (now (arguments .entry)) (now (heads .entry)) (now (out .entry)) (now (out .exit)) ⌝ }
 {
     if prepared.len() == 0 {
-        bind_closed(nodes, arguments, counts, prepared, list, of, names, by, out);
+        bind_closed(nodes, arguments, counts, prepared, list, heads, names, by, out);
         return;
     }
     let open_end = OPEN + lists::entry(prepared, OPEN_COUNT);
@@ -334,7 +334,7 @@ fn bind_prepared(
         &prepared[0..EARLIER],
         &prepared[EARLIER..OPEN],
         list,
-        of,
+        heads,
         names,
         by,
         out,
@@ -349,13 +349,13 @@ pub fn bind(
     counts: &[u8],
     prepared: &[u16],
     list: &[u8],
-    of: &[u8],
+    heads: &[u8],
     out: &mut [u32],
 )
     requires { ⌜ Sections (now nodes) (now arguments) × Counts (now nodes) (now arguments) (now counts) (nodeCount (now nodes)) ⌝ }
-    requires { ⌜ Formed (now nodes) (now arguments) (now counts) (now of) × Prepared (now nodes) (now arguments) (now counts) (now of) (now prepared) ⌝ }
+    requires { ⌜ Formed (now nodes) (now arguments) (now counts) (now heads) × Prepared (now nodes) (now arguments) (now counts) (now heads) (now prepared) ⌝ }
     requires { ⌜ (now list ≡ leastNodes (nodesFrom (now nodes) (now arguments))) × (length (now list) ≤ length (now out)) ⌝ }
-    ensures { λ r. ⌜ Leaves (now (nodes .entry)) (now (arguments .entry)) (now (of .entry)) (now (out .entry)) (now (out .exit)) ⌝ }
+    ensures { λ r. ⌜ Leaves (now (nodes .entry)) (now (arguments .entry)) (now (heads .entry)) (now (out .entry)) (now (out .exit)) ⌝ }
 {
     if list.len() == 0 {
         return;
@@ -369,7 +369,7 @@ pub fn bind(
         counts,
         prepared,
         list,
-        of,
+        heads,
         &mut names[0..n],
         &mut by[0..n],
         out,

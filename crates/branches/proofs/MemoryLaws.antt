@@ -315,9 +315,9 @@ pairable-inside {nodes} {left} {right} {entry} {i} arguments p =
     paired-inside (nodesFrom nodes arguments) right (λ j h. is-node nodes arguments (word right j) (p .right-nodes j h)) left (λ j h. is-node nodes arguments (word left j) (p .left-nodes j h)) (take i entry) (first-positive entry i (p .positive)) [] (λ x y m. absurd (List·Memᴰ·not-nil m))
 
 -- they have a unifier where classes stand for them
-pub standing-unified : {nodes arguments left right entry counts cs : List ℕ} {i : ℕ} → Sections nodes arguments → Counts nodes arguments counts (nodeCount nodes) → Formed nodes arguments counts cs → Standing nodes arguments left right cs entry i → Pairable nodes left right entry i → outcome (nodesFrom nodes arguments) (pairsIn left right entry i) ≡ unified
-standing-unified {nodes} {arguments} {left} {right} {entry} {counts} {cs} {i} s c f g p =
-    same-unified (nodesFrom nodes arguments) (sections-well-formed nodes arguments s) (g .pairs) (pairsIn left right entry i) (g .stands .inside) (pairable-inside arguments p) (g .unifiers) .0 (formed-unified nodes arguments counts cs s f c (g .pairs) (g .stands))
+pub standing-unified : {nodes arguments left right entry counts heads : List ℕ} {i : ℕ} → Sections nodes arguments → Counts nodes arguments counts (nodeCount nodes) → Formed nodes arguments counts heads → Standing nodes arguments left right heads entry i → Pairable nodes left right entry i → outcome (nodesFrom nodes arguments) (pairsIn left right entry i) ≡ unified
+standing-unified {nodes} {arguments} {left} {right} {entry} {counts} {heads} {i} s c f g p =
+    same-unified (nodesFrom nodes arguments) (sections-well-formed nodes arguments s) (g .pairs) (pairsIn left right entry i) (g .stands .inside) (pairable-inside arguments p) (g .unifiers) .0 (formed-unified nodes arguments counts heads s f c (g .pairs) (g .stands))
 
 -- an entry that lies there for the key of other digits has their pairs
 lies-paired : {nodes arguments left right : List ℕ} {kept place : ℕ} {lent : List ℕ} {at : ℕ} (l : Lies nodes arguments left right kept place lent at) {entry : List ℕ} {i key : ℕ} → Pairable nodes left right entry i → Keyed left right entry i key → length right ≤ 8 → kept ≡ key + 1 → pairedBy left right (l .digits) [] ≡ pairsIn left right entry i
@@ -365,11 +365,11 @@ module _ {nodes arguments left right entry : List ℕ} {i : ℕ} (long : length 
       q
 
   -- words of the classes are those of the pairs
-  pub bound-new : {counts cs : List ℕ} → Sections nodes arguments → Counts nodes arguments counts (nodeCount nodes) → Formed nodes arguments counts cs → Standing nodes arguments left right cs entry i → Pairable nodes left right entry i → (part : List ℕ) → Leaves nodes arguments cs (midOf (length left + length right) (length entry - (length left + length right)) entry) part → Bound nodes arguments left right entry i (putMid (length left + length right) (length entry - (length left + length right)) entry part)
-  bound-new {counts} {cs} s c f g p part l =
+  pub bound-new : {counts heads : List ℕ} → Sections nodes arguments → Counts nodes arguments counts (nodeCount nodes) → Formed nodes arguments counts heads → Standing nodes arguments left right heads entry i → Pairable nodes left right entry i → (part : List ℕ) → Leaves nodes arguments heads (midOf (length left + length right) (length entry - (length left + length right)) entry) part → Bound nodes arguments left right entry i (putMid (length left + length right) (length entry - (length left + length right)) entry part)
+  bound-new {counts} {heads} s c f g p part l =
       let ns = nodesFrom nodes arguments in
       let n = length left + length right in
-      let o = formed-unified nodes arguments counts cs s f c (g .pairs) (g .stands) in
+      let o = formed-unified nodes arguments counts heads s f c (g .pairs) (g .stands) in
       let inside = g .stands .inside in
       let w = sections-well-formed nodes arguments s in
       let e = same-unifiers ns w (g .pairs) (pairsIn left right entry i) inside (pairable-inside arguments p) (g .unifiers) (outcome-unified ns w (g .pairs) inside .0 o) in

@@ -232,7 +232,7 @@ module _ (may : List ℕ) (i n : ℕ) (marks : List ℕ) (j : ℕ) (b : Bool) (e
   rights-next f t = some-next (rightStuck may i n marks) j f (sym e ∙ t)
 
 -- a pair can be tried by itself, with any counts that are right
-pub triable : {nodes arguments cs next counts : List ℕ} → Trying nodes arguments cs next → Counts nodes arguments counts (nodeCount nodes) → Triable nodes arguments counts cs next
+pub triable : {nodes arguments heads next counts : List ℕ} → Trying nodes arguments heads next → Counts nodes arguments counts (nodeCount nodes) → Triable nodes arguments counts heads next
 triable {counts = counts} t c =
     record {
       sections = t .sections;

@@ -89,14 +89,14 @@ pub fn put_back(left: &[u32], entry: &mut [u32], d: usize, mark: u32)
 }
 
 // Whether left term i and the right term that digit d counts to are in one class.
-pub fn one_class(left: &[u32], right: &[u32], of: &[u8], i: usize, d: usize) -> bool
+pub fn one_class(left: &[u32], right: &[u32], heads: &[u8], i: usize, d: usize) -> bool
     requires { ⌜ (i < length (now left)) × (0 < d) × (d ≤ length (now right)) ⌝ }
-    requires { ⌜ (word (now left) i < length (now of)) × (word (now right) (d - 1) < length (now of)) ⌝ }
-    ensures { λ r. ⌜ r ≡ eqb (word (now (of .entry)) (word (now (left .entry)) i)) (word (now (of .entry)) (word (now (right .entry)) (d - 1))) ⌝ }
+    requires { ⌜ (word (now left) i < length (now heads)) × (word (now right) (d - 1) < length (now heads)) ⌝ }
+    ensures { λ r. ⌜ r ≡ eqb (word (now (heads .entry)) (word (now (left .entry)) i)) (word (now (heads .entry)) (word (now (right .entry)) (d - 1))) ⌝ }
 {
     let a = layout::node_at(left, i);
     let b = layout::node_at(right, d - 1);
-    of[a.0 as usize] == of[b.0 as usize]
+    heads[a.0 as usize] == heads[b.0 as usize]
 }
 
 // Joins left term i and the right term that digit d counts to.
@@ -106,18 +106,18 @@ pub fn join_pair(
     left: &[u32],
     right: &[u32],
     known: &[u8],
-    of: &mut [u8],
+    heads: &mut [u8],
     next: &mut [u8],
     i: usize,
     d: usize,
 ) -> Extended
     requires { ⌜ Sections (now nodes) (now arguments) × Counts (now nodes) (now arguments) (now known) (nodeCount (now nodes)) ⌝ }
-    requires { ⌜ Formed (now nodes) (now arguments) (now known) (now of) × Trailed (nodeCount (now nodes)) (now of) (now next) ⌝ }
+    requires { ⌜ Formed (now nodes) (now arguments) (now known) (now heads) × Trailed (nodeCount (now nodes)) (now heads) (now next) ⌝ }
     requires { ⌜ (i < length (now left)) × (0 < d) × (d ≤ length (now right)) ⌝ }
     requires { ⌜ (word (now left) i < nodeCount (now nodes)) × (word (now right) (d - 1) < nodeCount (now nodes)) ⌝ }
-    ensures { λ r. ⌜ Extends (now (nodes .entry)) (now (arguments .entry)) (now (known .entry)) (now (of .entry)) (now (next .entry)) (word (now (left .entry)) i) (word (now (right .entry)) (d - 1)) r (now (of .exit)) (now (next .exit)) ⌝ }
+    ensures { λ r. ⌜ Extends (now (nodes .entry)) (now (arguments .entry)) (now (known .entry)) (now (heads .entry)) (now (next .entry)) (word (now (left .entry)) i) (word (now (right .entry)) (d - 1)) r (now (heads .exit)) (now (next .exit)) ⌝ }
 {
     let a = layout::node_at(left, i);
     let b = layout::node_at(right, d - 1);
-    extend(nodes, arguments, known, of, next, a, b)
+    extend(nodes, arguments, known, heads, next, a, b)
 }

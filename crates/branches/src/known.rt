@@ -43,17 +43,17 @@ pub fn complete_known(
     right: &[u32],
     labels: Labels,
     list: &[u8],
-    of: &mut [u8],
+    heads: &mut [u8],
     next: &mut [u8],
     known: &mut [u8],
 )
     requires { ⌜ Listable (now nodes) (now arguments) (now left) (now right) labels ⌝ }
-    requires { ⌜ Trying (now nodes) (now arguments) (now of) (now next) × PairsKnown (now nodes) (now arguments) (now left) (now right) (now known) ⌝ }
+    requires { ⌜ Trying (now nodes) (now arguments) (now heads) (now next) × PairsKnown (now nodes) (now arguments) (now left) (now right) (now known) ⌝ }
     requires { ⌜ (now list ≡ leastNodes (nodesFrom (now nodes) (now arguments))) × (length (now list) ≤ 64) ⌝ }
     ensures { λ r. ⌜ KnownOf (now (nodes .entry)) (now (arguments .entry)) (now (known .exit)) × MayPair (now (nodes .entry)) (now (arguments .entry)) (now (left .entry)) (now (right .entry)) (mayIn (now (known .exit))) ⌝ }
     ensures { λ r. ⌜ KeepsCounts (now (nodes .entry)) (now (known .entry)) (now (known .exit)) ⌝ }
-    ensures { λ r. ⌜ (now (of .exit) ≡ now (of .entry)) × (now (next .exit) ≡ now (next .entry)) ⌝ }
+    ensures { λ r. ⌜ (now (heads .exit) ≡ now (heads .entry)) × (now (next .exit) ≡ now (next .entry)) ⌝ }
 {
-    find_partners(nodes, arguments, left, right, labels, of, next, known);
+    find_partners(nodes, arguments, left, right, labels, heads, next, known);
     put_bytes(list, known, LIST);
 }

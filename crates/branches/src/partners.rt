@@ -109,17 +109,17 @@ fn pair_mark(
     nodes: &[u32],
     arguments: &[u32],
     counts: &[u8],
-    of: &mut [u8],
+    heads: &mut [u8],
     next: &mut [u8],
     a: Node,
     b: Node,
 ) -> u8
-    requires { ⌜ Triable (now nodes) (now arguments) (now counts) (now of) (now next) ⌝ }
+    requires { ⌜ Triable (now nodes) (now arguments) (now counts) (now heads) (now next) ⌝ }
     requires { ⌜ (a .0 < nodeCount (now nodes)) × (b .0 < nodeCount (now nodes)) ⌝ }
     ensures { λ r. ⌜ (r ≡ 0 → Never (nodesFrom (now (nodes .entry)) (now (arguments .entry))) (a .0) (b .0)) ⌝ }
-    ensures { λ r. ⌜ (now (of .exit) ≡ now (of .entry)) × (now (next .exit) ≡ now (next .entry)) ⌝ }
+    ensures { λ r. ⌜ (now (heads .exit) ≡ now (heads .entry)) × (now (next .exit) ≡ now (next .entry)) ⌝ }
 {
-    if may_unify(nodes, arguments, counts, of, next, a, b) {
+    if may_unify(nodes, arguments, counts, heads, next, a, b) {
         return 1;
     }
     0
@@ -132,24 +132,24 @@ fn mark_row(
     left: &[u32],
     right: &[u32],
     labels: Labels,
-    of: &mut [u8],
+    heads: &mut [u8],
     next: &mut [u8],
     known: &mut [u8],
     i: usize,
 )
     requires { ⌜ Listable (now nodes) (now arguments) (now left) (now right) labels ⌝ }
-    requires { ⌜ Trying (now nodes) (now arguments) (now of) (now next) ⌝ }
+    requires { ⌜ Trying (now nodes) (now arguments) (now heads) (now next) ⌝ }
     requires { ⌜ PairsKnown (now nodes) (now arguments) (now left) (now right) (now known) ⌝ }
     requires { ⌜ i < length (now left) ⌝ }
     ensures { λ r. ⌜ PairsKnown (now (nodes .entry)) (now (arguments .entry)) (now (left .entry)) (now (right .entry)) (now (known .exit)) ⌝ }
     ensures { λ r. ⌜ KeepsCounts (now (nodes .entry)) (now (known .entry)) (now (known .exit)) ⌝ }
-    ensures { λ r. ⌜ (now (of .exit) ≡ now (of .entry)) × (now (next .exit) ≡ now (next .entry)) ⌝ }
+    ensures { λ r. ⌜ (now (heads .exit) ≡ now (heads .entry)) × (now (next .exit) ≡ now (next .entry)) ⌝ }
 {
     let a = layout::node_at(left, i);
     let mut j: usize = 0;
     while j < right.len() {
         let b = layout::node_at(right, j);
-        let mark = pair_mark(nodes, arguments, known, of, next, a, b);
+        let mark = pair_mark(nodes, arguments, known, heads, next, a, b);
         known[MAY + MAX_TERMS * i + j] = mark;
         j += 1;
     }
@@ -162,20 +162,20 @@ fn mark_pairs(
     left: &[u32],
     right: &[u32],
     labels: Labels,
-    of: &mut [u8],
+    heads: &mut [u8],
     next: &mut [u8],
     known: &mut [u8],
 )
     requires { ⌜ Listable (now nodes) (now arguments) (now left) (now right) labels ⌝ }
-    requires { ⌜ Trying (now nodes) (now arguments) (now of) (now next) ⌝ }
+    requires { ⌜ Trying (now nodes) (now arguments) (now heads) (now next) ⌝ }
     requires { ⌜ PairsKnown (now nodes) (now arguments) (now left) (now right) (now known) ⌝ }
     ensures { λ r. ⌜ PairsKnown (now (nodes .entry)) (now (arguments .entry)) (now (left .entry)) (now (right .entry)) (now (known .exit)) ⌝ }
     ensures { λ r. ⌜ KeepsCounts (now (nodes .entry)) (now (known .entry)) (now (known .exit)) ⌝ }
-    ensures { λ r. ⌜ (now (of .exit) ≡ now (of .entry)) × (now (next .exit) ≡ now (next .entry)) ⌝ }
+    ensures { λ r. ⌜ (now (heads .exit) ≡ now (heads .entry)) × (now (next .exit) ≡ now (next .entry)) ⌝ }
 {
     let mut i: usize = 0;
     while i < left.len() {
-        mark_row(nodes, arguments, left, right, labels, of, next, known, i);
+        mark_row(nodes, arguments, left, right, labels, heads, next, known, i);
         i += 1;
     }
 }
@@ -188,19 +188,19 @@ pub fn find_partners(
     left: &[u32],
     right: &[u32],
     labels: Labels,
-    of: &mut [u8],
+    heads: &mut [u8],
     next: &mut [u8],
     known: &mut [u8],
 )
     requires { ⌜ Listable (now nodes) (now arguments) (now left) (now right) labels ⌝ }
-    requires { ⌜ Trying (now nodes) (now arguments) (now of) (now next) ⌝ }
+    requires { ⌜ Trying (now nodes) (now arguments) (now heads) (now next) ⌝ }
     requires { ⌜ PairsKnown (now nodes) (now arguments) (now left) (now right) (now known) ⌝ }
     ensures { λ r. ⌜ PairsKnown (now (nodes .entry)) (now (arguments .entry)) (now (left .entry)) (now (right .entry)) (now (known .exit)) ⌝ }
     ensures { λ r. ⌜ KeepsCounts (now (nodes .entry)) (now (known .entry)) (now (known .exit)) ⌝ }
-    ensures { λ r. ⌜ (now (of .exit) ≡ now (of .entry)) × (now (next .exit) ≡ now (next .entry)) ⌝ }
+    ensures { λ r. ⌜ (now (heads .exit) ≡ now (heads .entry)) × (now (next .exit) ≡ now (next .entry)) ⌝ }
 {
     if (left.len() < 2) | (left.len() + right.len() < FEW_TERMS) {
         return;
     }
-    mark_pairs(nodes, arguments, left, right, labels, of, next, known);
+    mark_pairs(nodes, arguments, left, right, labels, heads, next, known);
 }

@@ -43,12 +43,12 @@ closed-value nodes arguments counts s k (suc n) i l m σ τ =
     rw (r .2) (closed-value nodes arguments counts s k n (argumentOf nodes arguments i (r .0)) (omega (arith, d)) (k .below i (m .node) m (r .0) (r .1)) σ τ)))
     ∙ sym (value-application (nodesFrom nodes arguments) w τ i (nameOf nodes i) (run nodes arguments i) p e)
 
-module _ (nodes arguments counts : List ℕ) (s : Sections nodes arguments) (cs : List ℕ) (f : Formed nodes arguments counts cs) (z : StandsAlways nodes arguments cs) (a b : ℕ) (p : a < nodeCount nodes) (q : b < nodeCount nodes) where
+module _ (nodes arguments counts : List ℕ) (s : Sections nodes arguments) (heads : List ℕ) (f : Formed nodes arguments counts heads) (z : StandsAlways nodes arguments heads) (a b : ℕ) (p : a < nodeCount nodes) (q : b < nodeCount nodes) where
   abbrev ns : List Node
   ns = nodesFrom nodes arguments
 
   with-pair : Inside ns ((a, b) ∷ z .pairs)
-  with-pair = longer nodes arguments counts s cs f a b p q (z .pairs) (z .stands)
+  with-pair = longer nodes arguments counts s heads f a b p q (z .pairs) (z .stands)
 
   -- a pair that does not unify with pairs that every substitution unifies unifies with none
   never-by : (outcome ns ((a, b) ∷ z .pairs) ≡ unified → ⊥) → Never ns a b
@@ -61,43 +61,43 @@ module _ (nodes arguments counts : List ℕ) (s : Sections nodes arguments) (cs 
       all σ v i j (List·Memᴰ·tail m) = z .same σ i j m
 
   -- applications of different symbols
-  pub never-differ : (g h : ℕ) → g ≡ classOf cs a → h ≡ classOf cs b → (r : Bool) → r ≡ differTest nodes g h → r ≡ true → Never ns a b
+  pub never-differ : (g h : ℕ) → g ≡ classOf heads a → h ≡ classOf heads b → (r : Bool) → r ≡ differTest nodes g h → r ≡ true → Never ns a b
   never-differ g h x y r d t =
       never-by
       (λ e.
-      let k : outcome ns ((a, b) ∷ z .pairs) ≡ clash = outcome-clash ns (sections-well-formed nodes arguments s) ((a, b) ∷ z .pairs) with-pair .1 (differ-clash nodes arguments counts cs s f a b p q (rw (x, y) at (sym d ∙ t)) (z .pairs) (z .stands)) in
+      let k : outcome ns ((a, b) ∷ z .pairs) ≡ clash = outcome-clash ns (sections-well-formed nodes arguments s) ((a, b) ∷ z .pairs) with-pair .1 (differ-clash nodes arguments counts heads s f a b p q (rw (x, y) at (sym d ∙ t)) (z .pairs) (z .stands)) in
       let w : _≡_ {A = ℕ} 0 1 = cc in
       omega arith)
 
   -- a node has the value of its head
-  head-value : (σ : Substitution) (i : ℕ) → i < nodeCount nodes → value ns σ i ≡ value ns σ (classOf cs i)
+  head-value : (σ : Substitution) (i : ℕ) → i < nodeCount nodes → value ns σ i ≡ value ns σ (classOf heads i)
   head-value σ i h =
       joined-equal ns (sections-well-formed nodes arguments s) (z .pairs) (z .stands .inside) σ (z .same σ) (z .stands .closure .joined i (is-node nodes arguments i h))
 
   -- closed applications of different terms
-  pub never-closed : Counts nodes arguments counts (nodeCount nodes) → (g h : ℕ) → g ≡ classOf cs a → h ≡ classOf cs b → (g ≡ h → ⊥) → (r : Bool) → r ≡ (markedTest nodes counts g && markedTest nodes counts h) → r ≡ true → Never ns a b
+  pub never-closed : Counts nodes arguments counts (nodeCount nodes) → (g h : ℕ) → g ≡ classOf heads a → h ≡ classOf heads b → (g ≡ h → ⊥) → (r : Bool) → r ≡ (markedTest nodes counts g && markedTest nodes counts h) → r ≡ true → Never ns a b
   never-closed k g h x y n r d t = never-by (λ e. n (x ∙ one (outcome-unified ns (sections-well-formed nodes arguments s) ((a, b) ∷ z .pairs) with-pair .0 e) ∙ sym y))
     where
-      both : (markedTest nodes counts (classOf cs a) && markedTest nodes counts (classOf cs b)) ≡ true
+      both : (markedTest nodes counts (classOf heads a) && markedTest nodes counts (classOf heads b)) ≡ true
       both = rw (x, y) at (sym d ∙ t)
 
-      first : Marked nodes counts (classOf cs a)
-      first = marked-true nodes counts (classOf cs a) (f .partition .below a p) (and-true-left _ (markedTest nodes counts (classOf cs b)) both)
+      first : Marked nodes counts (classOf heads a)
+      first = marked-true nodes counts (classOf heads a) (f .partition .below a p) (and-true-left _ (markedTest nodes counts (classOf heads b)) both)
 
-      second : Marked nodes counts (classOf cs b)
-      second = marked-true nodes counts (classOf cs b) (f .partition .below b q) (and-true-right (markedTest nodes counts (classOf cs a)) _ both)
+      second : Marked nodes counts (classOf heads b)
+      second = marked-true nodes counts (classOf heads b) (f .partition .below b q) (and-true-right (markedTest nodes counts (classOf heads a)) _ both)
 
       always : (i : ℕ) → Marked nodes counts i → (σ τ : Substitution) → value ns σ i ≡ value ns τ i
       always i = closed-value nodes arguments counts s k (suc i) i (omega arith)
 
-      one : Unifiable ns ((a, b) ∷ z .pairs) → classOf cs a ≡ classOf cs b
+      one : Unifiable ns ((a, b) ∷ z .pairs) → classOf heads a ≡ classOf heads b
       one (σ, u) =
-          sym (f .partition .own a p) ∙ f .closed .shared (classOf cs a) (classOf cs b) first second
-          (always (classOf cs a) first var σ ∙ sym (head-value σ a p) ∙ u a b (List·Memᴰ·head refl) ∙ head-value σ b q ∙ always (classOf cs b) second σ var) ∙ f .partition .own b q
+          sym (f .partition .own a p) ∙ f .closed .shared (classOf heads a) (classOf heads b) first second
+          (always (classOf heads a) first var σ ∙ sym (head-value σ a p) ∙ u a b (List·Memᴰ·head refl) ∙ head-value σ b q ∙ always (classOf heads b) second σ var) ∙ f .partition .own b q
 
   -- a pair that clashes with the classes
-  pub never-clash : (r : Extended) (next cs′ next′ : List ℕ) → r ≡ Clash → Extends nodes arguments counts cs next a b r cs′ next′ → Never ns a b
-  never-clash r next cs′ next′ e x =
+  pub never-clash : (r : Extended) (next heads′ next′ : List ℕ) → r ≡ Clash → Extends nodes arguments counts heads next a b r heads′ next′ → Never ns a b
+  never-clash r next heads′ next′ e x =
       never-by
       (λ u.
       let k : clash ≡ unified = sym (ap extended e) ∙ x .answers (z .pairs) (z .stands) ∙ u in
@@ -105,8 +105,8 @@ module _ (nodes arguments counts : List ℕ) (s : Sections nodes arguments) (cs 
       omega arith)
 
   -- and one that makes a cycle
-  pub never-occurs : (r : Extended) (next cs′ next′ : List ℕ) → r ≡ Occurs → Extends nodes arguments counts cs next a b r cs′ next′ → Never ns a b
-  never-occurs r next cs′ next′ e x =
+  pub never-occurs : (r : Extended) (next heads′ next′ : List ℕ) → r ≡ Occurs → Extends nodes arguments counts heads next a b r heads′ next′ → Never ns a b
+  never-occurs r next heads′ next′ e x =
       never-by
       (λ u.
       let k : occurs ≡ unified = sym (ap extended e) ∙ x .answers (z .pairs) (z .stands) ∙ u in

@@ -38,8 +38,8 @@ inside-more ns ps a b p q h c d m = go (List·Memᴰ·cases-cons m)
     go (inr k) = h c d k
 
 -- a failure: the classes are as before
-extends-failed : (nodes arguments counts cs next : List ℕ) (a b : ℕ) (cs′ next′ : List ℕ) (x : Extended) → (cs′ ≡ cs) × (next′ ≡ next) → (x ≡ Unified → ⊥) → ((ps : List (ℕ × ℕ)) → Stands nodes arguments cs ps → outcome (nodesFrom nodes arguments) ((a, b) ∷ ps) ≡ extended x) → Extends nodes arguments counts cs next a b x cs′ next′
-extends-failed nodes arguments counts cs next a b cs′ next′ x y n o =
+extends-failed : (nodes arguments counts heads next : List ℕ) (a b : ℕ) (heads′ next′ : List ℕ) (x : Extended) → (heads′ ≡ heads) × (next′ ≡ next) → (x ≡ Unified → ⊥) → ((ps : List (ℕ × ℕ)) → Stands nodes arguments heads ps → outcome (nodesFrom nodes arguments) ((a, b) ∷ ps) ≡ extended x) → Extends nodes arguments counts heads next a b x heads′ next′
+extends-failed nodes arguments counts heads next a b heads′ next′ x y n o =
     record {
       answers = λ ps d. sym (o ps d);
       formed = λ z. absurd (n z);
@@ -50,60 +50,60 @@ extends-failed nodes arguments counts cs next a b cs′ next′ x y n o =
     }
 
 -- where there is a clash the classes are as before
-pub clash-back : {nodes arguments counts cs next : List ℕ} {a b : ℕ} {r : Extended} {cs′ next′ : List ℕ} → r ≡ Clash → Extends nodes arguments counts cs next a b r cs′ next′ → (cs′ ≡ cs) × (next′ ≡ next)
+pub clash-back : {nodes arguments counts heads next : List ℕ} {a b : ℕ} {r : Extended} {heads′ next′ : List ℕ} → r ≡ Clash → Extends nodes arguments counts heads next a b r heads′ next′ → (heads′ ≡ heads) × (next′ ≡ next)
 clash-back e x = x .failed (λ z. let y : Clash ≡ Unified = sym e ∙ z in let o : _≡_ {A = ℕ} 0 1 = cc in omega arith)
 
 -- so they are where a class leads to itself
-pub occurs-back : {nodes arguments counts cs next : List ℕ} {a b : ℕ} {r : Extended} {cs′ next′ : List ℕ} → r ≡ Occurs → Extends nodes arguments counts cs next a b r cs′ next′ → (cs′ ≡ cs) × (next′ ≡ next)
+pub occurs-back : {nodes arguments counts heads next : List ℕ} {a b : ℕ} {r : Extended} {heads′ next′ : List ℕ} → r ≡ Occurs → Extends nodes arguments counts heads next a b r heads′ next′ → (heads′ ≡ heads) × (next′ ≡ next)
 occurs-back e x = x .failed (λ z. let y : Occurs ≡ Unified = sym e ∙ z in let o : _≡_ {A = ℕ} 0 1 = cc in omega arith)
 
-module _ (nodes arguments counts : List ℕ) (s : Sections nodes arguments) (cs : List ℕ) (f : Formed nodes arguments counts cs) (a b : ℕ) (p : a < nodeCount nodes) (q : b < nodeCount nodes) where
-  module _ (ps : List (ℕ × ℕ)) (d : Stands nodes arguments cs ps) where
+module _ (nodes arguments counts : List ℕ) (s : Sections nodes arguments) (heads : List ℕ) (f : Formed nodes arguments counts heads) (a b : ℕ) (p : a < nodeCount nodes) (q : b < nodeCount nodes) where
+  module _ (ps : List (ℕ × ℕ)) (d : Stands nodes arguments heads ps) where
     -- the pairs of the longer list are of nodes
     pub longer : Inside (nodesFrom nodes arguments) ((a, b) ∷ ps)
     longer = inside-more (nodesFrom nodes arguments) ps a b (is-node nodes arguments a p) (is-node nodes arguments b q) (d .inside)
 
     -- the pair is still to be joined
-    pub waiting : ClosureUpTo (nodesFrom nodes arguments) ((a, b) ∷ ps) cs ((a, b) ∷ [])
+    pub waiting : ClosureUpTo (nodesFrom nodes arguments) ((a, b) ∷ ps) heads ((a, b) ∷ [])
     waiting =
-        opened (nodesFrom nodes arguments) (sections-well-formed nodes arguments s) ps (d .inside) cs (rw (nodes-long nodes arguments) (f .partition)) a b (d .closure)
+        opened (nodesFrom nodes arguments) (sections-well-formed nodes arguments s) ps (d .inside) heads (rw (nodes-long nodes arguments) (f .partition)) a b (d .closure)
 
-  module _ (next : List ℕ) (fine : Bool) (cs′ next′ : List ℕ) (j : Joins nodes arguments counts cs next a b fine cs′ next′) where
+  module _ (next : List ℕ) (fine : Bool) (heads′ next′ : List ℕ) (j : Joins nodes arguments counts heads next a b fine heads′ next′) where
     -- a clash
-    pub extends-clash : fine ≡ false → {cs″ next″ : List ℕ} → (cs″ ≡ cs) × (next″ ≡ next) → Extends nodes arguments counts cs next a b Clash cs″ next″
-    extends-clash t {cs″} {next″} u =
-        extends-failed nodes arguments counts cs next a b cs″ next″ Clash u (λ z. let y : _≡_ {A = ℕ} 0 1 = cc in omega arith)
+    pub extends-clash : fine ≡ false → {heads″ next″ : List ℕ} → (heads″ ≡ heads) × (next″ ≡ next) → Extends nodes arguments counts heads next a b Clash heads″ next″
+    extends-clash t {heads″} {next″} u =
+        extends-failed nodes arguments counts heads next a b heads″ next″ Clash u (λ z. let y : _≡_ {A = ℕ} 0 1 = cc in omega arith)
         (λ ps d. outcome-clash (nodesFrom nodes arguments) (sections-well-formed nodes arguments s) ((a, b) ∷ ps) (longer ps d) .1 (j .clashes t ((a, b) ∷ ps) [] (waiting ps d)))
 
     module _ (t : fine ≡ true) (k : Counts nodes arguments counts (nodeCount nodes)) where
       -- classes of the longer list
-      closure-after : (ps : List (ℕ × ℕ)) → Stands nodes arguments cs ps → IsClosure (nodesFrom nodes arguments) ((a, b) ∷ ps) (classOf cs′)
-      closure-after ps d = closure-at-last (nodesFrom nodes arguments) ((a, b) ∷ ps) cs′ (j .done t ((a, b) ∷ ps) [] (waiting ps d))
+      closure-after : (ps : List (ℕ × ℕ)) → Stands nodes arguments heads ps → IsClosure (nodesFrom nodes arguments) ((a, b) ∷ ps) (classOf heads′)
+      closure-after ps d = closure-at-last (nodesFrom nodes arguments) ((a, b) ∷ ps) heads′ (j .done t ((a, b) ∷ ps) [] (waiting ps d))
 
-      module _ (r : Bool) (x : Searched nodes arguments (word counts) cs′ a r) where
+      module _ (r : Bool) (x : Searched nodes arguments (word counts) heads′ a r) where
         -- a cycle
-        pub extends-occurs : r ≡ true → {cs″ next″ : List ℕ} → (cs″ ≡ cs) × (next″ ≡ next) → Extends nodes arguments counts cs next a b Occurs cs″ next″
-        extends-occurs y {cs″} {next″} u =
-            extends-failed nodes arguments counts cs next a b cs″ next″ Occurs u (λ z. let w : _≡_ {A = ℕ} 0 1 = cc in omega arith)
+        pub extends-occurs : r ≡ true → {heads″ next″ : List ℕ} → (heads″ ≡ heads) × (next″ ≡ next) → Extends nodes arguments counts heads next a b Occurs heads″ next″
+        extends-occurs y {heads″} {next″} u =
+            extends-failed nodes arguments counts heads next a b heads″ next″ Occurs u (λ z. let w : _≡_ {A = ℕ} 0 1 = cc in omega arith)
             (λ ps d.
             let l = x .cycle y in
-            cycle-decides (nodesFrom nodes arguments) (sections-well-formed nodes arguments s) ((a, b) ∷ ps) (longer ps d) (classOf cs′) (closure-after ps d) (l .0) (leads-reaches nodes arguments s cs′ ((a, b) ∷ ps) (longer ps d) (closure-after ps d) counts k (l .2)))
+            cycle-decides (nodesFrom nodes arguments) (sections-well-formed nodes arguments s) ((a, b) ∷ ps) (longer ps d) (classOf heads′) (closure-after ps d) (l .0) (leads-reaches nodes arguments s heads′ ((a, b) ∷ ps) (longer ps d) (closure-after ps d) counts k (l .2)))
 
-        module _ (y : r ≡ false) (ps : List (ℕ × ℕ)) (d : Stands nodes arguments cs ps) where
+        module _ (y : r ≡ false) (ps : List (ℕ × ℕ)) (d : Stands nodes arguments heads ps) where
           -- closed applications have closed heads
-          heads-after : ClosedHeads nodes arguments counts cs′
-          heads-after = closed-kept nodes arguments counts cs cs′ (f .closed) (j .kept)
+          heads-after : ClosedHeads nodes arguments counts heads′
+          heads-after = closed-kept nodes arguments counts heads heads′ (f .closed) (j .kept)
 
-          order-after : (order : List ℕ) × Ordered nodes arguments (word counts) cs′ order
+          order-after : (order : List ℕ) × Ordered nodes arguments (word counts) heads′ order
           order-after =
-              mended nodes arguments s ps (d .inside) a b (longer ps d) cs (d .closure) cs′ (closure-after ps d) counts k heads-after (x .ordered y) (j .partition) (j .heads) (f .order) (f .ordered)
+              mended nodes arguments s ps (d .inside) a b (longer ps d) heads (d .closure) heads′ (closure-after ps d) counts k heads-after (x .ordered y) (j .partition) (j .stay) (f .order) (f .ordered)
 
-          formed-after : Formed nodes arguments counts cs′
+          formed-after : Formed nodes arguments counts heads′
           formed-after =
               record {
                 partition = j .partition;
                 constants = λ i h u v e.
-                    still-one nodes arguments s ps (d .inside) a b (longer ps d) cs (d .closure) cs′ (closure-after ps d) i h (is-node nodes arguments i (u .node)) (is-node nodes arguments h (v .node)) (f .constants i h u v e);
+                    still-one nodes arguments s ps (d .inside) a b (longer ps d) heads (d .closure) heads′ (closure-after ps d) i h (is-node nodes arguments i (u .node)) (is-node nodes arguments h (v .node)) (f .constants i h u v e);
                 closed = heads-after;
                 order = order-after .0;
                 ordered = order-after .1;
@@ -111,10 +111,10 @@ module _ (nodes arguments counts : List ℕ) (s : Sections nodes arguments) (cs 
 
           unified-after : outcome (nodesFrom nodes arguments) ((a, b) ∷ ps) ≡ extended Unified
           unified-after =
-              ordered-unified nodes arguments s counts k cs′ (j .partition) heads-after ((a, b) ∷ ps) (longer ps d) (closure-after ps d) (order-after .0) (order-after .1)
+              ordered-unified nodes arguments s counts k heads′ (j .partition) heads-after ((a, b) ∷ ps) (longer ps d) (closure-after ps d) (order-after .0) (order-after .1)
 
         -- classes of the longer list, in order
-        pub extends-unified : r ≡ false → Extends nodes arguments counts cs next a b Unified cs′ next′
+        pub extends-unified : r ≡ false → Extends nodes arguments counts heads next a b Unified heads′ next′
         extends-unified y =
             record {
               answers = λ ps d. sym (unified-after y ps d);

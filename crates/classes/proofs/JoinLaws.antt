@@ -95,36 +95,36 @@ module _ (nodes arguments : List ℕ) (s : Sections nodes arguments) (g h : ℕ)
       (r .0, r .1, l, ap (λ (p : ℕ × ℕ). p .0) (r .2), ap (λ (p : ℕ × ℕ). p .1) (r .2))
 
 -- Classes cs′ come of classes cs when some pairs are joined, and whatever the closure then joins.
-pub record Advances (nodes arguments counts cs next : List ℕ) (new : List (ℕ × ℕ)) (cs′ next′ : List ℕ) : Type 0 where
-  pub partition : Partition (nodeCount nodes) cs′
-  pub merges : Merges (nodeCount nodes) cs next cs′ next′
-  pub fewer : roots (nodeCount nodes) cs′ ≤ roots (nodeCount nodes) cs
-  pub heads : (i : ℕ) → i < nodeCount nodes → classOf cs (classOf cs′ i) ≡ classOf cs′ i
-  pub kept : KeepsClosed nodes counts cs cs′
-  pub done : (ps todo : List (ℕ × ℕ)) → ClosureUpTo (nodesFrom nodes arguments) ps cs (new ++ todo) → ClosureUpTo (nodesFrom nodes arguments) ps cs′ todo
+pub record Advances (nodes arguments counts heads next : List ℕ) (new : List (ℕ × ℕ)) (heads′ next′ : List ℕ) : Type 0 where
+  pub partition : Partition (nodeCount nodes) heads′
+  pub merges : Merges (nodeCount nodes) heads next heads′ next′
+  pub fewer : roots (nodeCount nodes) heads′ ≤ roots (nodeCount nodes) heads
+  pub stay : (i : ℕ) → i < nodeCount nodes → classOf heads (classOf heads′ i) ≡ classOf heads′ i
+  pub kept : KeepsClosed nodes counts heads heads′
+  pub done : (ps todo : List (ℕ × ℕ)) → ClosureUpTo (nodesFrom nodes arguments) ps heads (new ++ todo) → ClosureUpTo (nodesFrom nodes arguments) ps heads′ todo
 
 -- Classes ds come of classes cs when those of nodes a and b are made one: the pair is traded for the pairs of new.
-pub record Trades (nodes arguments counts cs next : List ℕ) (a b : ℕ) (new : List (ℕ × ℕ)) (ds next′ : List ℕ) : Type 0 where
+pub record Trades (nodes arguments counts heads next : List ℕ) (a b : ℕ) (new : List (ℕ × ℕ)) (ds next′ : List ℕ) : Type 0 where
   pub partition : Partition (nodeCount nodes) ds
-  pub merges : Merges (nodeCount nodes) cs next ds next′
-  pub fewer : roots (nodeCount nodes) ds < roots (nodeCount nodes) cs
-  pub heads : (i : ℕ) → i < nodeCount nodes → classOf cs (classOf ds i) ≡ classOf ds i
-  pub kept : KeepsClosed nodes counts cs ds
-  pub trades : (ps todo : List (ℕ × ℕ)) → ClosureUpTo (nodesFrom nodes arguments) ps cs ((a, b) ∷ todo) → ClosureUpTo (nodesFrom nodes arguments) ps ds (new ++ todo)
+  pub merges : Merges (nodeCount nodes) heads next ds next′
+  pub fewer : roots (nodeCount nodes) ds < roots (nodeCount nodes) heads
+  pub stay : (i : ℕ) → i < nodeCount nodes → classOf heads (classOf ds i) ≡ classOf ds i
+  pub kept : KeepsClosed nodes counts heads ds
+  pub trades : (ps todo : List (ℕ × ℕ)) → ClosureUpTo (nodesFrom nodes arguments) ps heads ((a, b) ∷ todo) → ClosureUpTo (nodesFrom nodes arguments) ps ds (new ++ todo)
 
 -- heads that were heads before, and before that
-heads-on : (n : ℕ) (cs cs′ cs″ : List ℕ) → Partition n cs″ → ((i : ℕ) → i < n → classOf cs (classOf cs′ i) ≡ classOf cs′ i) → ((i : ℕ) → i < n → classOf cs′ (classOf cs″ i) ≡ classOf cs″ i) → (i : ℕ) → i < n → classOf cs (classOf cs″ i) ≡ classOf cs″ i
-heads-on n cs cs′ cs″ p f g i h =
-    let e : classOf cs′ (classOf cs″ i) ≡ classOf cs″ i = g i h in
-    ap (classOf cs) (sym e) ∙ f (classOf cs″ i) (p .below i h) ∙ e
+heads-on : (n : ℕ) (heads heads′ heads″ : List ℕ) → Partition n heads″ → ((i : ℕ) → i < n → classOf heads (classOf heads′ i) ≡ classOf heads′ i) → ((i : ℕ) → i < n → classOf heads′ (classOf heads″ i) ≡ classOf heads″ i) → (i : ℕ) → i < n → classOf heads (classOf heads″ i) ≡ classOf heads″ i
+heads-on n heads heads′ heads″ p f g i h =
+    let e : classOf heads′ (classOf heads″ i) ≡ classOf heads″ i = g i h in
+    ap (classOf heads) (sym e) ∙ f (classOf heads″ i) (p .below i h) ∙ e
 
 -- a head that is left was a head before
-join-heads : {n : ℕ} {cs : List ℕ} → Partition n cs → (x y : ℕ) → x < n → (i : ℕ) → i < n → classOf cs (classOf (join cs (x, y)) i) ≡ classOf (join cs (x, y)) i
-join-heads {n} {cs} p x y hx i h = go (ℕ-discrete (classOf cs i) (classOf cs y))
+join-heads : {n : ℕ} {heads : List ℕ} → Partition n heads → (x y : ℕ) → x < n → (i : ℕ) → i < n → classOf heads (classOf (join heads (x, y)) i) ≡ classOf (join heads (x, y)) i
+join-heads {n} {heads} p x y hx i h = go (ℕ-discrete (classOf heads i) (classOf heads y))
   where
-    go : Dec (classOf cs i ≡ classOf cs y) → classOf cs (classOf (join cs (x, y)) i) ≡ classOf (join cs (x, y)) i
-    go (yes z) = rw (join-second cs x y i (in-list p i h) z) (p .own x hx)
-    go (no z) = rw (join-other cs x y i (in-list p i h) z) (p .own i h)
+    go : Dec (classOf heads i ≡ classOf heads y) → classOf heads (classOf (join heads (x, y)) i) ≡ classOf (join heads (x, y)) i
+    go (yes z) = rw (join-second heads x y i (in-list p i h) z) (p .own x hx)
+    go (no z) = rw (join-other heads x y i (in-list p i h) z) (p .own i h)
 
 -- The first j pairs of arguments of nodes g and h.
 abbrev pub firstPairs : List ℕ → List ℕ → ℕ → ℕ → ℕ → List (ℕ × ℕ)
@@ -132,28 +132,28 @@ firstPairs nodes arguments g h j = tabulate j (argumentPair nodes arguments g h)
 
 -- The arguments of nodes g and h, joined one after the other.
 module _ (nodes arguments counts : List ℕ) (g h : ℕ) where
-  module _ (cs next : List ℕ) where
+  module _ (heads next : List ℕ) where
     -- no pair is joined yet
-    pub arguments-none : (a b : ℕ) (new : List (ℕ × ℕ)) (bs nextb : List ℕ) → Trades nodes arguments counts bs nextb a b new cs next → Advances nodes arguments counts cs next (firstPairs nodes arguments g h 0) cs next
+    pub arguments-none : (a b : ℕ) (new : List (ℕ × ℕ)) (bs nextb : List ℕ) → Trades nodes arguments counts bs nextb a b new heads next → Advances nodes arguments counts heads next (firstPairs nodes arguments g h 0) heads next
     unfolding tabulate
     arguments-none a b new bs nextb t =
         record {
           partition = t .partition;
           merges = none;
           fewer = omega arith;
-          heads = t .partition .own;
+          stay = t .partition .own;
           kept = λ i m. refl;
           done = λ ps todo c. c;
         }
 
-    module _ (j : ℕ) (cs′ next′ : List ℕ) (v : Advances nodes arguments counts cs next (firstPairs nodes arguments g h j) cs′ next′) (a b : ℕ) (fine : Bool) (cs″ next″ : List ℕ) (d : a ≡ argumentOf nodes arguments g j) (e : b ≡ argumentOf nodes arguments h j) (w : Joins nodes arguments counts cs′ next′ a b fine cs″ next″) where
+    module _ (j : ℕ) (heads′ next′ : List ℕ) (v : Advances nodes arguments counts heads next (firstPairs nodes arguments g h j) heads′ next′) (a b : ℕ) (fine : Bool) (heads″ next″ : List ℕ) (d : a ≡ argumentOf nodes arguments g j) (e : b ≡ argumentOf nodes arguments h j) (w : Joins nodes arguments counts heads′ next′ a b fine heads″ next″) where
       -- the pair that comes next
-      next-waits : (ps todo : List (ℕ × ℕ)) → ClosureUpTo (nodesFrom nodes arguments) ps cs (firstPairs nodes arguments g h (j + 1) ++ todo) → ClosureUpTo (nodesFrom nodes arguments) ps cs′ ((a, b) ∷ todo)
+      next-waits : (ps todo : List (ℕ × ℕ)) → ClosureUpTo (nodesFrom nodes arguments) ps heads (firstPairs nodes arguments g h (j + 1) ++ todo) → ClosureUpTo (nodesFrom nodes arguments) ps heads′ ((a, b) ∷ todo)
       unfolding tabulate argumentPair
       next-waits ps todo c = v .done ps ((a, b) ∷ todo) (rw (d, e) (rw (append-assoc (firstPairs nodes arguments g h j)) at (rw (add-one j) at c)))
 
       -- one pair more
-      pub arguments-next : fine ≡ true → Advances nodes arguments counts cs next (firstPairs nodes arguments g h (j + 1)) cs″ next″
+      pub arguments-next : fine ≡ true → Advances nodes arguments counts heads next (firstPairs nodes arguments g h (j + 1)) heads″ next″
       arguments-next t =
           let p = v .fewer in
           let q = w .fewer in
@@ -161,18 +161,18 @@ module _ (nodes arguments counts : List ℕ) (g h : ℕ) where
             partition = w .partition;
             merges = merges-on (v .merges) (w .merges);
             fewer = omega (arith, p, q);
-            heads = heads-on (nodeCount nodes) cs cs′ cs″ (w .partition) (v .heads) (w .heads);
+            stay = heads-on (nodeCount nodes) heads heads′ heads″ (w .partition) (v .stay) (w .stay);
             kept = λ i k. w .kept i k ∙ v .kept i k;
             done = λ ps todo c. w .done t ps todo (next-waits ps todo c);
           }
 
       -- a pair clashes
-      arguments-clash : fine ≡ false → (ps todo : List (ℕ × ℕ)) → j < countOf nodes g → ClosureUpTo (nodesFrom nodes arguments) ps cs (argumentPairs nodes arguments g h ++ todo) → Clash (nodesFrom nodes arguments) ps
+      arguments-clash : fine ≡ false → (ps todo : List (ℕ × ℕ)) → j < countOf nodes g → ClosureUpTo (nodesFrom nodes arguments) ps heads (argumentPairs nodes arguments g h ++ todo) → Clash (nodesFrom nodes arguments) ps
       unfolding argumentPairs
       arguments-clash t ps todo l c =
           w .clashes t ps (argumentPairs nodes arguments g h ++ todo)
           (next-waits ps (argumentPairs nodes arguments g h ++ todo)
-          (retold (nodesFrom nodes arguments) ps cs (argumentPairs nodes arguments g h ++ todo) (firstPairs nodes arguments g h (j + 1) ++ (argumentPairs nodes arguments g h ++ todo)) (λ ds u v x y m. v x y (Memᴰ·append-right (firstPairs nodes arguments g h (j + 1)) m)) wanted-all c))
+          (retold (nodesFrom nodes arguments) ps heads (argumentPairs nodes arguments g h ++ todo) (firstPairs nodes arguments g h (j + 1) ++ (argumentPairs nodes arguments g h ++ todo)) (λ ds u v x y m. v x y (Memᴰ·append-right (firstPairs nodes arguments g h (j + 1)) m)) wanted-all c))
         where
           first-among : (p : ℕ × ℕ) → List·Memᴰ p (firstPairs nodes arguments g h (j + 1)) → List·Memᴰ p (argumentPairs nodes arguments g h)
           first-among p m =
@@ -213,47 +213,47 @@ either-between R f straight r = r
 either-between R f {a} {b} swapped r = f a b r
 
 -- Nodes a and b of different classes.
-pub record Meeting (nodes arguments counts cs next : List ℕ) (a b : ℕ) : Type 0 where
-  pub joinable : Joinable nodes arguments counts cs next
+pub record Meeting (nodes arguments counts heads next : List ℕ) (a b : ℕ) : Type 0 where
+  pub joinable : Joinable nodes arguments counts heads next
   pub first : a < nodeCount nodes
   pub second : b < nodeCount nodes
-  pub apart : classOf cs a ≡ classOf cs b → ⊥
+  pub apart : classOf heads a ≡ classOf heads b → ⊥
 
 -- Their heads are applications of one symbol, not both closed.
-pub record OneSymbolHeads (nodes arguments counts cs : List ℕ) (a b : ℕ) : Type 0 where
-  pub first-applied : kindOf nodes (classOf cs a) ≡ 0 → ⊥
-  pub second-applied : kindOf nodes (classOf cs b) ≡ 0 → ⊥
-  pub one-symbol : symbolTest nodes (classOf cs a) (classOf cs b) ≡ true
-  pub not-both : Marked nodes counts (classOf cs a) → Marked nodes counts (classOf cs b) → ⊥
+pub record OneSymbolHeads (nodes arguments counts heads : List ℕ) (a b : ℕ) : Type 0 where
+  pub first-applied : kindOf nodes (classOf heads a) ≡ 0 → ⊥
+  pub second-applied : kindOf nodes (classOf heads b) ≡ 0 → ⊥
+  pub one-symbol : symbolTest nodes (classOf heads a) (classOf heads b) ≡ true
+  pub not-both : Marked nodes counts (classOf heads a) → Marked nodes counts (classOf heads b) → ⊥
 
 -- the two nodes are of one class
-pub join-already : {nodes arguments counts cs next : List ℕ} (a b : ℕ) → Joinable nodes arguments counts cs next → a < nodeCount nodes → b < nodeCount nodes → classOf cs a ≡ classOf cs b → Joins nodes arguments counts cs next a b true cs next
-join-already {nodes} {arguments} {counts} {cs} {next} a b w ha hb e =
+pub join-already : {nodes arguments counts heads next : List ℕ} (a b : ℕ) → Joinable nodes arguments counts heads next → a < nodeCount nodes → b < nodeCount nodes → classOf heads a ≡ classOf heads b → Joins nodes arguments counts heads next a b true heads next
+join-already {nodes} {arguments} {counts} {heads} {next} a b w ha hb e =
     record {
       partition = w .partition;
       merges = none;
       fewer = omega arith;
-      heads = w .partition .own;
+      stay = w .partition .own;
       kept = λ i m. refl;
-      done = λ t ps todo c. already (nodesFrom nodes arguments) ps cs a b todo (in-list (w .partition) a ha) (in-list (w .partition) b hb) e c;
+      done = λ t ps todo c. already (nodesFrom nodes arguments) ps heads a b todo (in-list (w .partition) a ha) (in-list (w .partition) b hb) e c;
       clashes = λ t. absurd (false≢true (sym t));
     }
 
-module _ {nodes arguments counts cs next : List ℕ} {a b : ℕ} (m : Meeting nodes arguments counts cs next a b) where
+module _ {nodes arguments counts heads next : List ℕ} {a b : ℕ} (m : Meeting nodes arguments counts heads next a b) where
   -- The nodes.
   abbrev ns : List Node
   ns = nodesFrom nodes arguments
 
   -- The classes are a partition.
-  abbrev partition : Partition (nodeCount nodes) cs
+  abbrev partition : Partition (nodeCount nodes) heads
   partition = m .joinable .partition
 
   -- the heads are nodes
-  pub meeting-inside : (classOf cs a < nodeCount nodes) × (classOf cs b < nodeCount nodes)
+  pub meeting-inside : (classOf heads a < nodeCount nodes) × (classOf heads b < nodeCount nodes)
   meeting-inside = (partition .below a (m .first), partition .below b (m .second))
 
   -- they are two heads
-  pub meeting-heads : TwoHeads (length cs) cs next (classOf cs a) (classOf cs b)
+  pub meeting-heads : TwoHeads (length heads) heads next (classOf heads a) (classOf heads b)
   meeting-heads =
       rw (partition .size) (record {
         partition = partition;
@@ -266,62 +266,62 @@ module _ {nodes arguments counts cs next : List ℕ} {a b : ℕ} (m : Meeting no
       })
 
   -- and can be undone from
-  pub meeting-trailed : Trailed (length cs) cs next
+  pub meeting-trailed : Trailed (length heads) heads next
   meeting-trailed = rw (partition .size) (m .joinable .trailed)
 
   -- there are as many nodes as heads of them
-  same-long : length cs ≡ length ns
+  same-long : length heads ≡ length ns
   same-long = partition .size ∙ sym (nodes-long nodes arguments)
 
-  module _ (ps todo : List (ℕ × ℕ)) (c : ClosureUpTo ns ps cs ((a, b) ∷ todo)) where
+  module _ (ps todo : List (ℕ × ℕ)) (c : ClosureUpTo ns ps heads ((a, b) ∷ todo)) where
     -- the two nodes are joined
     pair-joined : Joined ns ps a b
     pair-joined = c .wanted a b (List·Memᴰ·head refl)
 
     -- so are their heads
-    heads-joined : Joined ns ps (classOf cs a) (classOf cs b)
+    heads-joined : Joined ns ps (classOf heads a) (classOf heads b)
     heads-joined = on (on (back (c .joined a (is-node nodes arguments a (m .first)))) pair-joined) (c .joined b (is-node nodes arguments b (m .second)))
 
   -- no classes are changed where the heads clash
-  refused : ((ps todo : List (ℕ × ℕ)) → ClosureUpTo ns ps cs ((a, b) ∷ todo) → Clash ns ps) → Joins nodes arguments counts cs next a b false cs next
+  refused : ((ps todo : List (ℕ × ℕ)) → ClosureUpTo ns ps heads ((a, b) ∷ todo) → Clash ns ps) → Joins nodes arguments counts heads next a b false heads next
   refused f =
       record {
         partition = partition;
         merges = none;
         fewer = omega arith;
-        heads = partition .own;
+        stay = partition .own;
         kept = λ i m. refl;
         done = λ t. absurd (false≢true t);
         clashes = λ t. f;
       }
 
   -- heads of different symbols
-  join-differ : (kindOf nodes (classOf cs a) ≡ 0 → ⊥) → (kindOf nodes (classOf cs b) ≡ 0 → ⊥) → symbolTest nodes (classOf cs a) (classOf cs b) ≡ false → Joins nodes arguments counts cs next a b false cs next
+  join-differ : (kindOf nodes (classOf heads a) ≡ 0 → ⊥) → (kindOf nodes (classOf heads b) ≡ 0 → ⊥) → symbolTest nodes (classOf heads a) (classOf heads b) ≡ false → Joins nodes arguments counts heads next a b false heads next
   join-differ ka kb e =
       refused (λ ps todo c.
-      heads-clash ns ps cs a b todo (is-node nodes arguments a (m .first)) (is-node nodes arguments b (m .second)) _ _ _ _
-      (application-from nodes arguments (classOf cs a) (meeting-inside .0) ka)
-      (application-from nodes arguments (classOf cs b) (meeting-inside .1) kb)
-      (symbols-differ nodes arguments (m .joinable .sections) (classOf cs a) (classOf cs b) (meeting-inside .0) (meeting-inside .1) e)
+      heads-clash ns ps heads a b todo (is-node nodes arguments a (m .first)) (is-node nodes arguments b (m .second)) _ _ _ _
+      (application-from nodes arguments (classOf heads a) (meeting-inside .0) ka)
+      (application-from nodes arguments (classOf heads b) (meeting-inside .1) kb)
+      (symbols-differ nodes arguments (m .joinable .sections) (classOf heads a) (classOf heads b) (meeting-inside .0) (meeting-inside .1) e)
       c)
 
   -- heads that are closed applications: of one term they would be of one class
-  join-closed : Marked nodes counts (classOf cs a) → Marked nodes counts (classOf cs b) → Joins nodes arguments counts cs next a b false cs next
+  join-closed : Marked nodes counts (classOf heads a) → Marked nodes counts (classOf heads b) → Joins nodes arguments counts heads next a b false heads next
   join-closed p q =
-      refused (λ ps todo c. go (closed-joined nodes arguments counts (m .joinable .sections) (m .joinable .counts-right) ps (classOf cs a) (classOf cs b) p q (heads-joined ps todo c)))
+      refused (λ ps todo c. go (closed-joined nodes arguments counts (m .joinable .sections) (m .joinable .counts-right) ps (classOf heads a) (classOf heads b) p q (heads-joined ps todo c)))
     where
-      go : {ps : List (ℕ × ℕ)} → Clash ns ps ⊎ Same nodes arguments (classOf cs a) (classOf cs b) → Clash ns ps
+      go : {ps : List (ℕ × ℕ)} → Clash ns ps ⊎ Same nodes arguments (classOf heads a) (classOf heads b) → Clash ns ps
       go (inl c) = c
       go (inr e) =
-          absurd (m .apart (sym (partition .own a (m .first)) ∙ m .joinable .closed .shared (classOf cs a) (classOf cs b) p q e ∙ partition .own b (m .second)))
+          absurd (m .apart (sym (partition .own a (m .first)) ∙ m .joinable .closed .shared (classOf heads a) (classOf heads b) p q e ∙ partition .own b (m .second)))
 
   -- heads that clash
-  pub join-clash : (kindOf nodes (classOf cs a) ≡ 0 → ⊥) × (kindOf nodes (classOf cs b) ≡ 0 → ⊥) → (symbolTest nodes (classOf cs a) (classOf cs b) ≡ false) ⊎ (Marked nodes counts (classOf cs a) × Marked nodes counts (classOf cs b)) → Joins nodes arguments counts cs next a b false cs next
+  pub join-clash : (kindOf nodes (classOf heads a) ≡ 0 → ⊥) × (kindOf nodes (classOf heads b) ≡ 0 → ⊥) → (symbolTest nodes (classOf heads a) (classOf heads b) ≡ false) ⊎ (Marked nodes counts (classOf heads a) × Marked nodes counts (classOf heads b)) → Joins nodes arguments counts heads next a b false heads next
   join-clash k (inl e) = join-differ (k .0) (k .1) e
   join-clash k (inr r) = join-closed (r .0) (r .1)
 
   -- Node y's head goes and node x's stays.
-  module _ (x y : ℕ) (o : Either a b x y) (ds next′ : List ℕ) (z : Goes nodes counts cs next (classOf cs y) (classOf cs x) ds next′) where
+  module _ (x y : ℕ) (o : Either a b x y) (ds next′ : List ℕ) (z : Goes nodes counts heads next (classOf heads y) (classOf heads x) ds next′) where
     -- the two are nodes
     hx : x < nodeCount nodes
     hx = either-both (λ i. i < nodeCount nodes) o (m .first) (m .second) .0
@@ -331,33 +331,33 @@ module _ {nodes arguments counts cs next : List ℕ} {a b : ℕ} (m : Meeting no
     hy = either-both (λ i. i < nodeCount nodes) o (m .first) (m .second) .1
 
     -- their heads differ
-    two : classOf cs x ≡ classOf cs y → ⊥
-    two = either-between (λ i j. classOf cs i ≡ classOf cs j → ⊥) (λ i j f e. f (sym e)) o (m .apart)
+    two : classOf heads x ≡ classOf heads y → ⊥
+    two = either-between (λ i j. classOf heads i ≡ classOf heads j → ⊥) (λ i j f e. f (sym e)) o (m .apart)
 
     -- their classes are joined
-    joined-so : ds ≡ join cs (x, y)
+    joined-so : ds ≡ join heads (x, y)
     unfolding join
     joined-so = z .merged .renames
 
     -- closed applications keep their heads, where the two heads are not both closed
-    keeps : (Marked nodes counts (classOf cs y) → Marked nodes counts (classOf cs x) → ⊥) → KeepsClosed nodes counts cs ds
-    keeps f i k = go (ℕ-discrete (classOf cs i) (classOf cs y))
+    keeps : (Marked nodes counts (classOf heads y) → Marked nodes counts (classOf heads x) → ⊥) → KeepsClosed nodes counts heads ds
+    keeps f i k = go (ℕ-discrete (classOf heads i) (classOf heads y))
       where
-        go : Dec (classOf cs i ≡ classOf cs y) → classOf ds i ≡ classOf cs i
+        go : Dec (classOf heads i ≡ classOf heads y) → classOf ds i ≡ classOf heads i
         go (yes e) =
-            let r : Marked nodes counts (classOf cs y) = rw (← e) (m .joinable .closed .closed i k) in
-            absurd (f r (weaker-closed nodes counts (classOf cs y) (classOf cs x) (partition .below x hx) (z .weaker) r))
-        go (no e) = rw joined-so (join-other cs x y i (in-list partition i (k .node)) e)
+            let r : Marked nodes counts (classOf heads y) = rw (← e) (m .joinable .closed .closed i k) in
+            absurd (f r (weaker-closed nodes counts (classOf heads y) (classOf heads x) (partition .below x hx) (z .weaker) r))
+        go (no e) = rw joined-so (join-other heads x y i (in-list partition i (k .node)) e)
 
     -- the pair is done
-    pair-done : (es : List ℕ) → ((i j : ℕ) → i < length (join cs (x, y)) → j < length (join cs (x, y)) → classOf (join cs (x, y)) i ≡ classOf (join cs (x, y)) j → classOf es i ≡ classOf es j) → classOf es a ≡ classOf es b
+    pair-done : (es : List ℕ) → ((i j : ℕ) → i < length (join heads (x, y)) → j < length (join heads (x, y)) → classOf (join heads (x, y)) i ≡ classOf (join heads (x, y)) j → classOf es i ≡ classOf es j) → classOf es a ≡ classOf es b
     pair-done es v =
         either-between (λ i j. classOf es i ≡ classOf es j) (λ i j e. sym e) (either-back o)
-        (v x y (rw (join-length cs (x, y)) (in-list partition x hx)) (rw (join-length cs (x, y)) (in-list partition y hy)) (united cs x y (in-list partition x hx) (in-list partition y hy)))
+        (v x y (rw (join-length heads (x, y)) (in-list partition x hx)) (rw (join-length heads (x, y)) (in-list partition y hy)) (united heads x y (in-list partition x hx) (in-list partition y hy)))
 
-    module _ (new : List (ℕ × ℕ)) (meet : (todo : List (ℕ × ℕ)) → HeadsMeet ns cs x y (new ++ todo)) (want : (ps : List (ℕ × ℕ)) → Joined ns ps (classOf cs a) (classOf cs b) → Wanted ns ps new) where
+    module _ (new : List (ℕ × ℕ)) (meet : (todo : List (ℕ × ℕ)) → HeadsMeet ns heads x y (new ++ todo)) (want : (ps : List (ℕ × ℕ)) → Joined ns ps (classOf heads a) (classOf heads b) → Wanted ns ps new) where
       -- the new pairs are joined
-      wanted-after : (ps todo : List (ℕ × ℕ)) → ClosureUpTo ns ps cs ((a, b) ∷ todo) → Wanted ns ps (new ++ todo)
+      wanted-after : (ps todo : List (ℕ × ℕ)) → ClosureUpTo ns ps heads ((a, b) ∷ todo) → Wanted ns ps (new ++ todo)
       wanted-after ps todo c i j k = go (List·Memᴰ·append-cases new k)
         where
           go : List·Memᴰ (i, j) new ⊎ List·Memᴰ (i, j) todo → Joined ns ps i j
@@ -365,9 +365,9 @@ module _ {nodes arguments counts cs next : List ℕ} {a b : ℕ} (m : Meeting no
           go (inr q) = c .wanted i j (List·Memᴰ·tail q)
 
       -- the pair is traded for them
-      traded : (ps todo : List (ℕ × ℕ)) → ClosureUpTo ns ps cs ((a, b) ∷ todo) → ClosureUpTo ns ps (join cs (x, y)) (new ++ todo)
+      traded : (ps todo : List (ℕ × ℕ)) → ClosureUpTo ns ps heads ((a, b) ∷ todo) → ClosureUpTo ns ps (join heads (x, y)) (new ++ todo)
       traded ps todo c =
-          classes-joined ns ps cs x y ((a, b) ∷ todo) (new ++ todo) same-long (is-node nodes arguments x hx) (is-node nodes arguments y hy)
+          classes-joined ns ps heads x y ((a, b) ∷ todo) (new ++ todo) same-long (is-node nodes arguments x hx) (is-node nodes arguments y hy)
           (either-between (Joined ns ps) (λ i j q. back q) o (pair-joined ps todo c))
           (meet todo)
           (λ es v u. unites-front es a b todo (pair-done es v) (λ i j k. u i j (Memᴰ·append-right new k)))
@@ -375,60 +375,60 @@ module _ {nodes arguments counts cs next : List ℕ} {a b : ℕ} (m : Meeting no
           c
 
       -- the classes are made one
-      made-one : (Marked nodes counts (classOf cs y) → Marked nodes counts (classOf cs x) → ⊥) → Trades nodes arguments counts cs next a b new ds next′
+      made-one : (Marked nodes counts (classOf heads y) → Marked nodes counts (classOf heads x) → ⊥) → Trades nodes arguments counts heads next a b new ds next′
       made-one f =
           record {
-            partition = rw joined-so (join-keeps (nodeCount nodes) cs x y hx hy partition);
+            partition = rw joined-so (join-keeps (nodeCount nodes) heads x y hx hy partition);
             merges = rw (partition .size) at (one-merged (z .merged));
-            fewer = rw joined-so (join-lowers (nodeCount nodes) cs x y hx hy partition two);
-            heads = rw joined-so (join-heads partition x y hx);
+            fewer = rw joined-so (join-lowers (nodeCount nodes) heads x y hx hy partition two);
+            stay = rw joined-so (join-heads partition x y hx);
             kept = keeps f;
             trades = λ ps todo c. rw joined-so (traded ps todo c);
           }
 
     -- one of the heads is a variable
-    variable-goes : (kindOf nodes (classOf cs a) ≡ 0) ⊎ (kindOf nodes (classOf cs b) ≡ 0) → Trades nodes arguments counts cs next a b [] ds next′
-    variable-goes r = go (either-one (λ i. kindOf nodes (classOf cs i) ≡ 0) o r)
+    variable-goes : (kindOf nodes (classOf heads a) ≡ 0) ⊎ (kindOf nodes (classOf heads b) ≡ 0) → Trades nodes arguments counts heads next a b [] ds next′
+    variable-goes r = go (either-one (λ i. kindOf nodes (classOf heads i) ≡ 0) o r)
       where
-        goes : kindOf nodes (classOf cs y) ≡ 0 → Trades nodes arguments counts cs next a b [] ds next′
+        goes : kindOf nodes (classOf heads y) ≡ 0 → Trades nodes arguments counts heads next a b [] ds next′
         goes k =
-            made-one [] (λ todo. variable-meets ns cs x y (nameOf nodes (classOf cs y)) todo (variable-from nodes arguments (classOf cs y) (partition .below y hy) k)) (λ ps q i j n. absurd (List·Memᴰ·not-nil n)) (λ p q. p .applied k)
+            made-one [] (λ todo. variable-meets ns heads x y (nameOf nodes (classOf heads y)) todo (variable-from nodes arguments (classOf heads y) (partition .below y hy) k)) (λ ps q i j n. absurd (List·Memᴰ·not-nil n)) (λ p q. p .applied k)
 
-        go : (kindOf nodes (classOf cs x) ≡ 0) ⊎ (kindOf nodes (classOf cs y) ≡ 0) → Trades nodes arguments counts cs next a b [] ds next′
-        go (inl k) = goes (weaker-variable nodes counts (classOf cs y) (classOf cs x) (z .weaker) k)
+        go : (kindOf nodes (classOf heads x) ≡ 0) ⊎ (kindOf nodes (classOf heads y) ≡ 0) → Trades nodes arguments counts heads next a b [] ds next′
+        go (inl k) = goes (weaker-variable nodes counts (classOf heads y) (classOf heads x) (z .weaker) k)
         go (inr k) = goes k
 
-  module _ (ds next′ : List ℕ) (u : Goes nodes counts cs next (classOf cs a) (classOf cs b) ds next′ ⊎ Goes nodes counts cs next (classOf cs b) (classOf cs a) ds next′) where
+  module _ (ds next′ : List ℕ) (u : Goes nodes counts heads next (classOf heads a) (classOf heads b) ds next′ ⊎ Goes nodes counts heads next (classOf heads b) (classOf heads a) ds next′) where
     -- one of the heads is a variable
-    pub join-variable : (kindOf nodes (classOf cs a) ≡ 0) ⊎ (kindOf nodes (classOf cs b) ≡ 0) → Joins nodes arguments counts cs next a b true ds next′
+    pub join-variable : (kindOf nodes (classOf heads a) ≡ 0) ⊎ (kindOf nodes (classOf heads b) ≡ 0) → Joins nodes arguments counts heads next a b true ds next′
     join-variable k = done (go u)
       where
-        go : Goes nodes counts cs next (classOf cs a) (classOf cs b) ds next′ ⊎ Goes nodes counts cs next (classOf cs b) (classOf cs a) ds next′ → Trades nodes arguments counts cs next a b [] ds next′
+        go : Goes nodes counts heads next (classOf heads a) (classOf heads b) ds next′ ⊎ Goes nodes counts heads next (classOf heads b) (classOf heads a) ds next′ → Trades nodes arguments counts heads next a b [] ds next′
         go (inl z) = variable-goes b a swapped ds next′ z k
         go (inr z) = variable-goes a b straight ds next′ z k
 
-        done : Trades nodes arguments counts cs next a b [] ds next′ → Joins nodes arguments counts cs next a b true ds next′
+        done : Trades nodes arguments counts heads next a b [] ds next′ → Joins nodes arguments counts heads next a b true ds next′
         done t =
             let f = t .fewer in
             record {
               partition = t .partition;
               merges = t .merges;
               fewer = omega (arith, f);
-              heads = t .heads;
+              stay = t .stay;
               kept = t .kept;
               done = λ e ps todo c. t .trades ps todo c;
               clashes = λ e. absurd (false≢true (sym e));
             }
 
   -- The heads are applications of one symbol.
-  module _ (s : OneSymbolHeads nodes arguments counts cs a b) where
+  module _ (s : OneSymbolHeads nodes arguments counts heads a b) where
     -- The first head.
     abbrev g : ℕ
-    g = classOf cs a
+    g = classOf heads a
 
     -- The second head.
     abbrev h : ℕ
-    h = classOf cs b
+    h = classOf heads b
 
     -- the first is an application
     first-node : nodeAt ns g ≡ application (nameOf nodes g) (run nodes arguments g)
@@ -457,52 +457,52 @@ module _ {nodes arguments counts cs next : List ℕ} {a b : ℕ} (m : Meeting no
         by-arguments first-node second-node same-symbol q (pairs-zip nodes arguments (m .joinable .sections) g h (meeting-inside .0) (meeting-inside .1) one-count i j k)
 
     -- arguments at one place are made one
-    argument-link : {x y : ℕ} → Either a b x y → (es : List ℕ) → Unites es (argumentPairs nodes arguments g h) → (i j : ℕ) → List·Memᴰ (i, j) (zip (run nodes arguments (classOf cs y)) (run nodes arguments (classOf cs x))) → classOf es i ≡ classOf es j
+    argument-link : {x y : ℕ} → Either a b x y → (es : List ℕ) → Unites es (argumentPairs nodes arguments g h) → (i j : ℕ) → List·Memᴰ (i, j) (zip (run nodes arguments (classOf heads y)) (run nodes arguments (classOf heads x))) → classOf es i ≡ classOf es j
     argument-link straight es u i j k =
         sym (u j i (zip-pairs nodes arguments (m .joinable .sections) g h (meeting-inside .0) (meeting-inside .1) one-count j i (zip-back (run nodes arguments h) (run nodes arguments g) i j k)))
     argument-link swapped es u i j k =
         u i j (zip-pairs nodes arguments (m .joinable .sections) g h (meeting-inside .0) (meeting-inside .1) one-count i j k)
 
-    module _ (x y : ℕ) (o : Either a b x y) (ds next′ : List ℕ) (z : Goes nodes counts cs next (classOf cs y) (classOf cs x) ds next′) where
+    module _ (x y : ℕ) (o : Either a b x y) (ds next′ : List ℕ) (z : Goes nodes counts heads next (classOf heads y) (classOf heads x) ds next′) where
       -- the head that goes meets the one that stays
-      heads-meet : (todo : List (ℕ × ℕ)) → HeadsMeet ns cs x y (argumentPairs nodes arguments g h ++ todo)
+      heads-meet : (todo : List (ℕ × ℕ)) → HeadsMeet ns heads x y (argumentPairs nodes arguments g h ++ todo)
       heads-meet todo f us e =
-          let l = either-both (λ i. classOf cs i < nodeCount nodes) o (meeting-inside .0) (meeting-inside .1) in
-          let k = either-both (λ i. kindOf nodes (classOf cs i) ≡ 0 → ⊥) o (s .first-applied) (s .second-applied) in
-          let n : nameOf nodes (classOf cs x) ≡ nameOf nodes (classOf cs y) = either-between (λ i j. nameOf nodes (classOf cs i) ≡ nameOf nodes (classOf cs j)) (λ i j q. sym q) o one-name in
-          let c : length (run nodes arguments (classOf cs x)) ≡ length (run nodes arguments (classOf cs y)) = either-between (λ i j. length (run nodes arguments (classOf cs i)) ≡ length (run nodes arguments (classOf cs j))) (λ i j q. sym q) o (same-symbol .1) in
-          let r = from-application nodes arguments (classOf cs y) (l .1) f us e in (
-            run nodes arguments (classOf cs x),
-            application-from nodes arguments (classOf cs x) (l .0) (k .0) ∙ ap (λ (q : ℕ). application q (run nodes arguments (classOf cs x))) (n ∙ sym (r .1)),
+          let l = either-both (λ i. classOf heads i < nodeCount nodes) o (meeting-inside .0) (meeting-inside .1) in
+          let k = either-both (λ i. kindOf nodes (classOf heads i) ≡ 0 → ⊥) o (s .first-applied) (s .second-applied) in
+          let n : nameOf nodes (classOf heads x) ≡ nameOf nodes (classOf heads y) = either-between (λ i j. nameOf nodes (classOf heads i) ≡ nameOf nodes (classOf heads j)) (λ i j q. sym q) o one-name in
+          let c : length (run nodes arguments (classOf heads x)) ≡ length (run nodes arguments (classOf heads y)) = either-between (λ i j. length (run nodes arguments (classOf heads i)) ≡ length (run nodes arguments (classOf heads j))) (λ i j q. sym q) o (same-symbol .1) in
+          let r = from-application nodes arguments (classOf heads y) (l .1) f us e in (
+            run nodes arguments (classOf heads x),
+            application-from nodes arguments (classOf heads x) (l .0) (k .0) ∙ ap (λ (q : ℕ). application q (run nodes arguments (classOf heads x))) (n ∙ sym (r .1)),
             ap length (r .2) ∙ sym c,
             λ i j q es v u. argument-link o es (λ p t w. u p t (Memᴰ·append-left todo w)) i j (rw (r .2) at q),
           )
 
       -- the classes are made one
-      applications-made-one : Trades nodes arguments counts cs next a b (argumentPairs nodes arguments g h) ds next′
+      applications-made-one : Trades nodes arguments counts heads next a b (argumentPairs nodes arguments g h) ds next′
       applications-made-one =
           made-one x y o ds next′ z (argumentPairs nodes arguments g h) heads-meet arguments-wanted
-          (λ p q. either-between (λ i j. Marked nodes counts (classOf cs i) → Marked nodes counts (classOf cs j) → ⊥) (λ i j f k l. f l k) o (s .not-both) q p)
+          (λ p q. either-between (λ i j. Marked nodes counts (classOf heads i) → Marked nodes counts (classOf heads j) → ⊥) (λ i j f k l. f l k) o (s .not-both) q p)
 
     -- their classes are made one
-    pub applications-united : (ds next′ : List ℕ) → Goes nodes counts cs next g h ds next′ ⊎ Goes nodes counts cs next h g ds next′ → Trades nodes arguments counts cs next a b (argumentPairs nodes arguments g h) ds next′
+    pub applications-united : (ds next′ : List ℕ) → Goes nodes counts heads next g h ds next′ ⊎ Goes nodes counts heads next h g ds next′ → Trades nodes arguments counts heads next a b (argumentPairs nodes arguments g h) ds next′
     applications-united ds next′ (inl z) = applications-made-one b a swapped ds next′ z
     applications-united ds next′ (inr z) = applications-made-one a b straight ds next′ z
 
-    module _ (ds next₁ : List ℕ) (t : Trades nodes arguments counts cs next a b (argumentPairs nodes arguments g h) ds next₁) (j : ℕ) (cs′ next′ : List ℕ) (v : Advances nodes arguments counts ds next₁ (firstPairs nodes arguments g h j) cs′ next′) where
+    module _ (ds next₁ : List ℕ) (t : Trades nodes arguments counts heads next a b (argumentPairs nodes arguments g h) ds next₁) (j : ℕ) (heads′ next′ : List ℕ) (v : Advances nodes arguments counts ds next₁ (firstPairs nodes arguments g h j) heads′ next′) where
       -- what joining the next pair of arguments needs
-      pub joinable-on : Joinable nodes arguments counts cs′ next′
+      pub joinable-on : Joinable nodes arguments counts heads′ next′
       joinable-on =
           record {
             sections = m .joinable .sections;
             counts-right = m .joinable .counts-right;
             partition = v .partition;
-            closed = closed-kept nodes arguments counts cs cs′ (m .joinable .closed) (λ i k. v .kept i k ∙ t .kept i k);
+            closed = closed-kept nodes arguments counts heads heads′ (m .joinable .closed) (λ i k. v .kept i k ∙ t .kept i k);
             trailed = merges-trailed (m .joinable .trailed) (merges-on (t .merges) (v .merges));
           }
 
       -- all pairs of arguments are joined
-      pub join-applications : j ≡ countOf nodes g → Joins nodes arguments counts cs next a b true cs′ next′
+      pub join-applications : j ≡ countOf nodes g → Joins nodes arguments counts heads next a b true heads′ next′
       unfolding argumentPairs
       join-applications q =
           let e = t .fewer in
@@ -511,15 +511,15 @@ module _ {nodes arguments counts cs next : List ℕ} {a b : ℕ} (m : Meeting no
             partition = v .partition;
             merges = merges-on (t .merges) (v .merges);
             fewer = omega (arith, e, f);
-            heads = heads-on (nodeCount nodes) cs ds cs′ (v .partition) (t .heads) (v .heads);
+            stay = heads-on (nodeCount nodes) heads ds heads′ (v .partition) (t .stay) (v .stay);
             kept = λ i k. v .kept i k ∙ t .kept i k;
             done = λ r ps todo c. rw q at (v .done) ps todo (t .trades ps todo c);
             clashes = λ r. absurd (false≢true (sym r));
           }
 
       -- a pair of arguments clashes
-      pub join-stopped : j < countOf nodes g → (x y : ℕ) (fine : Bool) (cs″ next″ : List ℕ) → x ≡ argumentOf nodes arguments g j → y ≡ argumentOf nodes arguments h j → fine ≡ false → Joins nodes arguments counts cs′ next′ x y fine cs″ next″ → Joins nodes arguments counts cs next a b false cs″ next″
-      join-stopped l x y fine cs″ next″ dx dy r w =
+      pub join-stopped : j < countOf nodes g → (x y : ℕ) (fine : Bool) (heads″ next″ : List ℕ) → x ≡ argumentOf nodes arguments g j → y ≡ argumentOf nodes arguments h j → fine ≡ false → Joins nodes arguments counts heads′ next′ x y fine heads″ next″ → Joins nodes arguments counts heads next a b false heads″ next″
+      join-stopped l x y fine heads″ next″ dx dy r w =
           let e = t .fewer in
           let f = v .fewer in
           let k = w .fewer in
@@ -527,8 +527,8 @@ module _ {nodes arguments counts cs next : List ℕ} {a b : ℕ} (m : Meeting no
             partition = w .partition;
             merges = merges-on (t .merges) (merges-on (v .merges) (w .merges));
             fewer = omega (arith, e, f, k);
-            heads = heads-on (nodeCount nodes) cs ds cs″ (w .partition) (t .heads) (heads-on (nodeCount nodes) ds cs′ cs″ (w .partition) (v .heads) (w .heads));
+            stay = heads-on (nodeCount nodes) heads ds heads″ (w .partition) (t .stay) (heads-on (nodeCount nodes) ds heads′ heads″ (w .partition) (v .stay) (w .stay));
             kept = λ i k. w .kept i k ∙ v .kept i k ∙ t .kept i k;
             done = λ q. absurd (false≢true q);
-            clashes = λ q ps todo c. arguments-clash nodes arguments counts g h ds next₁ j cs′ next′ v x y fine cs″ next″ dx dy w r ps todo l (t .trades ps todo c);
+            clashes = λ q ps todo c. arguments-clash nodes arguments counts g h ds next₁ j heads′ next′ v x y fine heads″ next″ dx dy w r ps todo l (t .trades ps todo c);
           }

@@ -49,8 +49,8 @@ stands (g ∷ order) h = go (ℕ-discrete g h) (stands order h)
         nowhere (suc q) l e = m (q, omega arith, e)
 
 -- one node more behind an order
-listed-more : (nodes arguments : List ℕ) (due : ℕ → ℕ) (cs order : List ℕ) → Listed nodes arguments due cs order → (h : ℕ) → h < nodeCount nodes → 0 < due h → ((q : ℕ) → q < length order → word order q ≡ h → ⊥) → ((j : ℕ) → j < due h → Met due order (length order) (classOf cs (argumentOf nodes arguments h j))) → Listed nodes arguments due cs (order ++ (h ∷ []))
-listed-more nodes arguments due cs order l h inside some new first = record { node = node; compound = compound; once = once; first = λ p q. firsts p q (at p q) }
+listed-more : (nodes arguments : List ℕ) (due : ℕ → ℕ) (heads order : List ℕ) → Listed nodes arguments due heads order → (h : ℕ) → h < nodeCount nodes → 0 < due h → ((q : ℕ) → q < length order → word order q ≡ h → ⊥) → ((j : ℕ) → j < due h → Met due order (length order) (classOf heads (argumentOf nodes arguments h j))) → Listed nodes arguments due heads (order ++ (h ∷ []))
+listed-more nodes arguments due heads order l h inside some new first = record { node = node; compound = compound; once = once; first = λ p q. firsts p q (at p q) }
   where
     longer : length (order ++ (h ∷ [])) ≡ suc (length order)
     longer = let e = length-append order (h ∷ []) in omega (arith, e)
@@ -89,30 +89,30 @@ listed-more nodes arguments due cs order l h inside some new first = record { no
         go (inl r) = l .once p q k r (sym (old p (omega arith)) ∙ e ∙ old q r)
         go (inr r) = new p (omega arith) (sym (old p (omega arith)) ∙ e ∙ ap (word (order ++ (h ∷ []))) r ∙ last)
 
-    firsts : (p : ℕ) → p < length (order ++ (h ∷ [])) → (p < length order) ⊎ (p ≡ length order) → (j : ℕ) → j < due (word (order ++ (h ∷ [])) p) → Met due (order ++ (h ∷ [])) p (classOf cs (argumentOf nodes arguments (word (order ++ (h ∷ [])) p) j))
+    firsts : (p : ℕ) → p < length (order ++ (h ∷ [])) → (p < length order) ⊎ (p ≡ length order) → (j : ℕ) → j < due (word (order ++ (h ∷ [])) p) → Met due (order ++ (h ∷ [])) p (classOf heads (argumentOf nodes arguments (word (order ++ (h ∷ [])) p) j))
     firsts p q (inl r) = rw (old p r) (λ j b. met-longer due order h p _ (omega arith) (l .first p r j b))
     firsts p q (inr r) = rw (r, last) (λ j b. met-longer due order h (length order) _ (omega arith) (first j b))
 
-module _ (nodes arguments : List ℕ) (s : Sections nodes arguments) (ps : List (ℕ × ℕ)) (inside : Inside (nodesFrom nodes arguments) ps) (a b : ℕ) (inside′ : Inside (nodesFrom nodes arguments) ((a, b) ∷ ps)) (old : List ℕ) (c : IsClosure (nodesFrom nodes arguments) ps (classOf old)) (cs : List ℕ) (c′ : IsClosure (nodesFrom nodes arguments) ((a, b) ∷ ps) (classOf cs)) where
+module _ (nodes arguments : List ℕ) (s : Sections nodes arguments) (ps : List (ℕ × ℕ)) (inside : Inside (nodesFrom nodes arguments) ps) (a b : ℕ) (inside′ : Inside (nodesFrom nodes arguments) ((a, b) ∷ ps)) (old : List ℕ) (c : IsClosure (nodesFrom nodes arguments) ps (classOf old)) (heads : List ℕ) (c′ : IsClosure (nodesFrom nodes arguments) ((a, b) ∷ ps) (classOf heads)) where
   abbrev ns : List Node
   ns = nodesFrom nodes arguments
 
   -- nodes of one head before have one now
-  pub still-one : (i j : ℕ) → i < length ns → j < length ns → classOf old i ≡ classOf old j → classOf cs i ≡ classOf cs j
+  pub still-one : (i j : ℕ) → i < length ns → j < length ns → classOf old i ≡ classOf old j → classOf heads i ≡ classOf heads j
   still-one i j p q e =
-      joined-head ns (sections-well-formed nodes arguments s) ((a, b) ∷ ps) inside′ (classOf cs) c′
+      joined-head ns (sections-well-formed nodes arguments s) ((a, b) ∷ ps) inside′ (classOf heads) c′
       (more-joined ((a, b) ∷ ps) (λ r m. List·Memᴰ·tail m) (on (rw e at (c .joined i p)) (back (c .joined j q))))
 
-  module _ (counts : List ℕ) (k : Counts nodes arguments counts (nodeCount nodes)) (closed : ClosedHeads nodes arguments counts cs) (below : OrderedBelow nodes arguments (word counts) cs a) where
+  module _ (counts : List ℕ) (k : Counts nodes arguments counts (nodeCount nodes)) (closed : ClosedHeads nodes arguments counts heads) (below : OrderedBelow nodes arguments (word counts) heads a) where
     -- The head of node i is met in the order of what the pair leads to.
     abbrev Reached : ℕ → Type 0
-    Reached i = Met (word counts) (below .order) (length (below .order)) (classOf cs i)
+    Reached i = Met (word counts) (below .order) (length (below .order)) (classOf heads i)
 
     -- an argument of a node that is met, if it is looked at
     looked-reached : (g : ℕ) → Met (word counts) (below .order) (length (below .order)) g → (j : ℕ) → j < word counts g → Reached (argumentOf nodes arguments g j)
     looked-reached g (leaf e) j l = absurd (omega arith)
     looked-reached g (before q b e) j l =
-        met-later (word counts) (below .order) q (length (below .order)) (classOf cs (argumentOf nodes arguments g j)) (omega arith) (rw e at (below .listed .first q b) j l)
+        met-later (word counts) (below .order) q (length (below .order)) (classOf heads (argumentOf nodes arguments g j)) (omega arith) (rw e at (below .listed .first q b) j l)
 
     -- any argument: that of a closed application has a closed head
     reached-argument : (g : ℕ) → g < nodeCount nodes → Met (word counts) (below .order) (length (below .order)) g → (j : ℕ) → j < countOf nodes g → Reached (argumentOf nodes arguments g j)
@@ -124,9 +124,9 @@ module _ (nodes arguments : List ℕ) (s : Sections nodes arguments) (ps : List 
 
     -- Nodes i and j had one head, or have one that is reached.
     abbrev Together : ℕ → ℕ → Type 0
-    Together i j = (classOf old i ≡ classOf old j) ⊎ (Reached i × Reached j × (classOf cs i ≡ classOf cs j))
+    Together i j = (classOf old i ≡ classOf old j) ⊎ (Reached i × Reached j × (classOf heads i ≡ classOf heads j))
 
-    reached-same : (i j : ℕ) → classOf cs i ≡ classOf cs j → Reached i → Reached j
+    reached-same : (i j : ℕ) → classOf heads i ≡ classOf heads j → Reached i → Reached j
     reached-same i j e r = rw e at r
 
     together-on : (i j k : ℕ) → i < length ns → j < length ns → k < length ns → Together i j → Together j k → Together i k
@@ -142,7 +142,7 @@ module _ (nodes arguments : List ℕ) (s : Sections nodes arguments) (ps : List 
     -- the pair, or a pair before it
     given-together : (i j : ℕ) → List·Memᴰ {A = ℕ × ℕ} (i, j) ((a, b) ∷ ps) → Together i j
     given-together i j (List·Memᴰ·head e) =
-        let d : classOf cs a ≡ classOf cs b = c′ .given a b (List·Memᴰ·head refl) in
+        let d : classOf heads a ≡ classOf heads b = c′ .given a b (List·Memᴰ·head refl) in
         let x : a ≡ i = sym (ap (λ (r : ℕ × ℕ). r .0) e) in
         let y : b ≡ j = sym (ap (λ (r : ℕ × ℕ). r .1) e) in
         inr (rw x at (below .from), rw y at (reached-same a b d (below .from)), c′ .given i j (List·Memᴰ·head e))
@@ -152,12 +152,12 @@ module _ (nodes arguments : List ℕ) (s : Sections nodes arguments) (ps : List 
     argument-reached : (i f : ℕ) (us vs : List ℕ) → i < length ns → nodeAt ns i ≡ application f us → length us ≡ length vs → Reached i → (x y : ℕ) → List·Memᴰ (x, y) (zip us vs) → Reached x
     argument-reached i f us vs p d l r x y m = go (c′ .applications i f us p d)
       where
-        go : HeadFits ns (classOf cs) i f us → Reached x
+        go : HeadFits ns (classOf heads) i f us → Reached x
         go h =
             let t = zip-through us (h .arguments) vs (h .as-long) (sym (h .as-long) ∙ l) x y m in
-            let g : classOf cs i < nodeCount nodes = counted nodes arguments (classOf cs i) (closure-inside ns (sections-well-formed nodes arguments s) ((a, b) ∷ ps) inside′ (classOf cs) c′ i p) in
-            let q = argument-place nodes arguments s (classOf cs i) g f (h .arguments) (h .applied) (t .0) (zip-right us (h .arguments) x (t .0) (t .1)) in
-            reached-same (argumentOf nodes arguments (classOf cs i) (q .0)) x (ap (classOf cs) (sym (q .2)) ∙ sym (h .one-head x (t .0) (t .1))) (reached-argument (classOf cs i) g r (q .0) (q .1))
+            let g : classOf heads i < nodeCount nodes = counted nodes arguments (classOf heads i) (closure-inside ns (sections-well-formed nodes arguments s) ((a, b) ∷ ps) inside′ (classOf heads) c′ i p) in
+            let q = argument-place nodes arguments s (classOf heads i) g f (h .arguments) (h .applied) (t .0) (zip-right us (h .arguments) x (t .0) (t .1)) in
+            reached-same (argumentOf nodes arguments (classOf heads i) (q .0)) x (ap (classOf heads) (sym (q .2)) ∙ sym (h .one-head x (t .0) (t .1))) (reached-argument (classOf heads i) g r (q .0) (q .1))
 
     -- joined nodes are
     joined-together : {i j : ℕ} → Joined ns ((a, b) ∷ ps) i j → Together i j
@@ -171,7 +171,7 @@ module _ (nodes arguments : List ℕ) (s : Sections nodes arguments) (ps : List 
             inl
             (joined-head ns (sections-well-formed nodes arguments s) ps inside (classOf old) c (by-arguments d e l (on (rw z at (c .joined i p)) (back (c .joined j r))) m))
         go (p, r) (inr (v, w, z)) =
-            let o : classOf cs x ≡ classOf cs y = joined-head ns (sections-well-formed nodes arguments s) ((a, b) ∷ ps) inside′ (classOf cs) c′ (by-arguments d e l q m) in
+            let o : classOf heads x ≡ classOf heads y = joined-head ns (sections-well-formed nodes arguments s) ((a, b) ∷ ps) inside′ (classOf heads) c′ (by-arguments d e l q m) in
             let t = argument-reached i f us vs p d (l .1) v x y m in
             inr (t, reached-same x y o t, o)
     joined-together (same p) = inl refl
@@ -185,42 +185,42 @@ module _ (nodes arguments : List ℕ) (s : Sections nodes arguments) (ps : List 
         let y = joined-inside ns (sections-well-formed nodes arguments s) ((a, b) ∷ ps) inside′ q in
         together-on i j k (x .0) (x .1) (y .1) (joined-together p) (joined-together q)
 
-    module _ (partition : Partition (nodeCount nodes) cs) (heads : (i : ℕ) → i < nodeCount nodes → classOf old (classOf cs i) ≡ classOf cs i) where
+    module _ (partition : Partition (nodeCount nodes) heads) (were-heads : (i : ℕ) → i < nodeCount nodes → classOf old (classOf heads i) ≡ classOf heads i) where
       -- a node's head is as it was, or reached
-      kept-or-reached : (i : ℕ) → i < nodeCount nodes → (classOf old i ≡ classOf cs i) ⊎ Reached i
+      kept-or-reached : (i : ℕ) → i < nodeCount nodes → (classOf old i ≡ classOf heads i) ⊎ Reached i
       kept-or-reached i p = go (joined-together (c′ .joined i (is-node nodes arguments i p)))
         where
-          go : Together i (classOf cs i) → (classOf old i ≡ classOf cs i) ⊎ Reached i
-          go (inl e) = inl (e ∙ heads i p)
+          go : Together i (classOf heads i) → (classOf old i ≡ classOf heads i) ⊎ Reached i
+          go (inl e) = inl (e ∙ were-heads i p)
           go (inr (x, y, e)) = inr x
 
       module _ (earlier : List ℕ) (o : Ordered nodes arguments (word counts) old earlier) where
         -- An order that has all that is reached, and the first p of the order before that are heads still.
         record Mended (p : ℕ) (order : List ℕ) : Type 0 where
-          listed : Listed nodes arguments (word counts) cs order
+          listed : Listed nodes arguments (word counts) heads order
           reached : (g : ℕ) → Met (word counts) (below .order) (length (below .order)) g → Met (word counts) order (length order) g
-          kept : (q : ℕ) → q < p → classOf cs (word earlier q) ≡ word earlier q → Met (word counts) order (length order) (word earlier q)
+          kept : (q : ℕ) → q < p → classOf heads (word earlier q) ≡ word earlier q → Met (word counts) order (length order) (word earlier q)
 
         -- what was met before place p is met
-        mended-met : (p : ℕ) (order : List ℕ) → Mended p order → (i : ℕ) → i < nodeCount nodes → Met (word counts) earlier p (classOf old i) → Met (word counts) order (length order) (classOf cs i)
+        mended-met : (p : ℕ) (order : List ℕ) → Mended p order → (i : ℕ) → i < nodeCount nodes → Met (word counts) earlier p (classOf old i) → Met (word counts) order (length order) (classOf heads i)
         mended-met p order m i l t = go (kept-or-reached i l) t
           where
-            go : (classOf old i ≡ classOf cs i) ⊎ Reached i → Met (word counts) earlier p (classOf old i) → Met (word counts) order (length order) (classOf cs i)
-            go (inr r) u = m .reached (classOf cs i) r
+            go : (classOf old i ≡ classOf heads i) ⊎ Reached i → Met (word counts) earlier p (classOf old i) → Met (word counts) order (length order) (classOf heads i)
+            go (inr r) u = m .reached (classOf heads i) r
             go (inl e) (leaf z) = leaf (rw e at z)
             go (inl e) (before q k z) =
-                let y : word earlier q ≡ classOf cs i = z ∙ e in
-                rw y at (m .kept q k (ap (classOf cs) y ∙ partition .own i l ∙ sym y))
+                let y : word earlier q ≡ classOf heads i = z ∙ e in
+                rw y at (m .kept q k (ap (classOf heads) y ∙ partition .own i l ∙ sym y))
 
         -- no place of the order before is passed yet
         mended-none : Mended 0 (below .order)
         mended-none = record { listed = below .listed; reached = λ g m. m; kept = λ q l. absurd (omega arith) }
 
         -- what stands at a place is no head any more, or is met
-        mended-passed : (p : ℕ) (order : List ℕ) → Mended p order → (classOf cs (word earlier p) ≡ word earlier p → Met (word counts) order (length order) (word earlier p)) → Mended (suc p) order
+        mended-passed : (p : ℕ) (order : List ℕ) → Mended p order → (classOf heads (word earlier p) ≡ word earlier p → Met (word counts) order (length order) (word earlier p)) → Mended (suc p) order
         mended-passed p order m t = record { listed = m .listed; reached = m .reached; kept = λ q l. go q l (decLt q p) }
           where
-            go : (q : ℕ) → q < suc p → Dec (q < p) → classOf cs (word earlier q) ≡ word earlier q → Met (word counts) order (length order) (word earlier q)
+            go : (q : ℕ) → q < suc p → Dec (q < p) → classOf heads (word earlier q) ≡ word earlier q → Met (word counts) order (length order) (word earlier q)
             go q l (yes k) = m .kept q k
             go q l (no k) = let e : q ≡ p = omega arith in rw e t
 
@@ -229,7 +229,7 @@ module _ (nodes arguments : List ℕ) (s : Sections nodes arguments) (ps : List 
         mended-put p order l m new =
             mended-passed p (order ++ (word earlier p ∷ []))
             (record {
-              listed = listed-more nodes arguments (word counts) cs order (m .listed) (word earlier p) (o .listed .node p l) (o .listed .compound p l) new (λ j q. mended-met p order m (argumentOf nodes arguments (word earlier p) j) (looked-node nodes arguments s counts k (word earlier p) j (o .listed .node p l) q) (o .listed .first p l j q));
+              listed = listed-more nodes arguments (word counts) heads order (m .listed) (word earlier p) (o .listed .node p l) (o .listed .compound p l) new (λ j q. mended-met p order m (argumentOf nodes arguments (word earlier p) j) (looked-node nodes arguments s counts k (word earlier p) j (o .listed .node p l) q) (o .listed .first p l j q));
               reached = λ g r. still g (m .reached g r);
               kept = λ q k e. still (word earlier q) (m .kept q k e);
             })
@@ -244,9 +244,9 @@ module _ (nodes arguments : List ℕ) (s : Sections nodes arguments) (ps : List 
 
         -- one place more
         mended-next : (p : ℕ) → p < length earlier → (order : List ℕ) × Mended p order → (order : List ℕ) × Mended (suc p) order
-        mended-next p l (order, m) = go (ℕ-discrete (classOf cs (word earlier p)) (word earlier p)) (stands order (word earlier p))
+        mended-next p l (order, m) = go (ℕ-discrete (classOf heads (word earlier p)) (word earlier p)) (stands order (word earlier p))
           where
-            go : Dec (classOf cs (word earlier p) ≡ word earlier p) → Dec ((q : ℕ) × (q < length order) × (word order q ≡ word earlier p)) → (order : List ℕ) × Mended (suc p) order
+            go : Dec (classOf heads (word earlier p) ≡ word earlier p) → Dec ((q : ℕ) × (q < length order) × (word order q ≡ word earlier p)) → (order : List ℕ) × Mended (suc p) order
             go (no n) r = (order, mended-passed p order m (λ e. absurd (n e)))
             go (yes e) (yes r) = (order, mended-passed p order m (λ z. before (r .0) (r .1) (r .2)))
             go (yes e) (no n) = (order ++ (word earlier p ∷ []), mended-put p order l m (λ q k z. n (q, k, z)))
@@ -256,7 +256,7 @@ module _ (nodes arguments : List ℕ) (s : Sections nodes arguments) (ps : List 
         mended-to (suc p) l = mended-next p (omega arith) (mended-to p (omega arith))
 
         -- the order mended
-        pub mended : (order : List ℕ) × Ordered nodes arguments (word counts) cs order
+        pub mended : (order : List ℕ) × Ordered nodes arguments (word counts) heads order
         mended =
             let r = mended-to (length earlier) (omega arith) in (
               r .0,

@@ -46,11 +46,11 @@ written-range n l i a h b r k q = go (written l i a k h)
     go (other d w) = let z = r k q in omega (arith, w, z)
 
 -- a visit that ends at a cycle
-pub visited-cycle : {nodes arguments cs marks later order : List ℕ} {due : ℕ → ℕ} {h : ℕ} → Looped nodes arguments due cs → Visited nodes arguments due cs marks h Cycle later order
+pub visited-cycle : {nodes arguments heads marks later order : List ℕ} {due : ℕ → ℕ} {h : ℕ} → Looped nodes arguments due heads → Visited nodes arguments due heads marks h Cycle later order
 visited-cycle l = record { cycle = λ e. l; counted = λ c e. absurd (let z : _≡_ {A = ℕ} 0 1 = cc in omega arith) }
 
 -- a visit that passes
-pub visited-count : {nodes arguments cs marks later order : List ℕ} {due : ℕ → ℕ} {h c : ℕ} → Passed nodes arguments due cs marks h later order c → Visited nodes arguments due cs marks h (Count c) later order
+pub visited-count : {nodes arguments heads marks later order : List ℕ} {due : ℕ → ℕ} {h c : ℕ} → Passed nodes arguments due heads marks h later order c → Visited nodes arguments due heads marks h (Count c) later order
 visited-count {c = c} p =
     record {
       cycle = λ e. absurd (let z : _≡_ {A = ℕ} 0 1 = cc in omega arith);
@@ -58,14 +58,14 @@ visited-count {c = c} p =
     }
 
 -- the head of an argument is a node
-pub argument-head : (nodes arguments cs : List ℕ) (h j a r : ℕ) → Partition (nodeCount nodes) cs → h < nodeCount nodes → a ≡ argumentOf nodes arguments h j → a < h → r ≡ word cs a → (r ≡ classOf cs (argumentOf nodes arguments h j)) × (r < nodeCount nodes)
-argument-head nodes arguments cs h j a r p l e s q =
-    let e′ : r ≡ classOf cs (argumentOf nodes arguments h j) = q ∙ ap (λ (k : ℕ). classOf cs k) e in
+pub argument-head : (nodes arguments heads : List ℕ) (h j a r : ℕ) → Partition (nodeCount nodes) heads → h < nodeCount nodes → a ≡ argumentOf nodes arguments h j → a < h → r ≡ word heads a → (r ≡ classOf heads (argumentOf nodes arguments h j)) × (r < nodeCount nodes)
+argument-head nodes arguments heads h j a r p l e s q =
+    let e′ : r ≡ classOf heads (argumentOf nodes arguments h j) = q ∙ ap (λ (k : ℕ). classOf heads k) e in
     let b = p .below a (omega arith) in
     (e′, omega (arith, b, q))
 
 -- the head of a node is a node
-pub head-inside : {n : ℕ} {cs : List ℕ} {a h : ℕ} → Partition n cs → a < n → h ≡ classOf cs a → h < n
+pub head-inside : {n : ℕ} {heads : List ℕ} {a h : ℕ} → Partition n heads → a < n → h ≡ classOf heads a → h < n
 head-inside {a = a} p l e =
     let b = p .below a l in
     omega (arith, b, e)
@@ -110,11 +110,11 @@ not-due due marks g x e t a = go (eqb (word marks g) 2) refl (sym e ∙ t)
     go false q z = absurd (let y : due g ≡ 0 = eqb-true _ _ (not-false _ z) in omega (arith, y))
 
 -- a node that is not done is not listed
-other-listed : {nodes arguments cs marks order : List ℕ} {due : ℕ → ℕ} {count h m : ℕ} → Ordering nodes arguments due cs marks order count → word marks h ≡ m → (m ≡ 2 → ⊥) → (p : ℕ) → p < count → word order p ≡ h → ⊥
+other-listed : {nodes arguments heads marks order : List ℕ} {due : ℕ → ℕ} {count h m : ℕ} → Ordering nodes arguments due heads marks order count → word marks h ≡ m → (m ≡ 2 → ⊥) → (p : ℕ) → p < count → word order p ≡ h → ⊥
 other-listed {marks = marks} o e d p l q = d (sym e ∙ ap (λ (k : ℕ). word marks k) (sym q) ∙ o .listed p l .1)
 
 -- a node that is done, if arguments of it are looked at, is met
-settled-met : {nodes arguments cs marks order : List ℕ} {due : ℕ → ℕ} {count g : ℕ} → Ordering nodes arguments due cs marks order count → g < nodeCount nodes → Settled due marks g → Met due order count g
+settled-met : {nodes arguments heads marks order : List ℕ} {due : ℕ → ℕ} {count g : ℕ} → Ordering nodes arguments due heads marks order count → g < nodeCount nodes → Settled due marks g → Met due order count g
 settled-met {order = order} {due} {count} {g} o l s = go (ℕ-discrete (due g) 0)
   where
     go : Dec (due g ≡ 0) → Met due order count g
@@ -122,7 +122,7 @@ settled-met {order = order} {due} {count} {g} o l s = go (ℕ-discrete (due g) 0
     go (no d) = let f = o .done g l (s (omega arith)) in before (f .0) (f .1) (f .2)
 
 -- A node that is not done is put behind the others.
-module _ {nodes arguments cs marks order : List ℕ} {due : ℕ → ℕ} {count h : ℕ} (o : Ordering nodes arguments due cs marks order count) (node : h < nodeCount nodes) (not-done : word marks h ≡ 2 → ⊥) where
+module _ {nodes arguments heads marks order : List ℕ} {due : ℕ → ℕ} {count h : ℕ} (o : Ordering nodes arguments due heads marks order count) (node : h < nodeCount nodes) (not-done : word marks h ≡ 2 → ⊥) where
   within : h < length marks
   within = rw (o .marks-size) node
 
@@ -176,9 +176,9 @@ module _ {nodes arguments cs marks order : List ℕ} {due : ℕ → ℕ} {count 
   argument-met : (g : ℕ) → g < nodeCount nodes → Settled due marks g → Met due (set order count h) count g
   argument-met g l s = still-met count (omega arith) g (settled-met o l s)
 
-  behind-first : ((i : ℕ) → i < due h → classOf cs (argumentOf nodes arguments h i) < nodeCount nodes) → ((i : ℕ) → i < due h → Settled due marks (classOf cs (argumentOf nodes arguments h i))) → (p : ℕ) → p < count + 1 → (j : ℕ) → j < due (word (set order count h) p) → Met due (set order count h) p (classOf cs (argumentOf nodes arguments (word (set order count h) p) j))
+  behind-first : ((i : ℕ) → i < due h → classOf heads (argumentOf nodes arguments h i) < nodeCount nodes) → ((i : ℕ) → i < due h → Settled due marks (classOf heads (argumentOf nodes arguments h i))) → (p : ℕ) → p < count + 1 → (j : ℕ) → j < due (word (set order count h) p) → Met due (set order count h) p (classOf heads (argumentOf nodes arguments (word (set order count h) p) j))
   behind-first below settled =
-      below-more (λ p. (j : ℕ) → j < due (word (set order count h) p) → Met due (set order count h) p (classOf cs (argumentOf nodes arguments (word (set order count h) p) j))) count
+      below-more (λ p. (j : ℕ) → j < due (word (set order count h) p) → Met due (set order count h) p (classOf heads (argumentOf nodes arguments (word (set order count h) p) j))) count
       (λ p b. rw (stays p b) (λ j m. still-met p (omega arith) _ (o .first p b j m)))
       (rw newest (λ j m. argument-met _ (below j m) (settled j m)))
 
@@ -207,7 +207,7 @@ module _ {nodes arguments cs marks order : List ℕ} {due : ℕ → ℕ} {count 
       omega (arith, r, l)
 
   -- it is listed, where the heads of its arguments are
-  put-behind : 0 < due h → ((i : ℕ) → i < due h → classOf cs (argumentOf nodes arguments h i) < nodeCount nodes) → ((i : ℕ) → i < due h → Settled due marks (classOf cs (argumentOf nodes arguments h i))) → Ordering nodes arguments due cs (set marks h 2) (set order count h) (count + 1)
+  put-behind : 0 < due h → ((i : ℕ) → i < due h → classOf heads (argumentOf nodes arguments h i) < nodeCount nodes) → ((i : ℕ) → i < due h → Settled due marks (classOf heads (argumentOf nodes arguments h i))) → Ordering nodes arguments due heads (set marks h 2) (set order count h) (count + 1)
   put-behind some below settled =
       record {
         marks-size = length-set marks h 2 ∙ o .marks-size;
@@ -222,7 +222,7 @@ module _ {nodes arguments cs marks order : List ℕ} {due : ℕ → ℕ} {count 
       }
 
 -- A new node is opened.
-module _ {nodes arguments cs marks order : List ℕ} {due : ℕ → ℕ} {count h : ℕ} (o : Ordering nodes arguments due cs marks order count) (node : h < nodeCount nodes) (new : word marks h ≡ 0) where
+module _ {nodes arguments heads marks order : List ℕ} {due : ℕ → ℕ} {count h : ℕ} (o : Ordering nodes arguments due heads marks order count) (node : h < nodeCount nodes) (new : word marks h ≡ 0) where
   inside : h < length marks
   inside = rw (o .marks-size) node
 
@@ -255,7 +255,7 @@ module _ {nodes arguments cs marks order : List ℕ} {due : ℕ → ℕ} {count 
           go (other d w) = eq-eqb _ _ (w ∙ e)
 
   -- it is open, and none of its arguments is visited
-  pub opened : Turn nodes arguments due cs (set marks h 1) h (set marks h 1) order count 0
+  pub opened : Turn nodes arguments due heads (set marks h 1) h (set marks h 1) order count 0
   opened =
       record {
         ordering = record {
@@ -274,7 +274,7 @@ module _ {nodes arguments cs marks order : List ℕ} {due : ℕ → ℕ} {count 
       }
 
 -- A node that was new is open, and argument j of it is to be visited.
-module _ {nodes arguments counts cs marks order : List ℕ} {count h : ℕ} (v : Visiting nodes arguments counts cs marks order count h) (new : word marks h ≡ 0) {after then : List ℕ} {now j : ℕ} (t : Turn nodes arguments (word counts) cs (set marks h 1) h after then now j) where
+module _ {nodes arguments counts heads marks order : List ℕ} {count h : ℕ} (v : Visiting nodes arguments counts heads marks order count h) (new : word marks h ≡ 0) {after then : List ℕ} {now j : ℕ} (t : Turn nodes arguments (word counts) heads (set marks h 1) h after then now j) where
   there : h < length marks
   there = rw (v .ordering .marks-size) (v .node)
 
@@ -300,7 +300,7 @@ module _ {nodes arguments counts cs marks order : List ℕ} {count h : ℕ} (v :
       count-less (isNew marks) (isNew after) (nodeCount nodes) (λ k l e. eq-eqb _ _ (was-new k l (eqb-true _ _ e))) h (v .node) (eq-eqb _ _ new) (ne-eqb (word after h) 0 (λ z. omega (arith, z, still-open)))
 
   -- every open node leads to the head of its argument
-  pub visit-next : (g : ℕ) → j < word counts h → g ≡ classOf cs (argumentOf nodes arguments h j) → g < nodeCount nodes → 0 < word counts g → Visiting nodes arguments counts cs after then now g
+  pub visit-next : (g : ℕ) → j < word counts h → g ≡ classOf heads (argumentOf nodes arguments h j) → g < nodeCount nodes → 0 < word counts g → Visiting nodes arguments counts heads after then now g
   visit-next g l e i a =
       record {
         sections = v .sections;
@@ -312,40 +312,40 @@ module _ {nodes arguments counts cs marks order : List ℕ} {count h : ℕ} (v :
         leads = leads-on;
       }
     where
-      step : Leads nodes arguments (word counts) cs h g
+      step : Leads nodes arguments (word counts) heads h g
       step = next j (v .node) l (sym e)
 
-      leads-on : (k : ℕ) → k < nodeCount nodes → word after k ≡ 1 → Leads nodes arguments (word counts) cs k g
+      leads-on : (k : ℕ) → k < nodeCount nodes → word after k ≡ 1 → Leads nodes arguments (word counts) heads k g
       leads-on k q z = go (written marks h 1 k there)
         where
-          go : Written marks h 1 k → Leads nodes arguments (word counts) cs k g
+          go : Written marks h 1 k → Leads nodes arguments (word counts) heads k g
           go (here d w) = rw d step
           go (other d w) = further (v .leads k q (sym w ∙ t .later .none-opened k q z)) step
 
   -- the heads of its arguments are nodes
-  head-node : (i : ℕ) → i < word counts h → classOf cs (argumentOf nodes arguments h i) < nodeCount nodes
+  head-node : (i : ℕ) → i < word counts h → classOf heads (argumentOf nodes arguments h i) < nodeCount nodes
   head-node i l = v .partition .below _ (looked-node nodes arguments (v .sections) counts (v .counts-right) h i (v .node) l)
 
   -- the head of argument j is done, if arguments of it are looked at
-  turn-on : (g : ℕ) → j < word counts h → g ≡ classOf cs (argumentOf nodes arguments h j) → (later order′ : List ℕ) (c : ℕ) → Ordering nodes arguments (word counts) cs later order′ c → Later (nodeCount nodes) after later → Settled (word counts) later g → Turn nodes arguments (word counts) cs (set marks h 1) h later order′ c (j + 1)
+  turn-on : (g : ℕ) → j < word counts h → g ≡ classOf heads (argumentOf nodes arguments h j) → (later order′ : List ℕ) (c : ℕ) → Ordering nodes arguments (word counts) heads later order′ c → Later (nodeCount nodes) after later → Settled (word counts) later g → Turn nodes arguments (word counts) heads (set marks h 1) h later order′ c (j + 1)
   turn-on g b e later order′ c o l s =
       record {
         ordering = o;
         later = later-on (t .later) l;
-        settled = settled-next (word counts) (λ i. classOf cs (argumentOf nodes arguments h i)) j g e s l (λ i z. head-node i (omega arith)) (t .settled);
+        settled = settled-next (word counts) (λ i. classOf heads (argumentOf nodes arguments h i)) j g e s l (λ i z. head-node i (omega arith)) (t .settled);
       }
 
   -- it is not due
-  pub turned-over : (g : ℕ) → j < word counts h → g ≡ classOf cs (argumentOf nodes arguments h j) → Settled (word counts) after g → {later order′ : List ℕ} {c : ℕ} → later ≡ after → order′ ≡ then → c ≡ now → Turn nodes arguments (word counts) cs (set marks h 1) h later order′ c (j + 1)
+  pub turned-over : (g : ℕ) → j < word counts h → g ≡ classOf heads (argumentOf nodes arguments h j) → Settled (word counts) after g → {later order′ : List ℕ} {c : ℕ} → later ≡ after → order′ ≡ then → c ≡ now → Turn nodes arguments (word counts) heads (set marks h 1) h later order′ c (j + 1)
   turned-over g b e s x y z = rw (x, y, z) (turn-on g b e after then now (t .ordering) (later-same _ _) s)
 
   -- it is visited
-  pub turned : (g : ℕ) → j < word counts h → g ≡ classOf cs (argumentOf nodes arguments h j) → (passed placed : List ℕ) (n : ℕ) → Passed nodes arguments (word counts) cs after g passed placed n → {later order′ : List ℕ} {c : ℕ} → later ≡ passed → order′ ≡ placed → c ≡ n → Turn nodes arguments (word counts) cs (set marks h 1) h later order′ c (j + 1)
+  pub turned : (g : ℕ) → j < word counts h → g ≡ classOf heads (argumentOf nodes arguments h j) → (passed placed : List ℕ) (n : ℕ) → Passed nodes arguments (word counts) heads after g passed placed n → {later order′ : List ℕ} {c : ℕ} → later ≡ passed → order′ ≡ placed → c ≡ n → Turn nodes arguments (word counts) heads (set marks h 1) h later order′ c (j + 1)
   turned g b e passed placed n p x y z = rw (x, y, z) (turn-on g b e passed placed n (p .ordering) (p .later) (λ a. p .passed))
 
   -- Every argument is visited: the node is put into the order.
   module _ (whole : word counts h ≤ j) where
-    o : Ordering nodes arguments (word counts) cs after then now
+    o : Ordering nodes arguments (word counts) heads after then now
     o = t .ordering
 
     not-done : word after h ≡ 2 → ⊥
@@ -370,7 +370,7 @@ module _ {nodes arguments counts cs marks order : List ℕ} {count h : ℕ} (v :
         go (other d w) = sym (getD-set-other marks h k 1 0 d) ∙ t .later .none-opened k l (sym w ∙ e)
 
     -- the node is done
-    pub finished : Passed nodes arguments (word counts) cs marks h (set after h 2) (set then now h) (now + 1)
+    pub finished : Passed nodes arguments (word counts) heads marks h (set after h 2) (set then now h) (now + 1)
     finished =
         record {
           ordering = put-behind o (v .node) not-done (v .compound) head-node (λ i l. t .settled i (omega arith));
@@ -379,13 +379,13 @@ module _ {nodes arguments counts cs marks order : List ℕ} {count h : ℕ} (v :
         }
 
 -- What the mark of a node says before its visit.
-module _ {nodes arguments counts cs marks order : List ℕ} {count h : ℕ} (v : Visiting nodes arguments counts cs marks order count h) where
+module _ {nodes arguments counts heads marks order : List ℕ} {count h : ℕ} (v : Visiting nodes arguments counts heads marks order count h) where
   -- it stands in the order
-  pub met-done : word marks h ≡ 2 → Passed nodes arguments (word counts) cs marks h marks order count
+  pub met-done : word marks h ≡ 2 → Passed nodes arguments (word counts) heads marks h marks order count
   met-done e = record { ordering = v .ordering; passed = e; later = later-same _ _ }
 
   -- it leads to itself
-  pub met-open : word marks h ≡ 1 → Looped nodes arguments (word counts) cs
+  pub met-open : word marks h ≡ 1 → Looped nodes arguments (word counts) heads
   met-open e = (h, v .node, v .leads h (v .node) e)
 
   -- it is new
@@ -395,7 +395,7 @@ module _ {nodes arguments counts cs marks order : List ℕ} {count h : ℕ} (v :
       omega (arith, r)
 
 -- with new marks nothing is listed
-ordering-none : {nodes arguments cs marks order : List ℕ} {due : ℕ → ℕ} → Starting (nodeCount nodes) marks order → Ordering nodes arguments due cs marks order 0
+ordering-none : {nodes arguments heads marks order : List ℕ} {due : ℕ → ℕ} → Starting (nodeCount nodes) marks order → Ordering nodes arguments due heads marks order 0
 ordering-none s =
     record {
       marks-size = s .marks-size;
@@ -410,7 +410,7 @@ ordering-none s =
     }
 
 -- so any node with arguments that are looked at can be visited
-pub visit-first : {nodes arguments counts cs marks order : List ℕ} {h : ℕ} → Sections nodes arguments → Counts nodes arguments counts (nodeCount nodes) → Partition (nodeCount nodes) cs → Starting (nodeCount nodes) marks order → h < nodeCount nodes → 0 < word counts h → Visiting nodes arguments counts cs marks order 0 h
+pub visit-first : {nodes arguments counts heads marks order : List ℕ} {h : ℕ} → Sections nodes arguments → Counts nodes arguments counts (nodeCount nodes) → Partition (nodeCount nodes) heads → Starting (nodeCount nodes) marks order → h < nodeCount nodes → 0 < word counts h → Visiting nodes arguments counts heads marks order 0 h
 visit-first s k p n l a =
     record {
       sections = s;
@@ -423,7 +423,7 @@ visit-first s k p n l a =
     }
 
 -- The first places of the order, as a list.
-module _ {nodes arguments cs marks order : List ℕ} {due : ℕ → ℕ} {count : ℕ} (o : Ordering nodes arguments due cs marks order count) where
+module _ {nodes arguments heads marks order : List ℕ} {due : ℕ → ℕ} {count : ℕ} (o : Ordering nodes arguments due heads marks order count) where
   placed-most : count ≤ nodeCount nodes
   placed-most =
       let r = o .room in
@@ -445,7 +445,7 @@ module _ {nodes arguments cs marks order : List ℕ} {due : ℕ → ℕ} {count 
   placed-met p l g (before q b e) = before q b (placed-at q (omega arith) ∙ e)
 
   -- the nodes there are listed
-  placed-listed : Listed nodes arguments due cs (take count order)
+  placed-listed : Listed nodes arguments due heads (take count order)
   placed-listed = record { node = node-at; compound = compound-at; once = once-at; first = first-at }
     where
       node-at : (q : ℕ) → q < length (take count order) → word (take count order) q < nodeCount nodes
@@ -460,7 +460,7 @@ module _ {nodes arguments cs marks order : List ℕ} {due : ℕ → ℕ} {count 
           let a : q < count = omega (arith, b, l) in
           o .once q r l b (sym (placed-at q a) ∙ e ∙ placed-at r b)
 
-      first-at : (q : ℕ) → q < length (take count order) → (j : ℕ) → j < due (word (take count order) q) → Met due (take count order) q (classOf cs (argumentOf nodes arguments (word (take count order) q) j))
+      first-at : (q : ℕ) → q < length (take count order) → (j : ℕ) → j < due (word (take count order) q) → Met due (take count order) q (classOf heads (argumentOf nodes arguments (word (take count order) q) j))
       first-at q l =
           let b = in-place q l in
           rw (placed-at q b) (λ j t. placed-met q (omega (arith, b)) _ (o .first q b j t))
@@ -470,13 +470,13 @@ module _ {nodes arguments cs marks order : List ℕ} {due : ℕ → ℕ} {count 
   placed-settled g l s = rw placed-length (placed-met count (omega arith) g (settled-met o l s))
 
 -- Node g, at place i of the list, is looked at.
-module _ {nodes arguments counts cs list marks order : List ℕ} {count i : ℕ} (s : Sections nodes arguments) (k : Counts nodes arguments counts (nodeCount nodes)) (p : Partition (nodeCount nodes) cs) (t : OpenListed nodes counts list) (w : Sweep nodes arguments (word counts) cs list marks order count i) (l : i < length list) (g : ℕ) (d : g ≡ word list i) where
+module _ {nodes arguments counts heads list marks order : List ℕ} {count i : ℕ} (s : Sections nodes arguments) (k : Counts nodes arguments counts (nodeCount nodes)) (p : Partition (nodeCount nodes) heads) (t : OpenListed nodes counts list) (w : Sweep nodes arguments (word counts) heads list marks order count i) (l : i < length list) (g : ℕ) (d : g ≡ word list i) where
   -- its head is a node
-  pub sweep-node : (h : ℕ) → h ≡ classOf cs g → h < nodeCount nodes
+  pub sweep-node : (h : ℕ) → h ≡ classOf heads g → h < nodeCount nodes
   sweep-node h e = head-inside p (rw d (t .node i l)) e
 
   -- it can be visited: no node is open
-  pub sweep-next : (h : ℕ) → h ≡ classOf cs g → 0 < word counts h → Visiting nodes arguments counts cs marks order count h
+  pub sweep-next : (h : ℕ) → h ≡ classOf heads g → 0 < word counts h → Visiting nodes arguments counts heads marks order count h
   sweep-next h e a =
       record {
         sections = s;
@@ -489,54 +489,54 @@ module _ {nodes arguments counts cs list marks order : List ℕ} {count i : ℕ}
       }
 
   -- it is done, if arguments of it are looked at
-  sweep-on : (h : ℕ) → h ≡ classOf cs g → (later order′ : List ℕ) (c : ℕ) → Ordering nodes arguments (word counts) cs later order′ c → Later (nodeCount nodes) marks later → Settled (word counts) later h → Sweep nodes arguments (word counts) cs list later order′ c (i + 1)
+  sweep-on : (h : ℕ) → h ≡ classOf heads g → (later order′ : List ℕ) (c : ℕ) → Ordering nodes arguments (word counts) heads later order′ c → Later (nodeCount nodes) marks later → Settled (word counts) later h → Sweep nodes arguments (word counts) heads list later order′ c (i + 1)
   sweep-on h e later order′ c o q z =
       record {
         ordering = o;
         none-open = λ k b y. w .none-open k b (q .none-opened k b y);
-        heads = settled-next (word counts) (λ k. classOf cs (word list k)) i h (e ∙ ap (classOf cs) d) z q (λ k b. p .below (word list k) (t .node k (omega arith))) (w .heads);
+        swept = settled-next (word counts) (λ k. classOf heads (word list k)) i h (e ∙ ap (classOf heads) d) z q (λ k b. p .below (word list k) (t .node k (omega arith))) (w .swept);
       }
 
   -- it is not due
-  pub swept-over : (h : ℕ) → h ≡ classOf cs g → Settled (word counts) marks h → {later order′ : List ℕ} {c : ℕ} → later ≡ marks → order′ ≡ order → c ≡ count → Sweep nodes arguments (word counts) cs list later order′ c (i + 1)
+  pub swept-over : (h : ℕ) → h ≡ classOf heads g → Settled (word counts) marks h → {later order′ : List ℕ} {c : ℕ} → later ≡ marks → order′ ≡ order → c ≡ count → Sweep nodes arguments (word counts) heads list later order′ c (i + 1)
   swept-over h e s x y z = rw (x, y, z) (sweep-on h e marks order count (w .ordering) (later-same _ _) s)
 
   -- it is visited
-  pub swept : (h : ℕ) → h ≡ classOf cs g → (passed placed : List ℕ) (n : ℕ) → Passed nodes arguments (word counts) cs marks h passed placed n → {later order′ : List ℕ} {c : ℕ} → later ≡ passed → order′ ≡ placed → c ≡ n → Sweep nodes arguments (word counts) cs list later order′ c (i + 1)
+  pub swept : (h : ℕ) → h ≡ classOf heads g → (passed placed : List ℕ) (n : ℕ) → Passed nodes arguments (word counts) heads marks h passed placed n → {later order′ : List ℕ} {c : ℕ} → later ≡ passed → order′ ≡ placed → c ≡ n → Sweep nodes arguments (word counts) heads list later order′ c (i + 1)
   swept h e passed placed n q x y z = rw (x, y, z) (sweep-on h e passed placed n (q .ordering) (q .later) (λ a. q .passed))
 
 -- with new marks no head is visited
-pub swept-none : {nodes arguments cs list marks order : List ℕ} {due : ℕ → ℕ} → Starting (nodeCount nodes) marks order → Sweep nodes arguments due cs list marks order 0 0
+pub swept-none : {nodes arguments heads list marks order : List ℕ} {due : ℕ → ℕ} → Starting (nodeCount nodes) marks order → Sweep nodes arguments due heads list marks order 0 0
 swept-none s =
     record {
       ordering = ordering-none s;
       none-open = λ k l e. let z = s .new k l in omega (arith, z, e);
-      heads = λ k l. absurd (omega arith);
+      swept = λ k l. absurd (omega arith);
     }
 
 -- every node of the list is looked at: the heads with arguments that are looked at stand in order
-pub swept-all : {nodes arguments counts cs list marks order : List ℕ} {count i : ℕ} → Partition (nodeCount nodes) cs → OpenListed nodes counts list → Sweep nodes arguments (word counts) cs list marks order count i → length list ≤ i → (count ≤ nodeCount nodes) × Ordered nodes arguments (word counts) cs (take count order)
-swept-all {nodes} {counts = counts} {cs} {list} {marks} p t w a =
-    (placed-most (w .ordering), record { listed = placed-listed (w .ordering); whole = λ i l. placed-settled (w .ordering) (classOf cs i) (p .below i l) (settled i l) })
+pub swept-all : {nodes arguments counts heads list marks order : List ℕ} {count i : ℕ} → Partition (nodeCount nodes) heads → OpenListed nodes counts list → Sweep nodes arguments (word counts) heads list marks order count i → length list ≤ i → (count ≤ nodeCount nodes) × Ordered nodes arguments (word counts) heads (take count order)
+swept-all {nodes} {counts = counts} {heads} {list} {marks} p t w a =
+    (placed-most (w .ordering), record { listed = placed-listed (w .ordering); whole = λ i l. placed-settled (w .ordering) (classOf heads i) (p .below i l) (settled i l) })
   where
     -- a head with arguments that are looked at stands in the list itself
-    settled : (i : ℕ) → i < nodeCount nodes → Settled (word counts) marks (classOf cs i)
+    settled : (i : ℕ) → i < nodeCount nodes → Settled (word counts) marks (classOf heads i)
     settled i l b =
-        let f = t .whole (classOf cs i) (p .below i l) b in
-        let e : classOf cs (word list (f .0)) ≡ classOf cs i = ap (classOf cs) (f .2) ∙ p .own i l in
-        rw e at (w .heads (f .0) (omega (arith, f .1))) b
+        let f = t .whole (classOf heads i) (p .below i l) b in
+        let e : classOf heads (word list (f .0)) ≡ classOf heads i = ap (classOf heads) (f .2) ∙ p .own i l in
+        rw e at (w .swept (f .0) (omega (arith, f .1))) b
 
 -- a search that ends at a cycle
-pub searched-cycle : {nodes arguments cs : List ℕ} {due : ℕ → ℕ} {a : ℕ} → Looped nodes arguments due cs → Searched nodes arguments due cs a true
+pub searched-cycle : {nodes arguments heads : List ℕ} {due : ℕ → ℕ} {a : ℕ} → Looped nodes arguments due heads → Searched nodes arguments due heads a true
 searched-cycle l = record { cycle = λ e. l; ordered = λ e. absurd (let z : _≡_ {A = ℕ} 0 1 = cc in omega arith) }
 
 -- a search that passes
-searched-order : {nodes arguments cs : List ℕ} {due : ℕ → ℕ} {a : ℕ} → OrderedBelow nodes arguments due cs a → Searched nodes arguments due cs a false
+searched-order : {nodes arguments heads : List ℕ} {due : ℕ → ℕ} {a : ℕ} → OrderedBelow nodes arguments due heads a → Searched nodes arguments due heads a false
 searched-order o = record { cycle = λ e. absurd (let z : _≡_ {A = ℕ} 0 1 = cc in omega arith); ordered = λ e. o }
 
 -- no argument of the head of node a is looked at
-pub searched-leaf : (nodes arguments : List ℕ) (due : ℕ → ℕ) (cs : List ℕ) (a h : ℕ) → h ≡ classOf cs a → due h ≡ 0 → Searched nodes arguments due cs a false
-searched-leaf nodes arguments due cs a h e z =
+pub searched-leaf : (nodes arguments : List ℕ) (due : ℕ → ℕ) (heads : List ℕ) (a h : ℕ) → h ≡ classOf heads a → due h ≡ 0 → Searched nodes arguments due heads a false
+searched-leaf nodes arguments due heads a h e z =
     searched-order
     (record {
       order = [];
@@ -550,7 +550,7 @@ searched-leaf nodes arguments due cs a h e z =
     })
 
 -- the head of node a is visited
-pub searched-passed : {nodes arguments cs marks later order : List ℕ} {due : ℕ → ℕ} {a h c : ℕ} → h ≡ classOf cs a → h < nodeCount nodes → Passed nodes arguments due cs marks h later order c → Searched nodes arguments due cs a false
+pub searched-passed : {nodes arguments heads marks later order : List ℕ} {due : ℕ → ℕ} {a h c : ℕ} → h ≡ classOf heads a → h < nodeCount nodes → Passed nodes arguments due heads marks h later order c → Searched nodes arguments due heads a false
 searched-passed {order = order} {h = h} {c} e l p =
     searched-order
     (record { order = take c order; listed = placed-listed (p .ordering); from = rw (← e) (placed-settled (p .ordering) h l (λ a. p .passed)) })

@@ -73,14 +73,14 @@ rank-met nodes counts order p h l n (before q k e) = go (ℕ-discrete (word coun
         omega arith
 
 -- the head of an argument that is looked at has a smaller rank
-rank-falls : (nodes arguments counts cs order : List ℕ) → Listed nodes arguments (word counts) cs order → (h : ℕ) → Met (word counts) order (length order) h → (j : ℕ) → j < word counts h → classOf cs (argumentOf nodes arguments h j) < nodeCount nodes → rank nodes counts order (classOf cs (argumentOf nodes arguments h j)) < rank nodes counts order h
-rank-falls nodes arguments counts cs order l h (leaf e) j k n = absurd (omega arith)
-rank-falls nodes arguments counts cs order l h (before q b e) j k n =
+rank-falls : (nodes arguments counts heads order : List ℕ) → Listed nodes arguments (word counts) heads order → (h : ℕ) → Met (word counts) order (length order) h → (j : ℕ) → j < word counts h → classOf heads (argumentOf nodes arguments h j) < nodeCount nodes → rank nodes counts order (classOf heads (argumentOf nodes arguments h j)) < rank nodes counts order h
+rank-falls nodes arguments counts heads order l h (leaf e) j k n = absurd (omega arith)
+rank-falls nodes arguments counts heads order l h (before q b e) j k n =
     let t = place-of order h q b e in
     let p : placeIn order h < length order = omega (arith, t .0) in
-    let m : Met (word counts) order (placeIn order h) (classOf cs (argumentOf nodes arguments h j)) = rw (t .1) at (l .first (placeIn order h) p) j k in
+    let m : Met (word counts) order (placeIn order h) (classOf heads (argumentOf nodes arguments h j)) = rw (t .1) at (l .first (placeIn order h) p) j k in
     let r = rank-compound nodes counts order h (λ z. omega arith) in
-    let s = rank-met nodes counts order (placeIn order h) (classOf cs (argumentOf nodes arguments h j)) (omega arith) n m in
+    let s = rank-met nodes counts order (placeIn order h) (classOf heads (argumentOf nodes arguments h j)) (omega arith) n m in
     omega arith
 
 module _ (nodes arguments : List ℕ) (s : Sections nodes arguments) (counts : List ℕ) (k : Counts nodes arguments counts (nodeCount nodes)) where
@@ -94,83 +94,83 @@ module _ (nodes arguments : List ℕ) (s : Sections nodes arguments) (counts : L
       k .below i b (record { node = b; applied = counted-application nodes arguments s i j b l; none = e }) j l
 
   -- what a node leads to is a head
-  leads-head : (cs : List ℕ) {h g : ℕ} → Leads nodes arguments (word counts) cs h g → (i : ℕ) × (i < nodeCount nodes) × (classOf cs i ≡ g)
-  leads-head cs (next {h = h} {g = g} j b l e) = (argumentOf nodes arguments h j, looked-node h j b l, e)
-  leads-head cs (further p q) = leads-head cs q
+  leads-head : (heads : List ℕ) {h g : ℕ} → Leads nodes arguments (word counts) heads h g → (i : ℕ) × (i < nodeCount nodes) × (classOf heads i ≡ g)
+  leads-head heads (next {h = h} {g = g} j b l e) = (argumentOf nodes arguments h j, looked-node h j b l, e)
+  leads-head heads (further p q) = leads-head heads q
 
-  module _ (cs : List ℕ) (partition : Partition (nodeCount nodes) cs) where
+  module _ (heads : List ℕ) (partition : Partition (nodeCount nodes) heads) where
     -- what a head leads to has a smaller rank
-    leads-falls : (order : List ℕ) → Ordered nodes arguments (word counts) cs order → {h g : ℕ} → Leads nodes arguments (word counts) cs h g → (i : ℕ) → i < nodeCount nodes → classOf cs i ≡ h → rank nodes counts order g < rank nodes counts order h
+    leads-falls : (order : List ℕ) → Ordered nodes arguments (word counts) heads order → {h g : ℕ} → Leads nodes arguments (word counts) heads h g → (i : ℕ) → i < nodeCount nodes → classOf heads i ≡ h → rank nodes counts order g < rank nodes counts order h
     leads-falls order o (next {h = h} {g = g} j b l e) i q d =
-        rw (← e) (rank-falls nodes arguments counts cs order (o .listed) h (rw d at (o .whole i q)) j l (partition .below _ (looked-node h j b l)))
+        rw (← e) (rank-falls nodes arguments counts heads order (o .listed) h (rw d at (o .whole i q)) j l (partition .below _ (looked-node h j b l)))
     leads-falls order o (further {h} {g} {k = f} p q) i b d =
-        let m = leads-head cs p in
+        let m = leads-head heads p in
         let x : rank nodes counts order g < rank nodes counts order h = leads-falls order o p i b d in
         let y : rank nodes counts order f < rank nodes counts order g = leads-falls order o q (m .0) (m .1) (m .2) in
         omega arith
 
     -- where there is an order, no node leads to itself
-    pub ordered-unlooped : (order : List ℕ) → Ordered nodes arguments (word counts) cs order → Looped nodes arguments (word counts) cs → ⊥
+    pub ordered-unlooped : (order : List ℕ) → Ordered nodes arguments (word counts) heads order → Looped nodes arguments (word counts) heads → ⊥
     ordered-unlooped order o (h, b, l) =
-        let m = leads-head cs l in
+        let m = leads-head heads l in
         let x = leads-falls order o l (m .0) (m .1) (m .2) in
         omega arith
 
 -- what leads reaches
-pub leads-reaches : (nodes arguments : List ℕ) (s : Sections nodes arguments) (cs : List ℕ) (ps : List (ℕ × ℕ)) (h : Inside (nodesFrom nodes arguments) ps) (c : IsClosure (nodesFrom nodes arguments) ps (classOf cs)) (counts : List ℕ) (k : Counts nodes arguments counts (nodeCount nodes)) {i j : ℕ} → Leads nodes arguments (word counts) cs i j → Reaches (nodesFrom nodes arguments) ps i j
-leads-reaches nodes arguments s cs ps h c counts k (next {h = i} {g = g} j b l e) =
+pub leads-reaches : (nodes arguments : List ℕ) (s : Sections nodes arguments) (heads : List ℕ) (ps : List (ℕ × ℕ)) (h : Inside (nodesFrom nodes arguments) ps) (c : IsClosure (nodesFrom nodes arguments) ps (classOf heads)) (counts : List ℕ) (k : Counts nodes arguments counts (nodeCount nodes)) {i j : ℕ} → Leads nodes arguments (word counts) heads i j → Reaches (nodesFrom nodes arguments) ps i j
+leads-reaches nodes arguments s heads ps h c counts k (next {h = i} {g = g} j b l e) =
     let n : j < countOf nodes i = looked-at k i j b l in
     let a : argumentOf nodes arguments i j < length (nodesFrom nodes arguments) = rw (nodes-long nodes arguments) (looked-node nodes arguments s counts k i j b l) in
     let d : i < length (nodesFrom nodes arguments) = rw (nodes-long nodes arguments) b in
     step (same {i = i} d) (application-from nodes arguments i b (counted-application nodes arguments s i j b n)) (place-argument nodes arguments s i j b n)
     (rw e at (c .joined (argumentOf nodes arguments i j) a))
-leads-reaches nodes arguments s cs ps h c counts k (further p q) =
-    steps (leads-reaches nodes arguments s cs ps h c counts k p) (leads-reaches nodes arguments s cs ps h c counts k q)
+leads-reaches nodes arguments s heads ps h c counts k (further p q) =
+    steps (leads-reaches nodes arguments s heads ps h c counts k p) (leads-reaches nodes arguments s heads ps h c counts k q)
 
-module _ (nodes arguments : List ℕ) (s : Sections nodes arguments) (counts : List ℕ) (k : Counts nodes arguments counts (nodeCount nodes)) (cs : List ℕ) (partition : Partition (nodeCount nodes) cs) (heads : ClosedHeads nodes arguments counts cs) (ps : List (ℕ × ℕ)) (h : Inside (nodesFrom nodes arguments) ps) (c : IsClosure (nodesFrom nodes arguments) ps (classOf cs)) (order : List ℕ) (o : Ordered nodes arguments (word counts) cs order) where
+module _ (nodes arguments : List ℕ) (s : Sections nodes arguments) (counts : List ℕ) (k : Counts nodes arguments counts (nodeCount nodes)) (heads : List ℕ) (partition : Partition (nodeCount nodes) heads) (closed-heads : ClosedHeads nodes arguments counts heads) (ps : List (ℕ × ℕ)) (h : Inside (nodesFrom nodes arguments) ps) (c : IsClosure (nodesFrom nodes arguments) ps (classOf heads)) (order : List ℕ) (o : Ordered nodes arguments (word counts) heads order) where
   -- the ranks of heads are small
-  pub ordered-enough : (i : ℕ) → i < length (nodesFrom nodes arguments) → rank nodes counts order (classOf cs i) < suc (nodeCount nodes + suc (length order))
+  pub ordered-enough : (i : ℕ) → i < length (nodesFrom nodes arguments) → rank nodes counts order (classOf heads i) < suc (nodeCount nodes + suc (length order))
   ordered-enough i b =
       let q : i < nodeCount nodes = counted nodes arguments i b in
-      let r = rank-met nodes counts order (length order) (classOf cs i) (omega arith) (partition .below i q) (o .whole i q) in
+      let r = rank-met nodes counts order (length order) (classOf heads i) (omega arith) (partition .below i q) (o .whole i q) in
       omega arith
 
   -- the head of an argument of a head has a smaller rank
-  argument-falls : (i : ℕ) → i < nodeCount nodes → (j : ℕ) → j < countOf nodes (classOf cs i) → rank nodes counts order (classOf cs (argumentOf nodes arguments (classOf cs i) j)) < rank nodes counts order (classOf cs i)
-  argument-falls i b j l = go (k .some (classOf cs i) g)
+  argument-falls : (i : ℕ) → i < nodeCount nodes → (j : ℕ) → j < countOf nodes (classOf heads i) → rank nodes counts order (classOf heads (argumentOf nodes arguments (classOf heads i) j)) < rank nodes counts order (classOf heads i)
+  argument-falls i b j l = go (k .some (classOf heads i) g)
     where
-      g : classOf cs i < nodeCount nodes
+      g : classOf heads i < nodeCount nodes
       g = partition .below i b
 
-      a : argumentOf nodes arguments (classOf cs i) j < classOf cs i
-      a = s .smaller (classOf cs i) j g l
+      a : argumentOf nodes arguments (classOf heads i) j < classOf heads i
+      a = s .smaller (classOf heads i) j g l
 
       -- the head is a closed application, and so is that of its argument
-      shut : word counts (classOf cs i) ≡ 0 → rank nodes counts order (classOf cs (argumentOf nodes arguments (classOf cs i) j)) < rank nodes counts order (classOf cs i)
+      shut : word counts (classOf heads i) ≡ 0 → rank nodes counts order (classOf heads (argumentOf nodes arguments (classOf heads i) j)) < rank nodes counts order (classOf heads i)
       shut e =
-          let m = closed-argument nodes arguments s counts k (classOf cs i) j g l e in
-          let x = rank-leaf nodes counts order (classOf cs i) e in
-          let y = rank-leaf nodes counts order (classOf cs (argumentOf nodes arguments (classOf cs i) j)) (heads .closed _ m .none) in
-          let z = heads .least _ m in
+          let m = closed-argument nodes arguments s counts k (classOf heads i) j g l e in
+          let x = rank-leaf nodes counts order (classOf heads i) e in
+          let y = rank-leaf nodes counts order (classOf heads (argumentOf nodes arguments (classOf heads i) j)) (closed-heads .closed _ m .none) in
+          let z = closed-heads .least _ m in
           omega (arith, a, x, y, z)
 
-      go : (word counts (classOf cs i) ≡ 0) ⊎ (word counts (classOf cs i) ≡ countOf nodes (classOf cs i)) → rank nodes counts order (classOf cs (argumentOf nodes arguments (classOf cs i) j)) < rank nodes counts order (classOf cs i)
+      go : (word counts (classOf heads i) ≡ 0) ⊎ (word counts (classOf heads i) ≡ countOf nodes (classOf heads i)) → rank nodes counts order (classOf heads (argumentOf nodes arguments (classOf heads i) j)) < rank nodes counts order (classOf heads i)
       go (inl e) = shut e
       go (inr e) =
-          rank-falls nodes arguments counts cs order (o .listed) (classOf cs i) (o .whole i b) j (omega (arith, e, l)) (partition .below _ (omega (arith, a, g)))
+          rank-falls nodes arguments counts heads order (o .listed) (classOf heads i) (o .whole i b) j (omega (arith, e, l)) (partition .below _ (omega (arith, a, g)))
 
   -- classes in order are a solved form
-  pub ordered-solved : Solved (nodesFrom nodes arguments) ps (classOf cs) (rank nodes counts order)
+  pub ordered-solved : Solved (nodesFrom nodes arguments) ps (classOf heads) (rank nodes counts order)
   ordered-solved =
       record {
         closure = c;
         falls = λ i f us b e a m.
             let q : i < nodeCount nodes = counted nodes arguments i b in
-            let r = argument-place nodes arguments s (classOf cs i) (partition .below i q) f us e a m in
+            let r = argument-place nodes arguments s (classOf heads i) (partition .below i q) f us e a m in
             rw (r .2) (argument-falls i q (r .0) (r .1));
       }
 
   -- so they decide: unified
   pub ordered-unified : outcome (nodesFrom nodes arguments) ps ≡ unified
   ordered-unified =
-      solved-decides (nodesFrom nodes arguments) (sections-well-formed nodes arguments s) ps h (classOf cs) (rank nodes counts order) ordered-solved (suc (nodeCount nodes + suc (length order))) ordered-enough .0
+      solved-decides (nodesFrom nodes arguments) (sections-well-formed nodes arguments s) ps h (classOf heads) (rank nodes counts order) ordered-solved (suc (nodeCount nodes + suc (length order))) ordered-enough .0

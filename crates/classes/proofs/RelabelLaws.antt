@@ -18,13 +18,13 @@ pub data Ahead (next : List ℕ) (g : ℕ) : ℕ → ℕ → Type 0 where
   later : {i k : ℕ} → (i ≡ g → ⊥) → Ahead next g (word next i) k → Ahead next g i k
 
 -- Heads ds come of heads cs when the circle of node g is gone around up to node i, and those passed get head h.
-pub record Passing (next : List ℕ) (g h : ℕ) (cs : List ℕ) (i : ℕ) (ds : List ℕ) : Type 0 where
-  pub circling : Circling (length cs) next g
-  pub long : length ds ≡ length cs
-  pub inside : i < length cs
+pub record Passing (next : List ℕ) (g h : ℕ) (heads : List ℕ) (i : ℕ) (ds : List ℕ) : Type 0 where
+  pub circling : Circling (length heads) next g
+  pub long : length ds ≡ length heads
+  pub inside : i < length heads
   pub back : Follows next i g
   pub circle : Follows next g i
-  pub others : (k : ℕ) → (Follows next g k → ⊥) → classOf ds k ≡ classOf cs k
+  pub others : (k : ℕ) → (Follows next g k → ⊥) → classOf ds k ≡ classOf heads k
   pub passed : (k : ℕ) → Follows next g k → (classOf ds k ≡ h) ⊎ Ahead next g i k
 
 module _ (next : List ℕ) (g : ℕ) where
@@ -56,27 +56,27 @@ module _ (next : List ℕ) (g : ℕ) where
       go (inl z) (no e) = inr (rw z (this e))
       go (inr a) e = ahead-next a
 
-  module _ (h : ℕ) (cs : List ℕ) where
+  module _ (h : ℕ) (heads : List ℕ) where
     -- at first g is passed
-    pub passing-begun : (i : ℕ) → Circling (length cs) next g → i ≡ word next g → Passing next g h (set cs g h) i (set cs g h)
+    pub passing-begun : (i : ℕ) → Circling (length heads) next g → i ≡ word next g → Passing next g h (set heads g h) i (set heads g h)
     passing-begun i c e =
         record {
-          circling = rw (length-set cs g h) c;
+          circling = rw (length-set heads g h) c;
           long = refl;
-          inside = rw (length-set cs g h, e) (c .below g (c .inside));
+          inside = rw (length-set heads g h, e) (c .below g (c .inside));
           back = rw e (c .back);
           circle = rw e (onward {i = g} here);
           others = λ k d. refl;
           passed = λ k f. rw e (go k (ahead-all f (inl refl)));
         }
       where
-        go : (k : ℕ) → (k ≡ g) ⊎ Ahead next g (word next g) k → (classOf (set cs g h) k ≡ h) ⊎ Ahead next g (word next g) k
-        go k (inl z) = inl (rw z (getD-set-same cs g h 0 (c .inside)))
+        go : (k : ℕ) → (k ≡ g) ⊎ Ahead next g (word next g) k → (classOf (set heads g h) k ≡ h) ⊎ Ahead next g (word next g) k
+        go k (inl z) = inl (rw z (getD-set-same heads g h 0 (c .inside)))
         go k (inr a) = inr a
 
     module _ (i : ℕ) (ds : List ℕ) where
       -- one node more
-      pub passing-next : Passing next g h cs i ds → (i ≡ g → ⊥) → Passing next g h cs (word next i) (set ds i h)
+      pub passing-next : Passing next g h heads i ds → (i ≡ g → ⊥) → Passing next g h heads (word next i) (set ds i h)
       passing-next p d =
           record {
             circling = p .circling;
@@ -95,12 +95,12 @@ module _ (next : List ℕ) (g : ℕ) where
           go k (no z) (inr (later e a)) = inr a
 
       -- back at g all are passed
-      pub passing-end : Passing next g h (set cs g h) i ds → i ≡ g → Relabels next g h cs ds
+      pub passing-end : Passing next g h (set heads g h) i ds → i ≡ g → Relabels next g h heads ds
       passing-end p e =
           record {
-            size = p .long ∙ length-set cs g h;
+            size = p .long ∙ length-set heads g h;
             circle = λ k f. go k (p .passed k f);
-            others = λ k d. p .others k d ∙ getD-set-other cs g k h 0 (λ z. d (rw z here));
+            others = λ k d. p .others k d ∙ getD-set-other heads g k h 0 (λ z. d (rw z here));
           }
         where
           go : (k : ℕ) → (classOf ds k ≡ h) ⊎ Ahead next g i k → classOf ds k ≡ h

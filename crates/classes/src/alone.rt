@@ -22,20 +22,20 @@ pub fn may_unify(
     nodes: &[u32],
     arguments: &[u32],
     counts: &[u8],
-    of: &mut [u8],
+    heads: &mut [u8],
     next: &mut [u8],
     a: Node,
     b: Node,
 ) -> bool
     requires { ⌜ Sections (now nodes) (now arguments) × Counts (now nodes) (now arguments) (now counts) (nodeCount (now nodes)) ⌝ }
-    requires { ⌜ Formed (now nodes) (now arguments) (now counts) (now of) × Trailed (nodeCount (now nodes)) (now of) (now next) ⌝ }
-    requires { ⌜ StandsAlways (now nodes) (now arguments) (now of) ⌝ }
+    requires { ⌜ Formed (now nodes) (now arguments) (now counts) (now heads) × Trailed (nodeCount (now nodes)) (now heads) (now next) ⌝ }
+    requires { ⌜ StandsAlways (now nodes) (now arguments) (now heads) ⌝ }
     requires { ⌜ (a .0 < nodeCount (now nodes)) × (b .0 < nodeCount (now nodes)) ⌝ }
     ensures { λ r. ⌜ (r ≡ false → Never (nodesFrom (now (nodes .entry)) (now (arguments .entry))) (a .0) (b .0)) ⌝ }
-    ensures { λ r. ⌜ (now (of .exit) ≡ now (of .entry)) × (now (next .exit) ≡ now (next .entry)) ⌝ }
+    ensures { λ r. ⌜ (now (heads .exit) ≡ now (heads .entry)) × (now (next .exit) ≡ now (next .entry)) ⌝ }
 {
-    let g = lists::node_in(of, a.0 as usize);
-    let h = lists::node_in(of, b.0 as usize);
+    let g = lists::node_in(heads, a.0 as usize);
+    let h = lists::node_in(heads, b.0 as usize);
     if g.0 == h.0 {
         return true;
     }
@@ -46,11 +46,11 @@ pub fn may_unify(
         return false;
     }
     let mark = next[GONE];
-    match extend(nodes, arguments, counts, of, next, a, b) {
+    match extend(nodes, arguments, counts, heads, next, a, b) {
         Extended::Clash => false,
         Extended::Occurs => false,
         Extended::Unified => {
-            undo(of, next, mark);
+            undo(heads, next, mark);
             true
         }
     }

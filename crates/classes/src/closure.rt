@@ -56,16 +56,16 @@ fn goes_first(nodes: &[u32], counts: &[u8], next: &[u8], g: u8, h: u8) -> bool
 }
 
 // Makes one class of two, whose heads are given.
-fn unite(nodes: &[u32], counts: &[u8], of: &mut [u8], next: &mut [u8], g: u8, h: u8)
-    requires { ⌜ (length (now of) ≡ nodeCount (now nodes)) × (nodeCount (now nodes) ≤ length (now counts)) ⌝ }
-    requires { ⌜ TwoHeads (length (now of)) (now of) (now next) g h × Trailed (length (now of)) (now of) (now next) ⌝ }
-    ensures { λ r. ⌜ Goes (now (nodes .entry)) (now (counts .entry)) (now (of .entry)) (now (next .entry)) g h (now (of .exit)) (now (next .exit)) ⊎ Goes (now (nodes .entry)) (now (counts .entry)) (now (of .entry)) (now (next .entry)) h g (now (of .exit)) (now (next .exit)) ⌝ }
+fn unite(nodes: &[u32], counts: &[u8], heads: &mut [u8], next: &mut [u8], g: u8, h: u8)
+    requires { ⌜ (length (now heads) ≡ nodeCount (now nodes)) × (nodeCount (now nodes) ≤ length (now counts)) ⌝ }
+    requires { ⌜ TwoHeads (length (now heads)) (now heads) (now next) g h × Trailed (length (now heads)) (now heads) (now next) ⌝ }
+    ensures { λ r. ⌜ Goes (now (nodes .entry)) (now (counts .entry)) (now (heads .entry)) (now (next .entry)) g h (now (heads .exit)) (now (next .exit)) ⊎ Goes (now (nodes .entry)) (now (counts .entry)) (now (heads .entry)) (now (next .entry)) h g (now (heads .exit)) (now (next .exit)) ⌝ }
 {
     if goes_first(nodes, counts, next, g, h) {
-        merge(of, next, g, h);
+        merge(heads, next, g, h);
         return;
     }
-    merge(of, next, h, g);
+    merge(heads, next, h, g);
 }
 
 // Joins two nodes, and whatever the closure then joins. Says whether there is no clash.
@@ -73,26 +73,26 @@ pub fn join(
     nodes: &[u32],
     arguments: &[u32],
     counts: &[u8],
-    of: &mut [u8],
+    heads: &mut [u8],
     next: &mut [u8],
     a: Node,
     b: Node,
 ) -> bool
-    requires { ⌜ Joinable (now nodes) (now arguments) (now counts) (now of) (now next) ⌝ }
+    requires { ⌜ Joinable (now nodes) (now arguments) (now counts) (now heads) (now next) ⌝ }
     requires { ⌜ (a .0 < nodeCount (now nodes)) × (b .0 < nodeCount (now nodes)) ⌝ }
-    ensures { λ r. ⌜ Joins (now (nodes .entry)) (now (arguments .entry)) (now (counts .entry)) (now (of .entry)) (now (next .entry)) (a .0) (b .0) r (now (of .exit)) (now (next .exit)) ⌝ }
+    ensures { λ r. ⌜ Joins (now (nodes .entry)) (now (arguments .entry)) (now (counts .entry)) (now (heads .entry)) (now (next .entry)) (a .0) (b .0) r (now (heads .exit)) (now (next .exit)) ⌝ }
 {
     let i = a.0 as usize;
     let j = b.0 as usize;
-    let g = of[i];
-    let h = of[j];
+    let g = heads[i];
+    let h = heads[j];
     if g == h {
         return true;
     }
     let first = lists::node(g);
     let second = lists::node(h);
     if sections::is_variable(nodes, first) | sections::is_variable(nodes, second) {
-        unite(nodes, counts, of, next, g, h);
+        unite(nodes, counts, heads, next, g, h);
         return true;
     }
     if !sections::one_symbol(nodes, first, second)
@@ -100,13 +100,13 @@ pub fn join(
     {
         return false;
     }
-    unite(nodes, counts, of, next, g, h);
+    unite(nodes, counts, heads, next, g, h);
     let count = sections::arity(nodes, arguments, first);
     let mut k: usize = 0;
     while k < count {
         let x = sections::argument(nodes, arguments, first, k);
         let y = sections::argument(nodes, arguments, second, k);
-        if !join(nodes, arguments, counts, of, next, x, y) {
+        if !join(nodes, arguments, counts, heads, next, x, y) {
             return false;
         }
         k += 1;

@@ -30,14 +30,14 @@ const OPEN: u8 = 1;
 const DONE: u8 = 2;
 
 // The head of argument j of a node.
-fn argument_head(nodes: &[u32], arguments: &[u32], of: &[u8], node: Node, j: usize) -> Node
+fn argument_head(nodes: &[u32], arguments: &[u32], heads: &[u8], node: Node, j: usize) -> Node
     requires { ⌜ Sections (now nodes) (now arguments) ⌝ }
-    requires { ⌜ Partition (nodeCount (now nodes)) (now of) ⌝ }
+    requires { ⌜ Partition (nodeCount (now nodes)) (now heads) ⌝ }
     requires { ⌜ (node .0 < nodeCount (now nodes)) × (j < countOf (now nodes) (node .0)) ⌝ }
-    ensures { λ r. ⌜ (r .0 ≡ classOf (now (of .entry)) (argumentOf (now (nodes .entry)) (now (arguments .entry)) (node .0) j)) × (r .0 < nodeCount (now (nodes .entry))) ⌝ }
+    ensures { λ r. ⌜ (r .0 ≡ classOf (now (heads .entry)) (argumentOf (now (nodes .entry)) (now (arguments .entry)) (node .0) j)) × (r .0 < nodeCount (now (nodes .entry))) ⌝ }
 {
     let a = sections::argument(nodes, arguments, node, j);
-    lists::node_in(of, a.0 as usize)
+    lists::node_in(heads, a.0 as usize)
 }
 
 // Whether arguments of node g are looked at and it does not stand in the order.
@@ -54,14 +54,14 @@ fn visit(
     nodes: &[u32],
     arguments: &[u32],
     counts: &[u8],
-    of: &[u8],
+    heads: &[u8],
     marks: &mut [u8],
     order: &mut [u8],
     placed: usize,
     h: Node,
 ) -> Placed
-    requires { ⌜ Visiting (now nodes) (now arguments) (now counts) (now of) (now marks) (now order) placed (h .0) ⌝ }
-    ensures { λ r. ⌜ Visited (now (nodes .entry)) (now (arguments .entry)) (word (now (counts .entry))) (now (of .entry)) (now (marks .entry)) (h .0) r (now (marks .exit)) (now (order .exit)) ⌝ }
+    requires { ⌜ Visiting (now nodes) (now arguments) (now counts) (now heads) (now marks) (now order) placed (h .0) ⌝ }
+    ensures { λ r. ⌜ Visited (now (nodes .entry)) (now (arguments .entry)) (word (now (counts .entry))) (now (heads .entry)) (now (marks .entry)) (h .0) r (now (marks .exit)) (now (order .exit)) ⌝ }
 {
     let i = h.0 as usize;
     let mark = marks[i];
@@ -76,9 +76,9 @@ fn visit(
     let mut count = placed;
     let mut j: usize = 0;
     while j < n {
-        let g = argument_head(nodes, arguments, of, h, j);
+        let g = argument_head(nodes, arguments, heads, h, j);
         if is_due(counts, marks, g) {
-            let Placed::Count(c) = visit(nodes, arguments, counts, of, marks, order, count, g)
+            let Placed::Count(c) = visit(nodes, arguments, counts, heads, marks, order, count, g)
             else {
                 return Placed::Cycle;
             };
@@ -92,13 +92,13 @@ fn visit(
 }
 
 // Whether the class of node a leads to itself, or another class does that it leads to.
-pub fn leads_back(nodes: &[u32], arguments: &[u32], counts: &[u8], of: &[u8], a: Node) -> bool
+pub fn leads_back(nodes: &[u32], arguments: &[u32], counts: &[u8], heads: &[u8], a: Node) -> bool
     requires { ⌜ Sections (now nodes) (now arguments) × Counts (now nodes) (now arguments) (now counts) (nodeCount (now nodes)) ⌝ }
-    requires { ⌜ Partition (nodeCount (now nodes)) (now of) ⌝ }
+    requires { ⌜ Partition (nodeCount (now nodes)) (now heads) ⌝ }
     requires { ⌜ a .0 < nodeCount (now nodes) ⌝ }
-    ensures { λ r. ⌜ Searched (now (nodes .entry)) (now (arguments .entry)) (word (now (counts .entry))) (now (of .entry)) (a .0) r ⌝ }
+    ensures { λ r. ⌜ Searched (now (nodes .entry)) (now (arguments .entry)) (word (now (counts .entry))) (now (heads .entry)) (a .0) r ⌝ }
 {
-    let h = lists::node_in(of, a.0 as usize);
+    let h = lists::node_in(heads, a.0 as usize);
     let i = h.0 as usize;
     if counts[i] == 0 {
         return false;
@@ -110,7 +110,7 @@ pub fn leads_back(nodes: &[u32], arguments: &[u32], counts: &[u8], of: &[u8], a:
         nodes,
         arguments,
         counts,
-        of,
+        heads,
         &mut marks[0..n],
         &mut order[0..n],
         0,
@@ -126,24 +126,24 @@ pub fn put_in_order(
     nodes: &[u32],
     arguments: &[u32],
     counts: &[u8],
-    of: &[u8],
+    heads: &[u8],
     opens: &[u16],
     marks: &mut [u8],
     order: &mut [u8],
 ) -> usize
     requires { ⌜ Sections (now nodes) (now arguments) × Counts (now nodes) (now arguments) (now counts) (nodeCount (now nodes)) ⌝ }
-    requires { ⌜ Formed (now nodes) (now arguments) (now counts) (now of) ⌝ }
+    requires { ⌜ Formed (now nodes) (now arguments) (now counts) (now heads) ⌝ }
     requires { ⌜ OpenListed (now nodes) (now counts) (now opens) ⌝ }
     requires { ⌜ Starting (nodeCount (now nodes)) (now marks) (now order) ⌝ }
-    ensures { λ r. ⌜ (r ≤ nodeCount (now (nodes .entry))) × Ordered (now (nodes .entry)) (now (arguments .entry)) (word (now (counts .entry))) (now (of .entry)) (take r (now (order .exit))) ⌝ }
+    ensures { λ r. ⌜ (r ≤ nodeCount (now (nodes .entry))) × Ordered (now (nodes .entry)) (now (arguments .entry)) (word (now (counts .entry))) (now (heads .entry)) (take r (now (order .exit))) ⌝ }
 {
     let mut count: usize = 0;
     let mut i: usize = 0;
     while i < opens.len() {
         let g = lists::entry(opens, i);
-        let h = lists::node_in(of, g);
+        let h = lists::node_in(heads, g);
         if is_due(counts, marks, h) {
-            let Placed::Count(c) = visit(nodes, arguments, counts, of, marks, order, count, h)
+            let Placed::Count(c) = visit(nodes, arguments, counts, heads, marks, order, count, h)
             else {
                 return count;
             };

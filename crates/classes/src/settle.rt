@@ -18,23 +18,23 @@ pub fn extend(
     nodes: &[u32],
     arguments: &[u32],
     counts: &[u8],
-    of: &mut [u8],
+    heads: &mut [u8],
     next: &mut [u8],
     a: Node,
     b: Node,
 ) -> Extended
     requires { ⌜ Sections (now nodes) (now arguments) × Counts (now nodes) (now arguments) (now counts) (nodeCount (now nodes)) ⌝ }
-    requires { ⌜ Formed (now nodes) (now arguments) (now counts) (now of) × Trailed (nodeCount (now nodes)) (now of) (now next) ⌝ }
+    requires { ⌜ Formed (now nodes) (now arguments) (now counts) (now heads) × Trailed (nodeCount (now nodes)) (now heads) (now next) ⌝ }
     requires { ⌜ (a .0 < nodeCount (now nodes)) × (b .0 < nodeCount (now nodes)) ⌝ }
-    ensures { λ r. ⌜ Extends (now (nodes .entry)) (now (arguments .entry)) (now (counts .entry)) (now (of .entry)) (now (next .entry)) (a .0) (b .0) r (now (of .exit)) (now (next .exit)) ⌝ }
+    ensures { λ r. ⌜ Extends (now (nodes .entry)) (now (arguments .entry)) (now (counts .entry)) (now (heads .entry)) (now (next .entry)) (a .0) (b .0) r (now (heads .exit)) (now (next .exit)) ⌝ }
 {
     let mark = next[GONE];
-    if !closure::join(nodes, arguments, counts, of, next, a, b) {
-        undo(of, next, mark);
+    if !closure::join(nodes, arguments, counts, heads, next, a, b) {
+        undo(heads, next, mark);
         return Extended::Clash;
     }
-    if order::leads_back(nodes, arguments, counts, of, a) {
-        undo(of, next, mark);
+    if order::leads_back(nodes, arguments, counts, heads, a) {
+        undo(heads, next, mark);
         return Extended::Occurs;
     }
     Extended::Unified

@@ -14,16 +14,16 @@ pub const GONE: usize = 256;
 pub const LINKS: usize = 512;
 
 // The nodes of a circle get a head: that of node g, which has node `first` after it.
-fn relabel(of: &mut [u8], next: &[u8], first: u8, g: u8, to: u8)
-    requires { ⌜ Circling (length (now of)) (now next) g × (first ≡ word (now next) g) ⌝ }
-    ensures { λ r. ⌜ Relabels (now (next .entry)) g to (now (of .entry)) (now (of .exit)) ⌝ }
+fn relabel(heads: &mut [u8], next: &[u8], first: u8, g: u8, to: u8)
+    requires { ⌜ Circling (length (now heads)) (now next) g × (first ≡ word (now next) g) ⌝ }
+    ensures { λ r. ⌜ Relabels (now (next .entry)) g to (now (heads .entry)) (now (heads .exit)) ⌝ }
 {
     let k = g as usize;
-    of[k] = to;
+    heads[k] = to;
     let mut i = first;
     while i != g {
         let j = i as usize;
-        of[j] = to;
+        heads[j] = to;
         i = next[j];
     }
 }
@@ -52,42 +52,42 @@ fn note(next: &mut [u8], g: u8)
 }
 
 // Makes one class of two, whose heads are given: the first head goes.
-pub fn merge(of: &mut [u8], next: &mut [u8], from: u8, to: u8)
-    requires { ⌜ TwoHeads (length (now of)) (now of) (now next) from to × Trailed (length (now of)) (now of) (now next) ⌝ }
-    ensures { λ r. ⌜ Merged (length (now (of .entry))) (now (of .entry)) (now (next .entry)) from to (now (of .exit)) (now (next .exit)) ⌝ }
+pub fn merge(heads: &mut [u8], next: &mut [u8], from: u8, to: u8)
+    requires { ⌜ TwoHeads (length (now heads)) (now heads) (now next) from to × Trailed (length (now heads)) (now heads) (now next) ⌝ }
+    ensures { λ r. ⌜ Merged (length (now (heads .entry))) (now (heads .entry)) (now (next .entry)) from to (now (heads .exit)) (now (next .exit)) ⌝ }
 {
     let i = from as usize;
     let first = next[i];
-    relabel(of, next, first, from, to);
+    relabel(heads, next, first, from, to);
     link(next, from, to);
     note(next, from);
 }
 
 // Undoes the last join, of k: the head that went has its circle again.
-fn unmerge(of: &mut [u8], next: &mut [u8], k: u8)
-    requires { ⌜ Last (length (now of)) (now of) (now next) × (k ≡ gone (now next)) ⌝ }
-    ensures { λ r. ⌜ OneMerged (length (now (of .entry))) (now (of .exit)) (now (next .exit)) (now (of .entry)) (now (next .entry)) ⌝ }
+fn unmerge(heads: &mut [u8], next: &mut [u8], k: u8)
+    requires { ⌜ Last (length (now heads)) (now heads) (now next) × (k ≡ gone (now next)) ⌝ }
+    ensures { λ r. ⌜ OneMerged (length (now (heads .entry))) (now (heads .exit)) (now (next .exit)) (now (heads .entry)) (now (next .entry)) ⌝ }
 {
     let p = GONE + k as usize;
     let from = next[p];
     next[p] = 0;
     next[GONE] = k - 1;
     let i = from as usize;
-    let to = of[i];
+    let to = heads[i];
     let j = to as usize;
     let first = next[j];
     link(next, from, to);
-    relabel(of, next, first, from, from);
+    relabel(heads, next, first, from, from);
 }
 
 // Undoes joins until only so many heads have gone.
-pub fn undo(of: &mut [u8], next: &mut [u8], mark: u8)
-    requires { ⌜ Since (length (now of)) mark (now of) (now next) × (length (now next) ≡ links) ⌝ }
-    ensures { λ r. ⌜ Before (length (now (of .entry))) mark (now (of .exit)) (now (next .exit)) (now (of .entry)) (now (next .entry)) ⌝ }
+pub fn undo(heads: &mut [u8], next: &mut [u8], mark: u8)
+    requires { ⌜ Since (length (now heads)) mark (now heads) (now next) × (length (now next) ≡ links) ⌝ }
+    ensures { λ r. ⌜ Before (length (now (heads .entry))) mark (now (heads .exit)) (now (next .exit)) (now (heads .entry)) (now (next .entry)) ⌝ }
 {
     let mut k = next[GONE];
     while k != mark {
-        unmerge(of, next, k);
+        unmerge(heads, next, k);
         k -= 1;
     }
 }

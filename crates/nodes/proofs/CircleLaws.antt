@@ -112,7 +112,7 @@ pub not-there : (i g : ℕ) (b : Bool) → (not (eqb i g) && b) ≡ true → i �
 not-there i g b e = eqb-false i g (not-true _ (and-true-left (not (eqb i g)) b e))
 
 -- a head can be come back to
-pub circling : {n : ℕ} {cs next : List ℕ} {g h : ℕ} → TwoHeads n cs next g h → Circling n next g
+pub circling : {n : ℕ} {heads next : List ℕ} {g h : ℕ} → TwoHeads n heads next g h → Circling n next g
 circling {next = next} {g = g} t =
     record {
       inside = t .first;
@@ -122,7 +122,7 @@ circling {next = next} {g = g} t =
     }
 
 -- the heads in the other order
-pub turned : {n : ℕ} {cs next : List ℕ} {g h : ℕ} → TwoHeads n cs next g h → TwoHeads n cs next h g
+pub turned : {n : ℕ} {heads next : List ℕ} {g h : ℕ} → TwoHeads n heads next g h → TwoHeads n heads next h g
 turned t =
     record {
       partition = t .partition;
@@ -140,22 +140,22 @@ pub record Exchange (next : List ℕ) (g h : ℕ) (next′ : List ℕ) : Type 0 
   pub second : word next′ h ≡ word next g
   pub other : (i : ℕ) → (i ≡ g → ⊥) → (i ≡ h → ⊥) → word next′ i ≡ word next i
 
-module _ (n : ℕ) (cs next : List ℕ) (g h : ℕ) (next′ : List ℕ) (t : TwoHeads n cs next g h) (x : Exchange next g h next′) where
+module _ (n : ℕ) (heads next : List ℕ) (g h : ℕ) (next′ : List ℕ) (t : TwoHeads n heads next g h) (x : Exchange next g h next′) where
   -- within a class of neither the way is the same
-  way-other : {i j : ℕ} → Follows next i j → i < n → (classOf cs i ≡ g → ⊥) → (classOf cs i ≡ h → ⊥) → Follows next′ i j
+  way-other : {i j : ℕ} → Follows next i j → i < n → (classOf heads i ≡ g → ⊥) → (classOf heads i ≡ h → ⊥) → Follows next′ i j
   way-other here l d e = here
   way-other (onward {i} {j} f) l d e =
       let q = t .circles .same i l in
       let r : Follows next′ (word next i) j = way-other f (t .circles .below i l) (λ z. d (sym q ∙ z)) (λ z. e (sym q ∙ z)) in
-      let w : word next′ i ≡ word next i = x .other i (λ z. d (ap (classOf cs) z ∙ t .first-own)) (λ z. e (ap (classOf cs) z ∙ t .second-own)) in
+      let w : word next′ i ≡ word next i = x .other i (λ z. d (ap (classOf heads) z ∙ t .first-own)) (λ z. e (ap (classOf heads) z ∙ t .second-own)) in
       step-on i w r
 
   -- a node of the class of g other than g has the same node after it
-  same-after : (i : ℕ) → classOf cs i ≡ g → (i ≡ g → ⊥) → word next′ i ≡ word next i
-  same-after i e d = x .other i d (λ z. t .apart (sym e ∙ ap (classOf cs) z ∙ t .second-own))
+  same-after : (i : ℕ) → classOf heads i ≡ g → (i ≡ g → ⊥) → word next′ i ≡ word next i
+  same-after i e d = x .other i d (λ z. t .apart (sym e ∙ ap (classOf heads) z ∙ t .second-own))
 
   -- from a node of the class of g the way is the same, or passes g
-  way-on : {i j : ℕ} → Follows next i j → i < n → classOf cs i ≡ g → Follows next′ i j ⊎ Follows next′ i g
+  way-on : {i j : ℕ} → Follows next i j → i < n → classOf heads i ≡ g → Follows next′ i j ⊎ Follows next′ i g
   way-on here l e = inl here
   way-on (onward {i} {j} f) l e =
       go (ℕ-discrete i g) (way-on f (t .circles .below i l) (t .circles .same i l ∙ e))
@@ -166,7 +166,7 @@ module _ (n : ℕ) (cs next : List ℕ) (g h : ℕ) (next′ : List ℕ) (t : Tw
       go (no z) (inr r) = inr (step-on i (same-after i e z) r)
 
   -- from a node of the class of g or from the one after g the way is the same
-  way-next : {i j : ℕ} → Follows next i j → i < n → classOf cs i ≡ g → Follows next′ i j ⊎ Follows next′ (word next g) j
+  way-next : {i j : ℕ} → Follows next i j → i < n → classOf heads i ≡ g → Follows next′ i j ⊎ Follows next′ (word next g) j
   way-next here l e = inl here
   way-next (onward {i} {j} f) l e =
       go (ℕ-discrete i g) (way-next f (t .circles .below i l) (t .circles .same i l ∙ e))
@@ -178,7 +178,7 @@ module _ (n : ℕ) (cs next : List ℕ) (g h : ℕ) (next′ : List ℕ) (t : Tw
       go (no z) (inr r) = inr r
 
   -- g follows on its class
-  to-first : (i : ℕ) → i < n → classOf cs i ≡ g → Follows next′ i g
+  to-first : (i : ℕ) → i < n → classOf heads i ≡ g → Follows next′ i g
   to-first i l e = go (way-on (t .circles .around i g l (t .first) (e ∙ sym (t .first-own))) l e)
     where
       go : Follows next′ i g ⊎ Follows next′ i g → Follows next′ i g
@@ -186,13 +186,13 @@ module _ (n : ℕ) (cs next : List ℕ) (g h : ℕ) (next′ : List ℕ) (t : Tw
       go (inr r) = r
 
   -- its class follows on h
-  from-second : (j : ℕ) → j < n → classOf cs j ≡ g → Follows next′ h j
+  from-second : (j : ℕ) → j < n → classOf heads j ≡ g → Follows next′ h j
   from-second j l e = step-on h (x .second) (go (way-next (t .circles .around (word next g) j b l (c ∙ sym e)) b c))
     where
       b : word next g < n
       b = t .circles .below g (t .first)
 
-      c : classOf cs (word next g) ≡ g
+      c : classOf heads (word next g) ≡ g
       c = t .circles .same g (t .first) ∙ t .first-own
 
       go : Follows next′ (word next g) j ⊎ Follows next′ (word next g) j → Follows next′ (word next g) j
@@ -203,7 +203,7 @@ module _ (n : ℕ) (cs next : List ℕ) (g h : ℕ) (next′ : List ℕ) (t : Tw
 exchange-turned : {next : List ℕ} {g h : ℕ} {next′ : List ℕ} → Exchange next g h next′ → Exchange next h g next′
 exchange-turned x = record { first = x .second; second = x .first; other = λ i d e. x .other i e d }
 
-module _ (n : ℕ) (cs next : List ℕ) (g h : ℕ) (t : TwoHeads n cs next g h) where
+module _ (n : ℕ) (heads next : List ℕ) (g h : ℕ) (t : TwoHeads n heads next g h) where
   -- the two heads do
   pub exchange : Exchange next g h (exchanged next g h)
   unfolding exchanged
@@ -220,33 +220,33 @@ module _ (n : ℕ) (cs next : List ℕ) (g h : ℕ) (t : TwoHeads n cs next g h)
 
   -- A node is of the class of g, of that of h, or of neither, and has its head after the class of g becomes a part of that of h.
   data Case (i : ℕ) : Type 0 where
-    of-first : classOf cs i ≡ g → classOf (map (renamed g h) cs) i ≡ h → Case i
-    of-second : classOf cs i ≡ h → classOf (map (renamed g h) cs) i ≡ h → Case i
-    of-other : (classOf cs i ≡ g → ⊥) → (classOf cs i ≡ h → ⊥) → classOf (map (renamed g h) cs) i ≡ classOf cs i → Case i
+    of-first : classOf heads i ≡ g → classOf (map (renamed g h) heads) i ≡ h → Case i
+    of-second : classOf heads i ≡ h → classOf (map (renamed g h) heads) i ≡ h → Case i
+    of-other : (classOf heads i ≡ g → ⊥) → (classOf heads i ≡ h → ⊥) → classOf (map (renamed g h) heads) i ≡ classOf heads i → Case i
 
   -- so is each node
   case-of : (i : ℕ) → i < n → Case i
-  case-of i l = go (ℕ-discrete (classOf cs i) g) (ℕ-discrete (classOf cs i) h)
+  case-of i l = go (ℕ-discrete (classOf heads i) g) (ℕ-discrete (classOf heads i) h)
     where
-      at : classOf (map (renamed g h) cs) i ≡ renamed g h (classOf cs i)
-      at = map-at (renamed g h) cs i (rw (t .partition .size) l)
+      at : classOf (map (renamed g h) heads) i ≡ renamed g h (classOf heads i)
+      at = map-at (renamed g h) heads i (rw (t .partition .size) l)
 
-      go : Dec (classOf cs i ≡ g) → Dec (classOf cs i ≡ h) → Case i
-      go (yes z) d = of-first z (at ∙ renamed-here g h (classOf cs i) z)
-      go (no z) (yes d) = of-second d (at ∙ renamed-other g h (classOf cs i) z ∙ d)
-      go (no z) (no d) = of-other z d (at ∙ renamed-other g h (classOf cs i) z)
+      go : Dec (classOf heads i ≡ g) → Dec (classOf heads i ≡ h) → Case i
+      go (yes z) d = of-first z (at ∙ renamed-here g h (classOf heads i) z)
+      go (no z) (yes d) = of-second d (at ∙ renamed-other g h (classOf heads i) z ∙ d)
+      go (no z) (no d) = of-other z d (at ∙ renamed-other g h (classOf heads i) z)
 
   -- nodes of one class stay in one
-  stay : (i j : ℕ) → i < n → j < n → classOf cs i ≡ classOf cs j → classOf (map (renamed g h) cs) i ≡ classOf (map (renamed g h) cs) j
+  stay : (i j : ℕ) → i < n → j < n → classOf heads i ≡ classOf heads j → classOf (map (renamed g h) heads) i ≡ classOf (map (renamed g h) heads) j
   stay i j l k e =
-      map-at (renamed g h) cs i (rw (t .partition .size) l) ∙ ap (renamed g h) e ∙ sym (map-at (renamed g h) cs j (rw (t .partition .size) k))
+      map-at (renamed g h) heads i (rw (t .partition .size) l) ∙ ap (renamed g h) e ∙ sym (map-at (renamed g h) heads j (rw (t .partition .size) k))
 
   -- the two heads are of one class after
-  heads-one : classOf (map (renamed g h) cs) g ≡ classOf (map (renamed g h) cs) h
+  heads-one : classOf (map (renamed g h) heads) g ≡ classOf (map (renamed g h) heads) h
   heads-one =
-      map-at (renamed g h) cs g (rw (t .partition .size) (t .first))
-      ∙ renamed-here g h (classOf cs g) (t .first-own)
-      ∙ sym (map-at (renamed g h) cs h (rw (t .partition .size) (t .second)) ∙ ap (renamed g h) (t .second-own) ∙ renamed-other g h h (λ z. t .apart (sym z)))
+      map-at (renamed g h) heads g (rw (t .partition .size) (t .first))
+      ∙ renamed-here g h (classOf heads g) (t .first-own)
+      ∙ sym (map-at (renamed g h) heads h (rw (t .partition .size) (t .second)) ∙ ap (renamed g h) (t .second-own) ∙ renamed-other g h h (λ z. t .apart (sym z)))
 
   -- there are as many nodes
   pub exchanged-long : length (exchanged next g h) ≡ length next
@@ -260,42 +260,42 @@ module _ (n : ℕ) (cs next : List ℕ) (g h : ℕ) (t : TwoHeads n cs next g h)
   below-after i l (no z) (no d) = rw (exchange .other i z d) (t .circles .below i l)
 
   -- the one that was after a node is of its class
-  next-stays : (i : ℕ) → i < n → classOf (map (renamed g h) cs) (word next i) ≡ classOf (map (renamed g h) cs) i
+  next-stays : (i : ℕ) → i < n → classOf (map (renamed g h) heads) (word next i) ≡ classOf (map (renamed g h) heads) i
   next-stays i l = stay (word next i) i (t .circles .below i l) l (t .circles .same i l)
 
   -- so is the one that is now
-  one-class : (i : ℕ) → i < n → Dec (i ≡ g) → Dec (i ≡ h) → classOf (map (renamed g h) cs) (word (exchanged next g h) i) ≡ classOf (map (renamed g h) cs) i
+  one-class : (i : ℕ) → i < n → Dec (i ≡ g) → Dec (i ≡ h) → classOf (map (renamed g h) heads) (word (exchanged next g h) i) ≡ classOf (map (renamed g h) heads) i
   one-class i l (yes z) d = rw (z, exchange .first) (next-stays h (t .second) ∙ sym heads-one)
   one-class i l (no z) (yes d) = rw (d, exchange .second) (next-stays g (t .first) ∙ heads-one)
   one-class i l (no z) (no d) = rw (exchange .other i z d) (next-stays i l)
 
   -- each head follows on the other
   to-second : Follows (exchanged next g h) g h
-  to-second = from-second n cs next h g (exchanged next g h) (turned t) (exchange-turned exchange) h (t .second) (t .second-own)
+  to-second = from-second n heads next h g (exchanged next g h) (turned t) (exchange-turned exchange) h (t .second) (t .second-own)
 
   -- and the other way round
   to-other : Follows (exchanged next g h) h g
-  to-other = from-second n cs next g h (exchanged next g h) t exchange g (t .first) (t .first-own)
+  to-other = from-second n heads next g h (exchanged next g h) t exchange g (t .first) (t .first-own)
 
   -- every node of a class follows on every other
-  around-after : (i j : ℕ) → i < n → j < n → classOf (map (renamed g h) cs) i ≡ classOf (map (renamed g h) cs) j → Case i → Case j → Follows (exchanged next g h) i j
+  around-after : (i j : ℕ) → i < n → j < n → classOf (map (renamed g h) heads) i ≡ classOf (map (renamed g h) heads) j → Case i → Case j → Follows (exchanged next g h) i j
   around-after i j l k e (of-first p u) (of-first q v) =
-      follows-on (to-first n cs next g h (exchanged next g h) t exchange i l p) (follows-on to-second (from-second n cs next g h (exchanged next g h) t exchange j k q))
+      follows-on (to-first n heads next g h (exchanged next g h) t exchange i l p) (follows-on to-second (from-second n heads next g h (exchanged next g h) t exchange j k q))
   around-after i j l k e (of-first p u) (of-second q v) =
-      follows-on (to-first n cs next g h (exchanged next g h) t exchange i l p) (from-second n cs next h g (exchanged next g h) (turned t) (exchange-turned exchange) j k q)
+      follows-on (to-first n heads next g h (exchanged next g h) t exchange i l p) (from-second n heads next h g (exchanged next g h) (turned t) (exchange-turned exchange) j k q)
   around-after i j l k e (of-second p u) (of-first q v) =
-      follows-on (to-first n cs next h g (exchanged next g h) (turned t) (exchange-turned exchange) i l p) (from-second n cs next g h (exchanged next g h) t exchange j k q)
+      follows-on (to-first n heads next h g (exchanged next g h) (turned t) (exchange-turned exchange) i l p) (from-second n heads next g h (exchanged next g h) t exchange j k q)
   around-after i j l k e (of-second p u) (of-second q v) =
-      follows-on (to-first n cs next h g (exchanged next g h) (turned t) (exchange-turned exchange) i l p) (follows-on to-other (from-second n cs next h g (exchanged next g h) (turned t) (exchange-turned exchange) j k q))
+      follows-on (to-first n heads next h g (exchanged next g h) (turned t) (exchange-turned exchange) i l p) (follows-on to-other (from-second n heads next h g (exchanged next g h) (turned t) (exchange-turned exchange) j k q))
   around-after i j l k e (of-first p u) (of-other a b v) = absurd (b (sym v ∙ sym e ∙ u))
   around-after i j l k e (of-second p u) (of-other a b v) = absurd (b (sym v ∙ sym e ∙ u))
   around-after i j l k e (of-other a b u) (of-first q v) = absurd (b (sym u ∙ e ∙ v))
   around-after i j l k e (of-other a b u) (of-second q v) = absurd (b (sym u ∙ e ∙ v))
   around-after i j l k e (of-other a b u) (of-other c d v) =
-      way-other n cs next g h (exchanged next g h) t exchange (t .circles .around i j l k (sym u ∙ e ∙ v)) l a b
+      way-other n heads next g h (exchanged next g h) t exchange (t .circles .around i j l k (sym u ∙ e ∙ v)) l a b
 
   -- two circles are made one
-  pub circles-linked : Circles n (map (renamed g h) cs) (exchanged next g h)
+  pub circles-linked : Circles n (map (renamed g h) heads) (exchanged next g h)
   circles-linked =
       record {
         size = rw exchanged-long (t .circles .size);

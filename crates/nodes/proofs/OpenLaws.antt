@@ -87,8 +87,8 @@ weaker-closed nodes counts g h p l m =
     go x (no k) (no d) = let y = strength-open nodes counts h k d in absurd (omega (arith, l, x, y))
 
 -- closed applications that keep their heads have closed heads
-pub closed-kept : (nodes arguments counts cs cs′ : List ℕ) → ClosedHeads nodes arguments counts cs → KeepsClosed nodes counts cs cs′ → ClosedHeads nodes arguments counts cs′
-closed-kept nodes arguments counts cs cs′ c k =
+pub closed-kept : (nodes arguments counts heads heads′ : List ℕ) → ClosedHeads nodes arguments counts heads → KeepsClosed nodes counts heads heads′ → ClosedHeads nodes arguments counts heads′
+closed-kept nodes arguments counts heads heads′ c k =
     record {
       closed = λ i m. rw (k i m) (c .closed i m);
       least = λ i m. rw (k i m) (c .least i m);

@@ -31,11 +31,11 @@ pub fn entry(list: &[u16], i: usize) -> usize
 }
 
 // The name of the value of a node, given the heads of the nodes and the names of heads.
-pub fn value_name(of: &[u8], names: &[u8], node: Node) -> Node
-    requires { ⌜ (node .0 < length (now of)) × (word (now of) (node .0) < length (now names)) ⌝ }
-    ensures { λ r. ⌜ (r .0 ≡ valueName (now (of .entry)) (now (names .entry)) (node .0)) × (r .0 < maxNodes) ⌝ }
+pub fn value_name(heads: &[u8], names: &[u8], node: Node) -> Node
+    requires { ⌜ (node .0 < length (now heads)) × (word (now heads) (node .0) < length (now names)) ⌝ }
+    ensures { λ r. ⌜ (r .0 ≡ valueName (now (heads .entry)) (now (names .entry)) (node .0)) × (r .0 < maxNodes) ⌝ }
 {
     let i = node.0 as usize;
-    let head = of[i] as usize;
+    let head = heads[i] as usize;
     node_in(names, head)
 }

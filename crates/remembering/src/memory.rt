@@ -74,7 +74,7 @@ pub fn put_words(
     right: &[u32],
     known: &[u8],
     prepared: &[u16],
-    of: &[u8],
+    heads: &[u8],
     key: usize,
     i: usize,
     entry: &mut [u32],
@@ -83,8 +83,8 @@ pub fn put_words(
     at: usize,
 )
     requires { ⌜ Sections (now nodes) (now arguments) × KnownOf (now nodes) (now arguments) (now known) ⌝ }
-    requires { ⌜ Formed (now nodes) (now arguments) (now known) (now of) × Prepared (now nodes) (now arguments) (now known) (now of) (now prepared) ⌝ }
-    requires { ⌜ Standing (now nodes) (now arguments) (now left) (now right) (now of) (now entry) i ⌝ }
+    requires { ⌜ Formed (now nodes) (now arguments) (now known) (now heads) × Prepared (now nodes) (now arguments) (now known) (now heads) (now prepared) ⌝ }
+    requires { ⌜ Standing (now nodes) (now arguments) (now left) (now right) (now heads) (now entry) i ⌝ }
     requires { ⌜ Pairable (now nodes) (now left) (now right) (now entry) i ⌝ }
     requires { ⌜ Keyed (now left) (now right) (now entry) i key ⌝ }
     requires { ⌜ Remembers (now nodes) (now arguments) (now left) (now right) (now memory) (now out) at ⌝ }
@@ -119,7 +119,7 @@ pub fn put_words(
         known,
         prepared,
         &known[LIST..list_end],
-        of,
+        heads,
         &mut entry[words..end],
     );
 }

@@ -102,7 +102,7 @@ module _ (nodes arguments : List ℕ) (a b n : ℕ) (e : n ≡ nodeCount nodes) 
       (omega (arith, p), omega (arith, q))
 
 -- Two nodes, the lent words, and what unifying begins with.
-module _ (nodes arguments : List ℕ) (s : Sections nodes arguments) (a b : ℕ) (h : (a < nodeCount nodes) × (b < nodeCount nodes)) (lent : List ℕ) (v : Variables) (cs : List ℕ) (g : BeginsShared nodes arguments v cs) where
+module _ (nodes arguments : List ℕ) (s : Sections nodes arguments) (a b : ℕ) (h : (a < nodeCount nodes) × (b < nodeCount nodes)) (lent : List ℕ) (v : Variables) (heads : List ℕ) (g : BeginsShared nodes arguments v heads) where
   abbrev ns : List Node
   ns = nodesFrom nodes arguments
 
@@ -130,7 +130,7 @@ module _ (nodes arguments : List ℕ) (s : Sections nodes arguments) (a b : ℕ)
       either x y u (inr m) = g .same σ x y m
 
   -- Enough words are lent, and the classes are extended by the pair.
-  module _ (l : v .count ≤ length lent) (counts next : List ℕ) (r : Extended) (cs′ next′ : List ℕ) (x : Extends nodes arguments counts cs next a b r cs′ next′) where
+  module _ (l : v .count ≤ length lent) (counts next : List ℕ) (r : Extended) (heads′ next′ : List ℕ) (x : Extends nodes arguments counts heads next a b r heads′ next′) where
     -- what unifying the two nodes comes to
     comes : extended r ≡ outcome ns ((a, b) ∷ [])
     comes =
@@ -155,7 +155,7 @@ module _ (nodes arguments : List ℕ) (s : Sections nodes arguments) (a b : ℕ)
     answers-occurs e = answers-ended Unification.Occurs lent (rw e) (rw e)
 
     module _ (e : r ≡ Extended.Unified) where
-      unified-stands : Stands nodes arguments cs′ ((a, b) ∷ g .pairs)
+      unified-stands : Stands nodes arguments heads′ ((a, b) ∷ g .pairs)
       unified-stands = x .stands e (g .pairs) (g .stands)
 
       one-inside : Inside ns ((a, b) ∷ [])
@@ -167,15 +167,15 @@ module _ (nodes arguments : List ℕ) (s : Sections nodes arguments) (a b : ℕ)
           same-unifiers ns (sections-well-formed nodes arguments s) ((a, b) ∷ g .pairs) ((a, b) ∷ []) (unified-stands .inside) one-inside pair-alone (outcome-unified ns (sections-well-formed nodes arguments s) ((a, b) ∷ g .pairs) (unified-stands .inside) .0 (sym (x .answers (g .pairs) (g .stands)) ∙ ap extended e))
 
       -- unified: the binding words are left
-      pub answers-unified : (lent′ : List ℕ) → Leaves nodes arguments cs′ lent lent′ → AnswersByNodes ns a b lent Unification.Unified lent′
+      pub answers-unified : (lent′ : List ℕ) → Leaves nodes arguments heads′ lent lent′ → AnswersByNodes ns a b lent Unification.Unified lent′
       unfolding wordsAfter
       answers-unified lent′ w =
           answers-ended Unification.Unified lent′ (rw e)
           (rw (e, ← one-words, words-counted ns ((a, b) ∷ g .pairs)) (w ((a, b) ∷ g .pairs) unified-stands))
 
 -- what putting the members of each class into a circle asks
-pub circles-ready : (n : ℕ) (cs next : List ℕ) → n ≤ maxNodes → length cs ≡ n → next ≡ replicate links 0 → HeadsFirst n cs → (next ≡ replicate links 0) × HeadsFirst (length cs) cs × (length cs ≤ maxNodes)
-circles-ready n cs next b e d h = (d, rw e h, omega (arith, b, e))
+pub circles-ready : (n : ℕ) (heads next : List ℕ) → n ≤ maxNodes → length heads ≡ n → next ≡ replicate links 0 → HeadsFirst n heads → (next ≡ replicate links 0) × HeadsFirst (length heads) heads × (length heads ≤ maxNodes)
+circles-ready n heads next b e d h = (d, rw e h, omega (arith, b, e))
 
 -- the least nodes of the variables present, for which enough words are lent
 pub list-given : (nodes arguments : List ℕ) (v : Variables) (n : ℕ) → Lists nodes arguments v → v .count ≤ n → (take (v .count - 0) (v .nodes) ≡ leastNodes (nodesFrom nodes arguments)) × (length (take (v .count - 0) (v .nodes)) ≤ n)

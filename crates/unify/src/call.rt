@@ -30,7 +30,7 @@ fn unify_with_room(
     arguments: &[u32],
     a: Node,
     b: Node,
-    of: &mut [u8],
+    heads: &mut [u8],
     next: &mut [u8],
     counts: &mut [u8],
     prepared: &mut [u16],
@@ -38,24 +38,24 @@ fn unify_with_room(
 ) -> Unification
     requires { ⌜ Sections (now nodes) (now arguments) ⌝ }
     requires { ⌜ (a .0 < nodeCount (now nodes)) × (b .0 < nodeCount (now nodes)) ⌝ }
-    requires { ⌜ (length (now of) ≡ nodeCount (now nodes)) × (now next ≡ replicate links 0) × (length (now counts) ≡ nodeCount (now nodes)) ⌝ }
+    requires { ⌜ (length (now heads) ≡ nodeCount (now nodes)) × (now next ≡ replicate links 0) × (length (now counts) ≡ nodeCount (now nodes)) ⌝ }
     requires { ⌜ now prepared ≡ replicate preparedWords 0 ⌝ }
     ensures { λ r. ⌜ AnswersByNodes (nodesFrom (now (nodes .entry)) (now (arguments .entry))) (a .0) (b .0) (now (out .entry)) r (now (out .exit)) ⌝ }
 {
-    let variables = begin_shared(nodes, arguments, of);
+    let variables = begin_shared(nodes, arguments, heads);
     if out.len() < variables.count {
         return Unification::Refused(Refusal::TooFewLent);
     }
-    make_circles(of, next);
+    make_circles(heads, next);
     count_open(nodes, arguments, counts);
-    prepare(nodes, arguments, counts, of, prepared);
+    prepare(nodes, arguments, counts, heads, prepared);
     let list = variables.nodes;
     let v = variables.count;
-    match extend(nodes, arguments, counts, of, next, a, b) {
+    match extend(nodes, arguments, counts, heads, next, a, b) {
         Extended::Clash => Unification::Clash,
         Extended::Occurs => Unification::Occurs,
         Extended::Unified => {
-            bind(nodes, arguments, counts, prepared, &list[0..v], of, out);
+            bind(nodes, arguments, counts, prepared, &list[0..v], heads, out);
             Unification::Unified
         }
     }
@@ -71,7 +71,7 @@ fn unify_nodes(nodes: &[u32], arguments: &[u32], a: Node, b: Node, out: &mut [u3
         return Unification::Refused(Refusal::NotANode);
     }
     let count = layout::index(n);
-    let mut of = [0u8; MAX_NODES];
+    let mut heads = [0u8; MAX_NODES];
     let mut next = [0u8; LINKS];
     let mut counts = [0u8; MAX_NODES];
     let mut prepared = [0u16; PREPARED];
@@ -80,7 +80,7 @@ fn unify_nodes(nodes: &[u32], arguments: &[u32], a: Node, b: Node, out: &mut [u3
         arguments,
         a,
         b,
-        &mut of[0..count],
+        &mut heads[0..count],
         &mut next,
         &mut counts[0..count],
         &mut prepared,

@@ -24,8 +24,8 @@ zeros n k = go (decLt k n)
     go (no l) = List·getD-eq-default (replicate n 0) 0 (let e = length-replicate {A = ℕ} n 0 in omega (arith, l, e))
 
 -- no node is in a circle yet
-pub circles-none : (cs next : List ℕ) → next ≡ replicate links 0 → CirclesBefore cs next 0
-circles-none cs next e =
+pub circles-none : (heads next : List ℕ) → next ≡ replicate links 0 → CirclesBefore heads next 0
+circles-none heads next e =
     record {
       size = rw e (length-replicate {A = ℕ} links 0);
       clear = λ k h. rw e (zeros links k);
@@ -35,12 +35,12 @@ circles-none cs next e =
     }
 
 -- all are, and no head has gone
-pub circles-all : (cs next : List ℕ) (i : ℕ) → length cs ≤ maxNodes → i ≤ length cs → length cs ≤ i → CirclesBefore cs next i → Trailed (length cs) cs next
-circles-all cs next i few h l c =
-    let e : length cs ≡ i = omega arith in
+pub circles-all : (heads next : List ℕ) (i : ℕ) → length heads ≤ maxNodes → i ≤ length heads → length heads ≤ i → CirclesBefore heads next i → Trailed (length heads) heads next
+circles-all heads next i few h l c =
+    let e : length heads ≡ i = omega arith in
     let q = c .size in
     let z = c .clear 256 (omega arith) in
-    let r = roots-most (length cs) cs in
+    let r = roots-most (length heads) heads in
     record {
       circles = record { size = omega (arith, few, q); below = rw e (c .below); same = rw e (c .same); around = rw e (c .around) };
       few = few;
@@ -49,9 +49,9 @@ circles-all cs next i few h l c =
       clear = λ k w. c .clear k (omega (arith, w));
     }
 
-module _ (cs next : List ℕ) (i : ℕ) (b : i < length cs) (few : length cs ≤ maxNodes) (f : HeadsFirst (length cs) cs) (c : CirclesBefore cs next i) where
+module _ (heads next : List ℕ) (i : ℕ) (b : i < length heads) (few : length heads ≤ maxNodes) (f : HeadsFirst (length heads) heads) (c : CirclesBefore heads next i) where
   -- a node that is its own head
-  module _ (e : classOf cs i ≡ i) where
+  module _ (e : classOf heads i ≡ i) where
     abbrev begun : List ℕ
     begun = set next i i
 
@@ -68,7 +68,7 @@ module _ (cs next : List ℕ) (i : ℕ) (b : i < length cs) (few : length cs ≤
         onward r
 
     -- it begins a circle
-    pub circle-begins : CirclesBefore cs (set next i i) (i + 1)
+    pub circle-begins : CirclesBefore heads (set next i i) (i + 1)
     circle-begins =
         record {
           size = length-set next i i ∙ c .size;
@@ -86,35 +86,35 @@ module _ (cs next : List ℕ) (i : ℕ) (b : i < length cs) (few : length cs ≤
             let y = c .below k l in
             omega (arith, x, y)
 
-        same-at : (k : ℕ) → k < i + 1 → Dec (k ≡ i) → classOf cs (word begun k) ≡ classOf cs k
-        same-at k h (yes z) = ap (classOf cs) (ap (word begun) z ∙ begun-here ∙ sym z)
+        same-at : (k : ℕ) → k < i + 1 → Dec (k ≡ i) → classOf heads (word begun k) ≡ classOf heads k
+        same-at k h (yes z) = ap (classOf heads) (ap (word begun) z ∙ begun-here ∙ sym z)
         same-at k h (no n) =
             let l : k < i = omega (arith, n) in
-            ap (classOf cs) (begun-other k l) ∙ c .same k l
+            ap (classOf heads) (begun-other k l) ∙ c .same k l
 
-        around-at : (j k : ℕ) → j < i + 1 → k < i + 1 → classOf cs j ≡ classOf cs k → Dec (j ≡ i) → Dec (k ≡ i) → Follows begun j k
+        around-at : (j k : ℕ) → j < i + 1 → k < i + 1 → classOf heads j ≡ classOf heads k → Dec (j ≡ i) → Dec (k ≡ i) → Follows begun j k
         around-at j k h l q (yes y) (yes z) = rw (y, z) here
         around-at j k h l q (yes y) (no n) =
             let x = f .first k (omega arith) in
-            let u : i ≡ classOf cs k = sym e ∙ ap (classOf cs) (sym y) ∙ q in
+            let u : i ≡ classOf heads k = sym e ∙ ap (classOf heads) (sym y) ∙ q in
             absurd (omega (arith, x, u, n))
         around-at j k h l q (no n) (yes z) =
             let x = f .first j (omega arith) in
-            let u : classOf cs j ≡ i = q ∙ ap (classOf cs) z ∙ e in
+            let u : classOf heads j ≡ i = q ∙ ap (classOf heads) z ∙ e in
             absurd (omega (arith, x, u, n))
         around-at j k h l q (no m) (no n) =
             begun-follows (omega (arith, m)) (c .around j k (omega (arith, m)) (omega (arith, n)) q)
 
   -- a node with another head
-  module _ (h : ℕ) (e : h ≡ classOf cs i) (d : h ≡ i → ⊥) where
+  module _ (h : ℕ) (e : h ≡ classOf heads i) (d : h ≡ i → ⊥) where
     abbrev put : List ℕ
     put = set (set next i (word next h)) h i
 
     head-before : h < i
     head-before = let x = f .first i b in omega (arith, x, e, d)
 
-    head-own : classOf cs h ≡ classOf cs i
-    head-own = ap (classOf cs) e ∙ f .own i b
+    head-own : classOf heads h ≡ classOf heads i
+    head-own = ap (classOf heads) e ∙ f .own i b
 
     put-head : word put h ≡ i
     put-head =
@@ -146,7 +146,7 @@ module _ (cs next : List ℕ) (i : ℕ) (b : i < length cs) (few : length cs ≤
             onward r′
 
     -- it is put behind its head
-    pub circle-grows : CirclesBefore cs (set (set next i (word next h)) h i) (i + 1)
+    pub circle-grows : CirclesBefore heads (set (set next i (word next h)) h i) (i + 1)
     circle-grows =
         record {
           size = length-set (set next i (word next h)) h i ∙ length-set next i (word next h) ∙ c .size;
@@ -169,26 +169,26 @@ module _ (cs next : List ℕ) (i : ℕ) (b : i < length cs) (few : length cs ≤
             let y = c .below k u in
             omega (arith, x, y)
 
-        same-at : (k : ℕ) → k < i + 1 → Dec (k ≡ i) → Dec (k ≡ h) → classOf cs (word put k) ≡ classOf cs k
+        same-at : (k : ℕ) → k < i + 1 → Dec (k ≡ i) → Dec (k ≡ h) → classOf heads (word put k) ≡ classOf heads k
         same-at k l (yes z) t =
-            ap (classOf cs) (ap (word put) z ∙ put-here) ∙ c .same h head-before ∙ head-own ∙ ap (classOf cs) (sym z)
+            ap (classOf heads) (ap (word put) z ∙ put-here) ∙ c .same h head-before ∙ head-own ∙ ap (classOf heads) (sym z)
         same-at k l (no n) (yes z) =
-            ap (classOf cs) (ap (word put) z ∙ put-head) ∙ sym head-own ∙ ap (classOf cs) (sym z)
+            ap (classOf heads) (ap (word put) z ∙ put-head) ∙ sym head-own ∙ ap (classOf heads) (sym z)
         same-at k l (no n) (no m) =
             let u : k < i = omega (arith, n) in
-            ap (classOf cs) (put-other k u m) ∙ c .same k u
+            ap (classOf heads) (put-other k u m) ∙ c .same k u
 
-        around-at : (j k : ℕ) → j < i + 1 → k < i + 1 → classOf cs j ≡ classOf cs k → Dec (j ≡ i) → Dec (k ≡ i) → Follows put j k
+        around-at : (j k : ℕ) → j < i + 1 → k < i + 1 → classOf heads j ≡ classOf heads k → Dec (j ≡ i) → Dec (k ≡ i) → Follows put j k
         around-at j k l m q (yes y) (yes z) = rw (y, z) here
         around-at j k l m q (yes y) (no n) =
             let u : k < i = omega (arith, n) in
             let v = c .below h head-before in
-            let r = put-follows v (c .around (word next h) k v u (c .same h head-before ∙ head-own ∙ ap (classOf cs) (sym y) ∙ q)) in
+            let r = put-follows v (c .around (word next h) k v u (c .same h head-before ∙ head-own ∙ ap (classOf heads) (sym y) ∙ q)) in
             let r′ : Follows put (word put j) k = rw (y, put-here) r in
             onward r′
         around-at j k l m q (no n) (yes z) =
             let u : j < i = omega (arith, n) in
-            let r = put-follows u (c .around j h u head-before (q ∙ ap (classOf cs) z ∙ sym head-own)) in
+            let r = put-follows u (c .around j h u head-before (q ∙ ap (classOf heads) z ∙ sym head-own)) in
             let t : Follows put (word put h) k = rw (put-head, z) here in
             follows-on r (onward t)
         around-at j k l m q (no n) (no o) =

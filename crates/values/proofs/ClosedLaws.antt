@@ -71,10 +71,10 @@ module _ (nodes arguments : List ℕ) (s : Sections nodes arguments) (counts : L
           below (argumentOf nodes arguments i q) (argumentOf nodes arguments j q) (omega (arith, x)) (c .below i (m .node) m q u) (omega (arith, y)) (a .same q t)
 
   -- closed heads, where heads are not after their nodes and nodes have one head exactly if they have one term
-  pub heads-closed : (cs : List ℕ) → Partition (nodeCount nodes) cs → ((i : ℕ) → i < nodeCount nodes → classOf cs i ≤ i) → ((i : ℕ) → i < nodeCount nodes → value (nodesFrom nodes arguments) var i ≡ value (nodesFrom nodes arguments) var (classOf cs i)) → ((i j : ℕ) → i < nodeCount nodes → j < nodeCount nodes → value (nodesFrom nodes arguments) var i ≡ value (nodesFrom nodes arguments) var j → classOf cs i ≡ classOf cs j) → ClosedHeads nodes arguments counts cs
-  heads-closed cs p low valued shared =
+  pub heads-closed : (heads : List ℕ) → Partition (nodeCount nodes) heads → ((i : ℕ) → i < nodeCount nodes → classOf heads i ≤ i) → ((i : ℕ) → i < nodeCount nodes → value (nodesFrom nodes arguments) var i ≡ value (nodesFrom nodes arguments) var (classOf heads i)) → ((i j : ℕ) → i < nodeCount nodes → j < nodeCount nodes → value (nodesFrom nodes arguments) var i ≡ value (nodesFrom nodes arguments) var j → classOf heads i ≡ classOf heads j) → ClosedHeads nodes arguments counts heads
+  heads-closed heads p low valued shared =
       record {
-        closed = λ i m. closed-same (suc i) i (classOf cs i) (omega arith) m (p .below i (m .node)) (valued i (m .node));
+        closed = λ i m. closed-same (suc i) i (classOf heads i) (omega arith) m (p .below i (m .node)) (valued i (m .node));
         least = λ i m. low i (m .node);
         valued = λ i m. sym (valued i (m .node));
         shared = λ i j m k e. shared i j (m .node) (k .node) e;

@@ -13,8 +13,8 @@ use Rattle.values.specs.Code.Naming.{Nameable, keys, keyOf, keyAt, Compa
 use Rattle.values.proofs.AlikeLaws.{key-alike}
 
 -- no node stands twice in the order, so it is no longer than there are nodes
-pub order-short : (nodes arguments cs order : List ℕ) → Nameable nodes arguments cs order → length order ≤ nodeCount nodes
-order-short nodes arguments cs order o = go (decLt (nodeCount nodes) (length order))
+pub order-short : (nodes arguments heads order : List ℕ) → Nameable nodes arguments heads order → length order ≤ nodeCount nodes
+order-short nodes arguments heads order o = go (decLt (nodeCount nodes) (length order))
   where
     go : Dec (nodeCount nodes < length order) → length order ≤ nodeCount nodes
     go (no n) = omega (arith, n)
@@ -23,9 +23,9 @@ order-short nodes arguments cs order o = go (decLt (nodeCount nodes) (length ord
         absurd (o .once (r .0) (r .1) (r .2) (omega (arith, r .3, l)) (r .4))
 
 -- The search for the node at place p.
-module _ (nodes arguments cs order names buckets earlier : List ℕ) (p : ℕ) (s : Naming nodes arguments cs order names buckets earlier p) where
+module _ (nodes arguments heads order names buckets earlier : List ℕ) (p : ℕ) (s : Naming nodes arguments heads order names buckets earlier p) where
   -- the cursor starts at the last representative with the key
-  pub search-start : (k c : ℕ) → k < keys → c ≡ word buckets k → Searching nodes arguments cs order names p k c
+  pub search-start : (k c : ℕ) → k < keys → c ≡ word buckets k → Searching nodes arguments heads order names p k c
   search-start k c h d =
       rw d (record {
         at = λ b e. s .chained .bucket-is k b h e;
@@ -34,8 +34,8 @@ module _ (nodes arguments cs order names buckets earlier : List ℕ) (p : ℕ) (
             omega (arith, t, m);
       })
 
-  module _ (k c : ℕ) (t : Searching nodes arguments cs order names p k c) where
-    search-past : (b : ℕ) → c ≡ suc b → (Alike nodes arguments cs names (word order b) (word order p) → ⊥) → Searching nodes arguments cs order names p k (word earlier b)
+  module _ (k c : ℕ) (t : Searching nodes arguments heads order names p k c) where
+    search-past : (b : ℕ) → c ≡ suc b → (Alike nodes arguments heads names (word order b) (word order p) → ⊥) → Searching nodes arguments heads order names p k (word earlier b)
     search-past b e n =
         let u = t .at b e in
         record {
@@ -45,7 +45,7 @@ module _ (nodes arguments cs order names buckets earlier : List ℕ) (p : ℕ) (
           passed = λ q l m r f a. past q l m r f a (decLt q b) (ℕ-discrete q b);
         }
       where
-        past : (q : ℕ) → q < p → word earlier b ≤ q → Representative nodes order names q → keyAt nodes arguments cs order names q ≡ k → Alike nodes arguments cs names (word order q) (word order p) → Dec (q < b) → Dec (q ≡ b) → ⊥
+        past : (q : ℕ) → q < p → word earlier b ≤ q → Representative nodes order names q → keyAt nodes arguments heads order names q ≡ k → Alike nodes arguments heads names (word order q) (word order p) → Dec (q < b) → Dec (q ≡ b) → ⊥
         past q l m r f a (yes z) y =
             let u = t .at b e in
             let w = s .chained .earlier-reaches q b z (u .0) r (u .1) (f ∙ sym (u .2)) in
@@ -67,13 +67,13 @@ module _ (nodes arguments cs order names buckets earlier : List ℕ) (p : ℕ) (
     search-inside : (b : ℕ) → c ≡ suc b → p < length order → (b < length order) × (b < length earlier) × (word order b < nodeCount nodes)
     search-inside b e l =
         let u = t .at b e in
-        let h = order-short nodes arguments cs order (s .ordered) in
+        let h = order-short nodes arguments heads order (s .ordered) in
         let z = s .readable .sections .limit in
         let y = s .earlier-long in
         let i : b < length order = omega (arith, u .0) in
         (i, omega (arith, h, z, y, i), s .ordered .node b i)
 
-    search-hit : (b : ℕ) → c ≡ suc b → Alike nodes arguments cs names (word order b) (word order p) → Found nodes arguments cs order names p c
+    search-hit : (b : ℕ) → c ≡ suc b → Alike nodes arguments heads names (word order b) (word order p) → Found nodes arguments heads order names p c
     search-hit b e a =
         record {
           found = λ d f.
@@ -95,13 +95,13 @@ module _ (nodes arguments cs order names buckets earlier : List ℕ) (p : ℕ) (
       pub nodes-inside : p < length order → (g h : ℕ) → g ≡ word order (c - 1) → h ≡ word order p → (g < nodeCount nodes) × (h < nodeCount nodes)
       nodes-inside l g h d e = (rw d (cursor-inside l .2), rw e (s .ordered .node p l))
 
-      module _ (g h : ℕ) (r : Bool) (d : g ≡ word order (c - 1)) (e : h ≡ word order p) (u : Compared nodes arguments cs names g h r) where
+      module _ (g h : ℕ) (r : Bool) (d : g ≡ word order (c - 1)) (e : h ≡ word order p) (u : Compared nodes arguments heads names g h r) where
         -- the node at the cursor is alike
-        pub search-found : r ≡ true → Found nodes arguments cs order names p c
+        pub search-found : r ≡ true → Found nodes arguments heads order names p c
         search-found f = search-hit (c - 1) one-more (rw (d, e) at (u .alike f))
 
         -- it is not, and the cursor goes on to the one before it
-        pub search-next : r ≡ false → (b : ℕ) → b ≡ word earlier (c - 1) → Searching nodes arguments cs order names p k b
+        pub search-next : r ≡ false → (b : ℕ) → b ≡ word earlier (c - 1) → Searching nodes arguments heads order names p k b
         search-next f b z = rw z (search-past (c - 1) one-more (λ a. u .different f (rw (d, e) a)))
 
       -- which stands before it
@@ -109,7 +109,7 @@ module _ (nodes arguments cs order names buckets earlier : List ℕ) (p : ℕ) (
       search-less b z = rw z (search-falls (c - 1) one-more)
 
     -- no representative is left
-    pub search-nothing : k ≡ keyOf nodes arguments cs names (word order p) → c ≡ 0 → Found nodes arguments cs order names p 0
+    pub search-nothing : k ≡ keyOf nodes arguments heads names (word order p) → c ≡ 0 → Found nodes arguments heads order names p 0
     unfolding keyAt
     search-nothing e z =
         record {

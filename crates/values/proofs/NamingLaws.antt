@@ -25,7 +25,7 @@ use Rattle.values.proofs.ChainLaws.{chained-skip, chained-add}
 use Rattle.values.proofs.FindLaws.{order-short}
 
 -- Naming the node at place p.
-module _ (nodes arguments cs order : List ℕ) (o : Nameable nodes arguments cs order) (p : ℕ) (inside : p < length order) where
+module _ (nodes arguments heads order : List ℕ) (o : Nameable nodes arguments heads order) (p : ℕ) (inside : p < length order) where
   module _ (names : List ℕ) (v : ℕ) where
     -- The names after it.
     abbrev news : List ℕ
@@ -34,11 +34,11 @@ module _ (nodes arguments cs order : List ℕ) (o : Nameable nodes arguments cs 
     name-kept : (q : ℕ) → q < p → word news (word order q) ≡ word names (word order q)
     name-kept q l = getD-set-other names (word order p) (word order q) v 0 (λ z. o .once q p l inside z)
 
-    same-names : (q : ℕ) → q ≤ p → NamesKept nodes arguments cs names news (word order q)
+    same-names : (q : ℕ) → q ≤ p → NamesKept nodes arguments heads names news (word order q)
     same-names q l j m =
-        getD-set-other names (word order p) (classOf cs (argumentOf nodes arguments (word order q) j)) v 0 (o .first p q j l inside m)
+        getD-set-other names (word order p) (classOf heads (argumentOf nodes arguments (word order q) j)) v 0 (o .first p q j l inside m)
 
-    whole-kept : Whole nodes cs order names → Whole nodes cs order news
+    whole-kept : Whole nodes heads order names → Whole nodes heads order news
     whole-kept (all w) = all w
     whole-kept (compounds w) =
         compounds
@@ -56,7 +56,7 @@ module _ (nodes arguments cs order : List ℕ) (o : Nameable nodes arguments cs 
     representative-was : (q : ℕ) → q < p → Representative nodes order news q → Representative nodes order names q
     representative-was q l r = record { application = r .application; itself = sym (name-kept q l) ∙ r .itself }
 
-    represented-kept : (q : ℕ) → q < p → Represented nodes arguments cs order names q → Represented nodes arguments cs order news q
+    represented-kept : (q : ℕ) → q < p → Represented nodes arguments heads order names q → Represented nodes arguments heads order news q
     represented-kept q l r =
         let b = r .before in
         record {
@@ -64,28 +64,28 @@ module _ (nodes arguments cs order : List ℕ) (o : Nameable nodes arguments cs 
           before = b;
           representative = representative-kept (r .place) (omega (arith, b)) (r .representative);
           named = name-kept q l ∙ r .named;
-          alike = alike-kept nodes arguments cs names news (same-names (r .place) (omega (arith, b))) (same-names q (omega arith)) (r .alike);
+          alike = alike-kept nodes arguments heads names news (same-names (r .place) (omega (arith, b))) (same-names q (omega arith)) (r .alike);
         }
 
-    key-at-kept : (q : ℕ) → q < p → keyAt nodes arguments cs order news q ≡ keyAt nodes arguments cs order names q
+    key-at-kept : (q : ℕ) → q < p → keyAt nodes arguments heads order news q ≡ keyAt nodes arguments heads order names q
     unfolding keyAt
-    key-at-kept q l = key-kept nodes arguments cs names news (word order q) (same-names q (omega arith))
+    key-at-kept q l = key-kept nodes arguments heads names news (word order q) (same-names q (omega arith))
 
     -- The node at place p has its name.
     record NamedHere : Type 0 where
       variable : kindOf nodes (word order p) ≡ 0 → word news (word order p) ≡ word order p
-      application : (kindOf nodes (word order p) ≡ 0 → ⊥) → Represented nodes arguments cs order news p
-      apart : (q : ℕ) → q < p → Representative nodes order news q → Representative nodes order news p → Alike nodes arguments cs news (word order q) (word order p) → ⊥
+      application : (kindOf nodes (word order p) ≡ 0 → ⊥) → Represented nodes arguments heads order news p
+      apart : (q : ℕ) → q < p → Representative nodes order news q → Representative nodes order news p → Alike nodes arguments heads news (word order q) (word order p) → ⊥
 
-    named-next : NamedBefore nodes arguments cs order names p → NamedHere → NamedBefore nodes arguments cs order news (p + 1)
+    named-next : NamedBefore nodes arguments heads order names p → NamedHere → NamedBefore nodes arguments heads order news (p + 1)
     named-next s t =
         record {
           variable = below-more (λ q. kindOf nodes (word order q) ≡ 0 → word news (word order q) ≡ word order q) p (λ q l k. name-kept q l ∙ s .variable q l k) (t .variable);
-          application = below-more (λ q. (kindOf nodes (word order q) ≡ 0 → ⊥) → Represented nodes arguments cs order news q) p (λ q l k. represented-kept q l (s .application q l k)) (t .application);
+          application = below-more (λ q. (kindOf nodes (word order q) ≡ 0 → ⊥) → Represented nodes arguments heads order news q) p (λ q l k. represented-kept q l (s .application q l k)) (t .application);
           apart = λ q r h l x y a. apart-at q r h l x y a (ℕ-discrete q p) (ℕ-discrete r p);
         }
       where
-        apart-at : (q r : ℕ) → q < p + 1 → r < p + 1 → Representative nodes order news q → Representative nodes order news r → Alike nodes arguments cs news (word order q) (word order r) → Dec (q ≡ p) → Dec (r ≡ p) → q ≡ r
+        apart-at : (q r : ℕ) → q < p + 1 → r < p + 1 → Representative nodes order news q → Representative nodes order news r → Alike nodes arguments heads news (word order q) (word order r) → Dec (q ≡ p) → Dec (r ≡ p) → q ≡ r
         apart-at q r h l x y a (yes e) (yes f) = e ∙ sym f
         apart-at q r h l x y a (yes e) (no n) =
             let m : r < p = omega (arith, n, l) in
@@ -96,10 +96,10 @@ module _ (nodes arguments cs order : List ℕ) (o : Nameable nodes arguments cs 
         apart-at q r h l x y a (no n) (no k) =
             let m : q < p = omega (arith, n, h) in
             let i : r < p = omega (arith, k, l) in
-            s .apart q r m i (representative-was q m x) (representative-was r i y) (alike-was nodes arguments cs names news (same-names q (omega arith)) (same-names r (omega arith)) a)
+            s .apart q r m i (representative-was q m x) (representative-was r i y) (alike-was nodes arguments heads names news (same-names q (omega arith)) (same-names r (omega arith)) a)
 
   -- Before it, the nodes before p have their names, and the representatives among them are in the table.
-  module _ (names buckets earlier : List ℕ) (s : Naming nodes arguments cs order names buckets earlier p) where
+  module _ (names buckets earlier : List ℕ) (s : Naming nodes arguments heads order names buckets earlier p) where
     here : word order p < length names
     here =
         let l = s .readable .long in
@@ -112,12 +112,12 @@ module _ (nodes arguments cs order : List ℕ) (o : Nameable nodes arguments cs 
     -- the place has its entry in the table
     pub place-inside : (p < length earlier) × (p < maxNodes)
     place-inside =
-        let h = order-short nodes arguments cs order o in
+        let h = order-short nodes arguments heads order o in
         let z = s .readable .sections .limit in
         let y = s .earlier-long in
         (omega (arith, h, z, y), omega (arith, h, z))
 
-    readable-next : (v : ℕ) → Readable nodes arguments cs (news names v)
+    readable-next : (v : ℕ) → Readable nodes arguments heads (news names v)
     readable-next v =
         record {
           sections = s .readable .sections;
@@ -126,7 +126,7 @@ module _ (nodes arguments cs order : List ℕ) (o : Nameable nodes arguments cs 
         }
 
     -- what is not a representative leaves the table as it is
-    naming-skip : (v : ℕ) → NamedHere names v → (Representative nodes order (news names v) p → ⊥) → Naming nodes arguments cs order (news names v) buckets earlier (p + 1)
+    naming-skip : (v : ℕ) → NamedHere names v → (Representative nodes order (news names v) p → ⊥) → Naming nodes arguments heads order (news names v) buckets earlier (p + 1)
     naming-skip v t n =
         record {
           readable = readable-next v;
@@ -139,7 +139,7 @@ module _ (nodes arguments cs order : List ℕ) (o : Nameable nodes arguments cs 
         }
 
     -- a variable is named by itself
-    naming-variable : kindOf nodes (word order p) ≡ 0 → Naming nodes arguments cs order (news names (word order p)) buckets earlier (p + 1)
+    naming-variable : kindOf nodes (word order p) ≡ 0 → Naming nodes arguments heads order (news names (word order p)) buckets earlier (p + 1)
     naming-variable k =
         naming-skip (word order p)
         (record {
@@ -151,7 +151,7 @@ module _ (nodes arguments cs order : List ℕ) (o : Nameable nodes arguments cs 
 
     module _ (n : kindOf nodes (word order p) ≡ 0 → ⊥) where
       -- an application has the name of an earlier one that is alike
-      naming-found : (c b : ℕ) → Found nodes arguments cs order names p c → c ≡ suc b → Naming nodes arguments cs order (news names (word order b)) buckets earlier (p + 1)
+      naming-found : (c b : ℕ) → Found nodes arguments heads order names p c → c ≡ suc b → Naming nodes arguments heads order (news names (word order b)) buckets earlier (p + 1)
       naming-found c b f e =
           let u = f .found b e in
           let same = same-names names (word order b) in
@@ -164,14 +164,14 @@ module _ (nodes arguments cs order : List ℕ) (o : Nameable nodes arguments cs 
               before = omega (arith, u .0);
               representative = representative-kept names (word order b) b (u .0) (u .1);
               named = named-same (word order b);
-              alike = alike-kept nodes arguments cs names _ (same b (omega (arith, u .0))) (same p (omega arith)) (u .2);
+              alike = alike-kept nodes arguments heads names _ (same b (omega (arith, u .0))) (same p (omega arith)) (u .2);
             };
             apart = λ q l x y a. other y;
           })
           other
 
       -- or is named by itself, and put into the table
-      naming-new : Found nodes arguments cs order names p 0 → (k : ℕ) → k ≡ keyOf nodes arguments cs names (word order p) → k < keys → Naming nodes arguments cs order (news names (word order p)) (set buckets k (p + 1)) (set earlier p (word buckets k)) (p + 1)
+      naming-new : Found nodes arguments heads order names p 0 → (k : ℕ) → k ≡ keyOf nodes arguments heads names (word order p) → k < keys → Naming nodes arguments heads order (news names (word order p)) (set buckets k (p + 1)) (set earlier p (word buckets k)) (p + 1)
       unfolding keyAt
       naming-new f k e l =
           let same = same-names names (word order p) in
@@ -191,9 +191,9 @@ module _ (nodes arguments cs order : List ℕ) (o : Nameable nodes arguments cs 
                 named = named-same (word order p);
                 alike = alike-same (word order p);
               };
-              apart = λ q h x y a. f .nothing refl q h (representative-was names (word order p) q h x) (alike-was nodes arguments cs names _ (same q (omega arith)) (same p (omega arith)) a);
+              apart = λ q h x y a. f .nothing refl q h (representative-was names (word order p) q h x) (alike-was nodes arguments heads names _ (same q (omega arith)) (same p (omega arith)) a);
             });
-            chained = chained-add _ _ _ _ buckets earlier p (representative-kept names (word order p)) (representative-was names (word order p)) (key-at-kept names (word order p)) (s .chained) k itself (key-kept nodes arguments cs names _ (word order p) (same p (omega arith)) ∙ sym e) l (s .buckets-long) (place-inside .0);
+            chained = chained-add _ _ _ _ buckets earlier p (representative-kept names (word order p)) (representative-was names (word order p)) (key-at-kept names (word order p)) (s .chained) k itself (key-kept nodes arguments heads names _ (word order p) (same p (omega arith)) ∙ sym e) l (s .buckets-long) (place-inside .0);
           }
 
     -- The same over the values that the code holds: node h, whether it is a variable, its key k and the cursor c.
@@ -203,8 +203,8 @@ module _ (nodes arguments cs order : List ℕ) (o : Nameable nodes arguments cs 
       node-inside = (rw e (o .node p inside), rw e here)
 
       -- its key, by its place
-      pub key-given : (k : ℕ) → (k ≡ keyOf nodes arguments cs names h) × (k < keys) → (p < length order) × (k ≡ keyOf nodes arguments cs names (word order p)) × (k < keys)
-      key-given k d = (inside, d .0 ∙ ap (keyOf nodes arguments cs names) e, d .1)
+      pub key-given : (k : ℕ) → (k ≡ keyOf nodes arguments heads names h) × (k < keys) → (p < length order) × (k ≡ keyOf nodes arguments heads names (word order p)) × (k < keys)
+      key-given k d = (inside, d .0 ∙ ap (keyOf nodes arguments heads names) e, d .1)
 
       -- a node can be put as its name
       pub put-inside : (v : ℕ) → v < nodeCount nodes → (h < length names) × (v < maxNodes)
@@ -212,14 +212,14 @@ module _ (nodes arguments cs order : List ℕ) (o : Nameable nodes arguments cs 
 
       module _ (r : Bool) (d : r ≡ eqb (kindOf nodes h) 0) where
         -- a variable
-        pub step-variable : r ≡ true → (ms : List ℕ) → ms ≡ set names h h → Naming nodes arguments cs order ms buckets earlier (p + 1)
+        pub step-variable : r ≡ true → (ms : List ℕ) → ms ≡ set names h h → Naming nodes arguments heads order ms buckets earlier (p + 1)
         step-variable f ms g = rw (g, e) (naming-variable (rw e at (eqb-true (kindOf nodes h) 0 (sym d ∙ f))))
 
         module _ (f : r ≡ false) where
           applied : kindOf nodes (word order p) ≡ 0 → ⊥
           applied = rw e at (eqb-false (kindOf nodes h) 0 (sym d ∙ f))
 
-          module _ (c : ℕ) (t : Found nodes arguments cs order names p c) where
+          module _ (c : ℕ) (t : Found nodes arguments heads order names p c) where
             -- what is found is a node at a place
             pub found-inside : (c ≡ 0 → ⊥) → (c - 1 < length order) × (word order (c - 1) < nodeCount nodes)
             found-inside n =
@@ -228,18 +228,18 @@ module _ (nodes arguments cs order : List ℕ) (o : Nameable nodes arguments cs 
                 (l, o .node (c - 1) l)
 
             -- an application for which one is found
-            pub step-found : (c ≡ 0 → ⊥) → (g : ℕ) → g ≡ word order (c - 1) → (ms : List ℕ) → ms ≡ set names h g → Naming nodes arguments cs order ms buckets earlier (p + 1)
+            pub step-found : (c ≡ 0 → ⊥) → (g : ℕ) → g ≡ word order (c - 1) → (ms : List ℕ) → ms ≡ set names h g → Naming nodes arguments heads order ms buckets earlier (p + 1)
             step-found n g a ms b = rw (b, e, a) (naming-found applied c (c - 1) t (omega (arith, n)))
 
             -- an application for which none is found
-            pub step-new : c ≡ 0 → (k : ℕ) → (k ≡ keyOf nodes arguments cs names h) × (k < keys) → (ms bs ls : List ℕ) → ms ≡ set names h h → bs ≡ set buckets k (p + 1) → ls ≡ set earlier p (word buckets k) → Naming nodes arguments cs order ms bs ls (p + 1)
+            pub step-new : c ≡ 0 → (k : ℕ) → (k ≡ keyOf nodes arguments heads names h) × (k < keys) → (ms bs ls : List ℕ) → ms ≡ set names h h → bs ≡ set buckets k (p + 1) → ls ≡ set earlier p (word buckets k) → Naming nodes arguments heads order ms bs ls (p + 1)
             step-new z k b ms bs ls x y w =
                 let a = key-given k b in
                 rw (x, y, w, e) (naming-new applied (rw z at t) k (a .1) (a .2))
 
 -- Before the first place nothing is named, and the table is empty.
-pub naming-start : (nodes arguments cs order names : List ℕ) → Sections nodes arguments → Partition (nodeCount nodes) cs → Nameable nodes arguments cs order → length names ≡ nodeCount nodes → Whole nodes cs order names → Naming nodes arguments cs order names (replicate keys 0) (replicate maxNodes 0) 0
-naming-start nodes arguments cs order names s p o l w =
+pub naming-start : (nodes arguments heads order names : List ℕ) → Sections nodes arguments → Partition (nodeCount nodes) heads → Nameable nodes arguments heads order → length names ≡ nodeCount nodes → Whole nodes heads order names → Naming nodes arguments heads order names (replicate keys 0) (replicate maxNodes 0) 0
+naming-start nodes arguments heads order names s p o l w =
     record {
       readable = record { sections = s; partition = p; long = l };
       ordered = o;
@@ -260,40 +260,40 @@ naming-start nodes arguments cs order names s p o l w =
     }
 
 -- At the end every class is named.
-module _ (nodes arguments cs order names : List ℕ) (o : Nameable nodes arguments cs order) (t : Partition (nodeCount nodes) cs) (w : Whole nodes cs order names) (s : NamedBefore nodes arguments cs order names (length order)) where
+module _ (nodes arguments heads order names : List ℕ) (o : Nameable nodes arguments heads order) (t : Partition (nodeCount nodes) heads) (w : Whole nodes heads order names) (s : NamedBefore nodes arguments heads order names (length order)) where
   -- The class of node i has the name of a representative that is alike.
   record ClassNamed (i : ℕ) : Type 0 where
     place : ℕ
     inside : place < length order
     representative : Representative nodes order names place
-    named : valueName cs names i ≡ word order place
-    alike : Alike nodes arguments cs names (word order place) (classOf cs i)
+    named : valueName heads names i ≡ word order place
+    alike : Alike nodes arguments heads names (word order place) (classOf heads i)
 
   -- The head of node i has no arguments, and names itself.
   record Bare (i : ℕ) : Type 0 where
-    bare : countOf nodes (classOf cs i) ≡ 0
-    itself : valueName cs names i ≡ classOf cs i
-    others : Compounds nodes cs order names
+    bare : countOf nodes (classOf heads i) ≡ 0
+    itself : valueName heads names i ≡ classOf heads i
+    others : Compounds nodes heads order names
 
   -- A head stands in the order, or has no arguments.
   data Standing (i : ℕ) : Type 0 where
-    at : IsPlaced order (classOf cs i) → Standing i
+    at : IsPlaced order (classOf heads i) → Standing i
     outside : Bare i → Standing i
 
   standing : (i : ℕ) → i < nodeCount nodes → Standing i
   standing i h = go w
     where
-      pick : Compounds nodes cs order names → Dec (countOf nodes (classOf cs i) ≡ 0) → Standing i
+      pick : Compounds nodes heads order names → Dec (countOf nodes (classOf heads i) ≡ 0) → Standing i
       pick x (yes z) =
-          outside (record { bare = z; itself = x .itself (classOf cs i) (t .below i h) z; others = x })
+          outside (record { bare = z; itself = x .itself (classOf heads i) (t .below i h) z; others = x })
       pick x (no n) = at (x .placed i h (omega (arith, n)))
 
-      go : Whole nodes cs order names → Standing i
+      go : Whole nodes heads order names → Standing i
       go (all x) = at (x i h)
-      go (compounds x) = pick x (ℕ-discrete (countOf nodes (classOf cs i)) 0)
+      go (compounds x) = pick x (ℕ-discrete (countOf nodes (classOf heads i)) 0)
 
   -- a class of an application whose head stands in the order
-  class-named : (i : ℕ) → IsPlaced order (classOf cs i) → Applied nodes cs i → ClassNamed i
+  class-named : (i : ℕ) → IsPlaced order (classOf heads i) → Applied nodes heads i → ClassNamed i
   class-named i (q, l, e) n =
       let r = s .application q l (λ z. n (rw e at z)) in
       let b = r .before in
@@ -305,32 +305,32 @@ module _ (nodes arguments cs order names : List ℕ) (o : Nameable nodes argumen
         alike = rw e at (r .alike);
       }
 
-  named-variable : (i : ℕ) → Standing i → kindOf nodes (classOf cs i) ≡ 0 → valueName cs names i ≡ classOf cs i
+  named-variable : (i : ℕ) → Standing i → kindOf nodes (classOf heads i) ≡ 0 → valueName heads names i ≡ classOf heads i
   named-variable i (at (q, l, e)) k = ap (word names) (sym e) ∙ s .variable q l (rw e k) ∙ e
   named-variable i (outside b) k = b .itself
 
-  named-node : (i : ℕ) → i < nodeCount nodes → Standing i → Dec (kindOf nodes (classOf cs i) ≡ 0) → valueName cs names i < nodeCount nodes
+  named-node : (i : ℕ) → i < nodeCount nodes → Standing i → Dec (kindOf nodes (classOf heads i) ≡ 0) → valueName heads names i < nodeCount nodes
   named-node i h x (yes k) = rw (named-variable i x k) (t .below i h)
   named-node i h (at p) (no n) =
       let t = class-named i p n in
       rw (t .named) (o .node (t .place) (t .inside))
   named-node i h (outside b) (no n) = rw (b .itself) (t .below i h)
 
-  named-application : (i : ℕ) → Standing i → Applied nodes cs i → kindOf nodes (valueName cs names i) ≡ 0 → ⊥
+  named-application : (i : ℕ) → Standing i → Applied nodes heads i → kindOf nodes (valueName heads names i) ≡ 0 → ⊥
   named-application i (at p) n k =
       let t = class-named i p n in
       t .representative .application (rw (t .named) at k)
   named-application i (outside b) n k = n (rw (b .itself) at k)
 
   -- a head that stands in the order, among those that have arguments, is not alike one without
-  not-bare : (i j : ℕ) → IsPlaced order (classOf cs i) → Bare j → Alike nodes arguments cs names (classOf cs i) (classOf cs j) → ⊥
+  not-bare : (i j : ℕ) → IsPlaced order (classOf heads i) → Bare j → Alike nodes arguments heads names (classOf heads i) (classOf heads j) → ⊥
   not-bare i j (q, l, e) b a =
       let c = b .others .compound q l in
-      let d : countOf nodes (word order q) ≡ countOf nodes (classOf cs j) = rw e (a .count) in
+      let d : countOf nodes (word order q) ≡ countOf nodes (classOf heads j) = rw e (a .count) in
       let z = b .bare in
       omega (arith, c, d, z)
 
-  named-composed : (i j : ℕ) → i < nodeCount nodes → j < nodeCount nodes → Standing i → Standing j → Applied nodes cs i → Applied nodes cs j → Alike nodes arguments cs names (classOf cs i) (classOf cs j) → valueName cs names i ≡ valueName cs names j
+  named-composed : (i j : ℕ) → i < nodeCount nodes → j < nodeCount nodes → Standing i → Standing j → Applied nodes heads i → Applied nodes heads j → Alike nodes arguments heads names (classOf heads i) (classOf heads j) → valueName heads names i ≡ valueName heads names j
   named-composed i j h l (at p) (at q) n m a =
       let t = class-named i p n in
       let u = class-named j q m in
@@ -339,19 +339,19 @@ module _ (nodes arguments cs order names : List ℕ) (o : Nameable nodes argumen
   named-composed i j h l (at p) (outside b) n m a = absurd (not-bare i j p b a)
   named-composed i j h l (outside b) (at q) n m a = absurd (not-bare j i q b (alike-back a))
   named-composed i j h l (outside b) (outside c) n m a =
-      let x : IsConstant nodes (classOf cs i) = record { node = t .below i h; applied = n; bare = b .bare } in
-      let y : IsConstant nodes (classOf cs j) = record { node = t .below j l; applied = m; bare = c .bare } in
-      ap (word names) (sym (t .own i h) ∙ b .others .constants (classOf cs i) (classOf cs j) x y (a .name) ∙ t .own j l)
+      let x : IsConstant nodes (classOf heads i) = record { node = t .below i h; applied = n; bare = b .bare } in
+      let y : IsConstant nodes (classOf heads j) = record { node = t .below j l; applied = m; bare = c .bare } in
+      ap (word names) (sym (t .own i h) ∙ b .others .constants (classOf heads i) (classOf heads j) x y (a .name) ∙ t .own j l)
 
   -- a representative has another name than a head without arguments
-  not-itself : (i j : ℕ) → ClassNamed i → Bare j → valueName cs names i ≡ valueName cs names j → ⊥
+  not-itself : (i j : ℕ) → ClassNamed i → Bare j → valueName heads names i ≡ valueName heads names j → ⊥
   not-itself i j x b e =
       let c = b .others .compound (x .place) (x .inside) in
-      let d : word order (x .place) ≡ classOf cs j = sym (x .named) ∙ e ∙ b .itself in
+      let d : word order (x .place) ≡ classOf heads j = sym (x .named) ∙ e ∙ b .itself in
       let y : countOf nodes (word order (x .place)) ≡ 0 = rw d (b .bare) in
       omega (arith, c, y)
 
-  named-apart : (i j : ℕ) → Standing i → Standing j → Applied nodes cs i → Applied nodes cs j → valueName cs names i ≡ valueName cs names j → Alike nodes arguments cs names (classOf cs i) (classOf cs j)
+  named-apart : (i j : ℕ) → Standing i → Standing j → Applied nodes heads i → Applied nodes heads j → valueName heads names i ≡ valueName heads names j → Alike nodes arguments heads names (classOf heads i) (classOf heads j)
   named-apart i j (at p) (at q) n m e =
       let t = class-named i p n in
       let u = class-named j q m in
@@ -360,8 +360,8 @@ module _ (nodes arguments cs order names : List ℕ) (o : Nameable nodes argumen
   named-apart i j (at p) (outside b) n m e = absurd (not-itself i j (class-named i p n) b e)
   named-apart i j (outside b) (at q) n m e = absurd (not-itself j i (class-named j q m) b (sym e))
   named-apart i j (outside b) (outside c) n m e =
-      let d : classOf cs i ≡ classOf cs j = sym (b .itself) ∙ e ∙ c .itself in
-      rw d (alike-same (classOf cs j))
+      let d : classOf heads i ≡ classOf heads j = sym (b .itself) ∙ e ∙ c .itself in
+      rw d (alike-same (classOf heads j))
 
   named-earlier : NamedEarlier order names
   named-earlier = record { earlier = λ q l. go q l (ℕ-discrete (kindOf nodes (word order q)) 0) }
@@ -372,11 +372,11 @@ module _ (nodes arguments cs order names : List ℕ) (o : Nameable nodes argumen
           let r = s .application q l n in
           (r .place, r .before, r .named, r .representative .itself)
 
-  named-end : NamedAlong nodes arguments cs order names
+  named-end : NamedAlong nodes arguments heads order names
   named-end =
       record {
         named = record {
-          node = λ i h. named-node i h (standing i h) (ℕ-discrete (kindOf nodes (classOf cs i)) 0);
+          node = λ i h. named-node i h (standing i h) (ℕ-discrete (kindOf nodes (classOf heads i)) 0);
           variable = λ i h. named-variable i (standing i h);
           application = λ i h. named-application i (standing i h);
           composed = λ i j h l. named-composed i j h l (standing i h) (standing j l);
@@ -387,21 +387,21 @@ module _ (nodes arguments cs order names : List ℕ) (o : Nameable nodes argumen
         alike = λ i h. like i (standing i h);
       }
     where
-      pick : (i : ℕ) → Standing i → IsPlaced order (classOf cs i) ⊎ (valueName cs names i ≡ classOf cs i)
+      pick : (i : ℕ) → Standing i → IsPlaced order (classOf heads i) ⊎ (valueName heads names i ≡ classOf heads i)
       pick i (at p) = inl p
       pick i (outside b) = inr (b .itself)
 
-      like : (i : ℕ) → Standing i → Applied nodes cs i → Alike nodes arguments cs names (valueName cs names i) (classOf cs i)
+      like : (i : ℕ) → Standing i → Applied nodes heads i → Alike nodes arguments heads names (valueName heads names i) (classOf heads i)
       like i (at p) n =
           let t = class-named i p n in
           rw (t .named) (t .alike)
-      like i (outside b) n = rw (b .itself) (alike-same (classOf cs i))
+      like i (outside b) n = rw (b .itself) (alike-same (classOf heads i))
 
 -- so it is where the last place is passed
-pub naming-end : (nodes arguments cs order names buckets earlier : List ℕ) (p : ℕ) → Naming nodes arguments cs order names buckets earlier p → p ≤ length order → length order ≤ p → NamedAlong nodes arguments cs order names
-naming-end nodes arguments cs order names buckets earlier p s l m =
+pub naming-end : (nodes arguments heads order names buckets earlier : List ℕ) (p : ℕ) → Naming nodes arguments heads order names buckets earlier p → p ≤ length order → length order ≤ p → NamedAlong nodes arguments heads order names
+naming-end nodes arguments heads order names buckets earlier p s l m =
     let e : p ≡ length order = omega arith in
-    named-end nodes arguments cs order names (s .ordered) (s .readable .partition) (s .whole) (rw e at (s .named))
+    named-end nodes arguments heads order names (s .ordered) (s .readable .partition) (s .whole) (rw e at (s .named))
 
 -- one more number names itself
 pub itself-next : (names : List ℕ) (i : ℕ) → i < length names → ((k : ℕ) → k < i → word names k ≡ k) → (k : ℕ) → k < i + 1 → word (set names i i) k ≡ k

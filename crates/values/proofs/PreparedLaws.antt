@@ -177,80 +177,80 @@ open-all nodes arguments counts table₀ table count i n s c l e m a b o =
         counted-application nodes arguments s (word table (512 + p)) 0 (node p h) (looked-at c (word table (512 + p)) 0 (node p h) (o .gathered .has p h))
 
 -- the key of a node depends on the names of its arguments
-key-same-up-to : (nodes arguments cs cs′ names names′ : List ℕ) (h : ℕ) → ((j : ℕ) → j < countOf nodes h → valueName cs′ names′ (argumentOf nodes arguments h j) ≡ valueName cs names (argumentOf nodes arguments h j)) → (j : ℕ) → j ≤ countOf nodes h → keyUpTo nodes arguments cs′ names′ h j ≡ keyUpTo nodes arguments cs names h j
+key-same-up-to : (nodes arguments heads heads′ names names′ : List ℕ) (h : ℕ) → ((j : ℕ) → j < countOf nodes h → valueName heads′ names′ (argumentOf nodes arguments h j) ≡ valueName heads names (argumentOf nodes arguments h j)) → (j : ℕ) → j ≤ countOf nodes h → keyUpTo nodes arguments heads′ names′ h j ≡ keyUpTo nodes arguments heads names h j
 unfolding keyUpTo
-key-same-up-to nodes arguments cs cs′ names names′ h s zero l = refl
-key-same-up-to nodes arguments cs cs′ names names′ h s (suc j) l =
-    rw (key-same-up-to nodes arguments cs cs′ names names′ h s j (omega arith), s j (omega arith))
+key-same-up-to nodes arguments heads heads′ names names′ h s zero l = refl
+key-same-up-to nodes arguments heads heads′ names names′ h s (suc j) l =
+    rw (key-same-up-to nodes arguments heads heads′ names names′ h s j (omega arith), s j (omega arith))
 
 -- so it is the same where these are
-key-same : (nodes arguments cs cs′ names names′ : List ℕ) (h : ℕ) → ((j : ℕ) → j < countOf nodes h → valueName cs′ names′ (argumentOf nodes arguments h j) ≡ valueName cs names (argumentOf nodes arguments h j)) → keyOf nodes arguments cs′ names′ h ≡ keyOf nodes arguments cs names h
+key-same : (nodes arguments heads heads′ names names′ : List ℕ) (h : ℕ) → ((j : ℕ) → j < countOf nodes h → valueName heads′ names′ (argumentOf nodes arguments h j) ≡ valueName heads names (argumentOf nodes arguments h j)) → keyOf nodes arguments heads′ names′ h ≡ keyOf nodes arguments heads names h
 unfolding keyOf
-key-same nodes arguments cs cs′ names names′ h s =
-    key-same-up-to nodes arguments cs cs′ names names′ h s (countOf nodes h) (omega arith)
+key-same nodes arguments heads heads′ names names′ h s =
+    key-same-up-to nodes arguments heads heads′ names names′ h s (countOf nodes h) (omega arith)
 
-key-up-to-small : (nodes arguments cs names : List ℕ) (h j : ℕ) → keyUpTo nodes arguments cs names h j < keys
+key-up-to-small : (nodes arguments heads names : List ℕ) (h j : ℕ) → keyUpTo nodes arguments heads names h j < keys
 unfolding keyUpTo
-key-up-to-small nodes arguments cs names h zero = mod-lt _ (omega arith)
-key-up-to-small nodes arguments cs names h (suc j) = mod-lt _ (omega arith)
+key-up-to-small nodes arguments heads names h zero = mod-lt _ (omega arith)
+key-up-to-small nodes arguments heads names h (suc j) = mod-lt _ (omega arith)
 
 -- there are so many keys
-key-small : (nodes arguments cs names : List ℕ) (h : ℕ) → keyOf nodes arguments cs names h < keys
+key-small : (nodes arguments heads names : List ℕ) (h : ℕ) → keyOf nodes arguments heads names h < keys
 unfolding keyOf
-key-small nodes arguments cs names h = key-up-to-small nodes arguments cs names h (countOf nodes h)
+key-small nodes arguments heads names h = key-up-to-small nodes arguments heads names h (countOf nodes h)
 
 -- A closed application with arguments that is the head of its class.
-pub record IsClosedHead (nodes counts cs : List ℕ) (i : ℕ) : Type 0 where
+pub record IsClosedHead (nodes counts heads : List ℕ) (i : ℕ) : Type 0 where
   pub marked : Marked nodes counts i
   pub compound : 0 < countOf nodes i
-  pub own : classOf cs i ≡ i
+  pub own : classOf heads i ≡ i
 
 -- the test says so
-head-true : (nodes counts cs : List ℕ) (i : ℕ) → i < nodeCount nodes → closedHeadTest nodes counts cs i ≡ true → IsClosedHead nodes counts cs i
+head-true : (nodes counts heads : List ℕ) (i : ℕ) → i < nodeCount nodes → closedHeadTest nodes counts heads i ≡ true → IsClosedHead nodes counts heads i
 unfolding closedHeadTest
-head-true nodes counts cs i h e =
-    let a = and-true-left (markedTest nodes counts i && not (eqb (countOf nodes i) 0)) (eqb (classOf cs i) i) e in
+head-true nodes counts heads i h e =
+    let a = and-true-left (markedTest nodes counts i && not (eqb (countOf nodes i) 0)) (eqb (classOf heads i) i) e in
     let b = eqb-false (countOf nodes i) 0 (not-true _ (and-true-right (markedTest nodes counts i) (not (eqb (countOf nodes i) 0)) a)) in
     record {
       marked = marked-true nodes counts i h (and-true-left (markedTest nodes counts i) (not (eqb (countOf nodes i) 0)) a);
       compound = omega (arith, b);
-      own = eqb-true (classOf cs i) i (and-true-right (markedTest nodes counts i && not (eqb (countOf nodes i) 0)) (eqb (classOf cs i) i) e);
+      own = eqb-true (classOf heads i) i (and-true-right (markedTest nodes counts i && not (eqb (countOf nodes i) 0)) (eqb (classOf heads i) i) e);
     }
 
 -- and only of these
-head-false : (nodes counts cs : List ℕ) (i : ℕ) → closedHeadTest nodes counts cs i ≡ false → IsClosedHead nodes counts cs i → ⊥
+head-false : (nodes counts heads : List ℕ) (i : ℕ) → closedHeadTest nodes counts heads i ≡ false → IsClosedHead nodes counts heads i → ⊥
 unfolding closedHeadTest
-head-false nodes counts cs i e m =
+head-false nodes counts heads i e m =
     let c = m .compound in
-    false≢true (sym e ∙ rw (marked-test nodes counts i (m .marked), ne-eqb (countOf nodes i) 0 (λ z. omega (arith, z, c)), eq-eqb (classOf cs i) i (m .own)))
+    false≢true (sym e ∙ rw (marked-test nodes counts i (m .marked), ne-eqb (countOf nodes i) 0 (λ z. omega (arith, z, c)), eq-eqb (classOf heads i) i (m .own)))
 
 -- what the words are after a closed application was noted: the key is below the place that is written first
-pub noted-read : (nodes arguments cs names table : List ℕ) (place i k : ℕ) → k ≡ keyOf nodes arguments cs names i → k < keys → set (set (set table (768 + place) i) (256 + place) (word (set table (768 + place) i) k)) k (place + 1) ≡ closedNoted nodes arguments cs names table place i
+pub noted-read : (nodes arguments heads names table : List ℕ) (place i k : ℕ) → k ≡ keyOf nodes arguments heads names i → k < keys → set (set (set table (768 + place) i) (256 + place) (word (set table (768 + place) i) k)) k (place + 1) ≡ closedNoted nodes arguments heads names table place i
 unfolding closedNoted
-noted-read nodes arguments cs names table place i k e h =
+noted-read nodes arguments heads names table place i k e h =
     ap (λ (x : ℕ). set (set (set table (768 + place) i) (256 + place) x) k (place + 1)) (getD-set-other table (768 + place) k i 0 (λ z. omega (arith, z, h))) ∙ rw e refl
 
 -- a representative depends on the node at its place
 representative-same : (nodes l l′ names : List ℕ) (q : ℕ) → word l′ q ≡ word l q → Representative nodes l names q → Representative nodes l′ names q
 representative-same nodes l l′ names q e r = record { application = rw e (r .application); itself = rw e (r .itself) }
 
-key-at-same : (nodes arguments cs l l′ names : List ℕ) (q : ℕ) → word l′ q ≡ word l q → keyAt nodes arguments cs l′ names q ≡ keyAt nodes arguments cs l names q
+key-at-same : (nodes arguments heads l l′ names : List ℕ) (q : ℕ) → word l′ q ≡ word l q → keyAt nodes arguments heads l′ names q ≡ keyAt nodes arguments heads l names q
 unfolding keyAt
-key-at-same nodes arguments cs l l′ names q e = ap (keyOf nodes arguments cs names) e
+key-at-same nodes arguments heads l l′ names q e = ap (keyOf nodes arguments heads names) e
 
 -- Of the nodes before node i, the closed applications with arguments that are heads are listed, and stand in the table.
-pub record ClosedBefore (nodes arguments counts cs table₀ table : List ℕ) (count i : ℕ) : Type 0 where
+pub record ClosedBefore (nodes arguments counts heads table₀ table : List ℕ) (count i : ℕ) : Type 0 where
   pub size : length table ≡ length table₀
-  pub gathered : Gathered (IsClosedHead nodes counts cs) 768 table count i
-  pub chained : (names : List ℕ) → length names ≡ nodeCount nodes → Themselves names → Chained (Representative nodes (take count (drop 768 table)) names) (keyAt nodes arguments cs (take count (drop 768 table)) names) (take 256 table) (take 256 (drop 256 table)) count
+  pub gathered : Gathered (IsClosedHead nodes counts heads) 768 table count i
+  pub chained : (names : List ℕ) → length names ≡ nodeCount nodes → Themselves names → Chained (Representative nodes (take count (drop 768 table)) names) (keyAt nodes arguments heads (take count (drop 768 table)) names) (take 256 table) (take 256 (drop 256 table)) count
   pub open-kept : (k : ℕ) → 512 ≤ k → k < 768 → word table k ≡ word table₀ k
 
 -- at first there are none
-pub closed-list-none : (nodes arguments counts cs table : List ℕ) → ((k : ℕ) → k < 256 → word table k ≡ 0) → ClosedBefore nodes arguments counts cs table table 0 0
-closed-list-none nodes arguments counts cs table z =
+pub closed-list-none : (nodes arguments counts heads table : List ℕ) → ((k : ℕ) → k < 256 → word table k ≡ 0) → ClosedBefore nodes arguments counts heads table table 0 0
+closed-list-none nodes arguments counts heads table z =
     record {
       size = refl;
-      gathered = gathered-none (IsClosedHead nodes counts cs) 768 table;
+      gathered = gathered-none (IsClosedHead nodes counts heads) 768 table;
       chained = λ names l t.
           record {
             bucket-reaches = λ q h. absurd (omega arith);
@@ -263,27 +263,27 @@ closed-list-none nodes arguments counts cs table z =
       open-kept = λ k h l. refl;
     }
 
-module _ (nodes arguments counts cs table₀ table : List ℕ) (count i : ℕ) (o : ClosedBefore nodes arguments counts cs table₀ table count i) where
+module _ (nodes arguments counts heads table₀ table : List ℕ) (count i : ℕ) (o : ClosedBefore nodes arguments counts heads table₀ table count i) where
   -- a node that is none
-  pub closed-list-skip : (v : Bool) → v ≡ closedHeadTest nodes counts cs i → v ≡ false → {table′ : List ℕ} {count′ : ℕ} → table′ ≡ table → count′ ≡ count → ClosedBefore nodes arguments counts cs table₀ table′ count′ (i + 1)
+  pub closed-list-skip : (v : Bool) → v ≡ closedHeadTest nodes counts heads i → v ≡ false → {table′ : List ℕ} {count′ : ℕ} → table′ ≡ table → count′ ≡ count → ClosedBefore nodes arguments counts heads table₀ table′ count′ (i + 1)
   closed-list-skip v e f x y =
       rw (x, y)
       (record {
         size = o .size;
-        gathered = gathered-skip (IsClosedHead nodes counts cs) 768 table count i (o .gathered) (head-false nodes counts cs i (sym e ∙ f));
+        gathered = gathered-skip (IsClosedHead nodes counts heads) 768 table count i (o .gathered) (head-false nodes counts heads i (sym e ∙ f));
         chained = o .chained;
         open-kept = o .open-kept;
       })
 
-  module _ (names : List ℕ) (p : Partition (nodeCount nodes) cs) (s : Sections nodes arguments) (long : length names ≡ nodeCount nodes) (themselves : Themselves names) (h : i < nodeCount nodes) (l : length table₀ ≡ preparedWords) (few : count < maxNodes) where
+  module _ (names : List ℕ) (p : Partition (nodeCount nodes) heads) (s : Sections nodes arguments) (long : length names ≡ nodeCount nodes) (themselves : Themselves names) (h : i < nodeCount nodes) (l : length table₀ ≡ preparedWords) (few : count < maxNodes) where
     abbrev k : ℕ
-    k = keyOf nodes arguments cs names i
+    k = keyOf nodes arguments heads names i
 
     abbrev noted : List ℕ
     noted = set (set (set table (768 + count) i) (256 + count) (word table k)) k (count + 1)
 
     small : k < 256
-    small = key-small nodes arguments cs names i
+    small = key-small nodes arguments heads names i
 
     size : length table ≡ 1026
     size = o .size ∙ l
@@ -331,20 +331,20 @@ module _ (nodes arguments counts cs table₀ table : List ℕ) (count i : ℕ) (
             rw e (part-before 256 256 (512 + count) i table (omega arith))
 
     -- a key does not depend on which names there are
-    one-key : (names′ : List ℕ) → length names′ ≡ nodeCount nodes → Themselves names′ → keyOf nodes arguments cs names′ i ≡ k
+    one-key : (names′ : List ℕ) → length names′ ≡ nodeCount nodes → Themselves names′ → keyOf nodes arguments heads names′ i ≡ k
     one-key names′ m t =
-        key-same nodes arguments cs cs names names′ i
+        key-same nodes arguments heads heads names names′ i
         (λ j q.
         let a = s .smaller i j h q in
         let b = p .below (argumentOf nodes arguments i j) (omega (arith, a, h)) in
-        t .itself (classOf cs (argumentOf nodes arguments i j)) (omega (arith, b, m)) ∙ sym (themselves .itself (classOf cs (argumentOf nodes arguments i j)) (omega (arith, b, long))))
+        t .itself (classOf heads (argumentOf nodes arguments i j)) (omega (arith, b, m)) ∙ sym (themselves .itself (classOf heads (argumentOf nodes arguments i j)) (omega (arith, b, long))))
 
     -- one more is put into the table
-    chained-put : IsClosedHead nodes counts cs i → (names′ : List ℕ) → length names′ ≡ nodeCount nodes → Themselves names′ → Chained (Representative nodes (take (count + 1) (drop 768 noted)) names′) (keyAt nodes arguments cs (take (count + 1) (drop 768 noted)) names′) (take 256 noted) (take 256 (drop 256 noted)) (count + 1)
+    chained-put : IsClosedHead nodes counts heads i → (names′ : List ℕ) → length names′ ≡ nodeCount nodes → Themselves names′ → Chained (Representative nodes (take (count + 1) (drop 768 noted)) names′) (keyAt nodes arguments heads (take (count + 1) (drop 768 noted)) names′) (take 256 noted) (take 256 (drop 256 noted)) (count + 1)
     unfolding keyAt
     chained-put c names′ m t =
         rw (noted-buckets, noted-earlier)
-        (chained-add (Representative nodes before names′) (Representative nodes after names′) (keyAt nodes arguments cs before names′) (keyAt nodes arguments cs after names′) (take 256 table) (take 256 (drop 256 table)) count (λ q b. representative-same nodes before after names′ q (list-kept q b)) (λ q b. representative-same nodes after before names′ q (sym (list-kept q b))) (λ q b. key-at-same nodes arguments cs before after names′ q (list-kept q b)) (o .chained names′ m t) k (record { application = rw list-here (c .marked .applied); itself = rw list-here (t .itself i (omega (arith, m, h))) }) (ap (keyOf nodes arguments cs names′) list-here ∙ one-key names′ m t) small (length-take-le 256 table (omega (arith, size))) (let z : length (take 256 (drop 256 table)) ≡ 256 = part-long 256 256 table (omega (arith, size)) in omega (arith, z, few)))
+        (chained-add (Representative nodes before names′) (Representative nodes after names′) (keyAt nodes arguments heads before names′) (keyAt nodes arguments heads after names′) (take 256 table) (take 256 (drop 256 table)) count (λ q b. representative-same nodes before after names′ q (list-kept q b)) (λ q b. representative-same nodes after before names′ q (sym (list-kept q b))) (λ q b. key-at-same nodes arguments heads before after names′ q (list-kept q b)) (o .chained names′ m t) k (record { application = rw list-here (c .marked .applied); itself = rw list-here (t .itself i (omega (arith, m, h))) }) (ap (keyOf nodes arguments heads names′) list-here ∙ one-key names′ m t) small (length-take-le 256 table (omega (arith, size))) (let z : length (take 256 (drop 256 table)) ≡ 256 = part-long 256 256 table (omega (arith, size)) in omega (arith, z, few)))
       where
         before : List ℕ
         before = take count (drop 768 table)
@@ -353,21 +353,21 @@ module _ (nodes arguments counts cs table₀ table : List ℕ) (count i : ℕ) (
         after = take (count + 1) (drop 768 noted)
 
     -- one that is
-    pub closed-list-put : (v : Bool) → v ≡ closedHeadTest nodes counts cs i → v ≡ true → (after : List ℕ) → after ≡ closedNoted nodes arguments cs names table count i → {table′ : List ℕ} {count′ : ℕ} → table′ ≡ after → count′ ≡ count + 1 → ClosedBefore nodes arguments counts cs table₀ table′ count′ (i + 1)
+    pub closed-list-put : (v : Bool) → v ≡ closedHeadTest nodes counts heads i → v ≡ true → (after : List ℕ) → after ≡ closedNoted nodes arguments heads names table count i → {table′ : List ℕ} {count′ : ℕ} → table′ ≡ after → count′ ≡ count + 1 → ClosedBefore nodes arguments counts heads table₀ table′ count′ (i + 1)
     unfolding closedNoted
     closed-list-put v e f after d x y =
-        let c = head-true nodes counts cs i h (sym e ∙ f) in
+        let c = head-true nodes counts heads i h (sym e ∙ f) in
         rw (x, y, d)
         (record {
           size = length-set (set (set table (768 + count) i) (256 + count) (word table k)) k (count + 1) ∙ length-set (set table (768 + count) i) (256 + count) (word table k) ∙ length-set table (768 + count) i ∙ o .size;
-          gathered = gathered-put (IsClosedHead nodes counts cs) 768 table count i (o .gathered) noted c noted-list noted-here;
+          gathered = gathered-put (IsClosedHead nodes counts heads) 768 table count i (o .gathered) noted c noted-list noted-here;
           chained = chained-put c;
           open-kept = λ m a b. noted-other m (λ z. omega (arith, z, b)) (λ z. omega (arith, z, a, few)) (λ z. omega (arith, z, a, small)) ∙ o .open-kept m a b;
         })
 
 -- the closed applications of all nodes
-pub closed-list-all : (nodes arguments counts cs table₀ table : List ℕ) (count i n : ℕ) → length table₀ ≡ preparedWords → n ≡ nodeCount nodes → n ≤ maxNodes → i ≤ n → n ≤ i → ClosedBefore nodes arguments counts cs table₀ table count i → ListsClosed nodes arguments counts cs table₀ count table
-closed-list-all nodes arguments counts cs table₀ table count i n l e m a b o =
+pub closed-list-all : (nodes arguments counts heads table₀ table : List ℕ) (count i n : ℕ) → length table₀ ≡ preparedWords → n ≡ nodeCount nodes → n ≤ maxNodes → i ≤ n → n ≤ i → ClosedBefore nodes arguments counts heads table₀ table count i → ListsClosed nodes arguments counts heads table₀ count table
+closed-list-all nodes arguments counts heads table₀ table count i n l e m a b o =
     record {
       size = o .size;
       few = few;
@@ -416,13 +416,13 @@ prepared-zero table₀ nodes counts table r e o =
     (o .size ∙ zeros-long table₀ e, λ k h. o .before k (omega arith) ∙ ap (λ (t : List ℕ). word t k) e ∙ getD-replicate {A = ℕ} preparedWords k 0 0 (omega arith))
 
 -- the places of the two counts
-pub count-places : (nodes arguments counts cs table₀ opened table : List ℕ) (r c : ℕ) → table₀ ≡ replicate preparedWords 0 → ListsOpen nodes counts table₀ r opened → ListsClosed nodes arguments counts cs opened c table → (1024 < length table) × (1025 < length (set table 1024 r))
-count-places nodes arguments counts cs table₀ opened table r c e o d =
+pub count-places : (nodes arguments counts heads table₀ opened table : List ℕ) (r c : ℕ) → table₀ ≡ replicate preparedWords 0 → ListsOpen nodes counts table₀ r opened → ListsClosed nodes arguments counts heads opened c table → (1024 < length table) × (1025 < length (set table 1024 r))
+count-places nodes arguments counts heads table₀ opened table r c e o d =
     let z : length table ≡ preparedWords = d .size ∙ o .size ∙ zeros-long table₀ e in
     let y = length-set table 1024 r in
     (omega (arith, z), omega (arith, z, y))
 
-module _ (nodes arguments counts cs table₀ opened table : List ℕ) (r c : ℕ) (l : length table₀ ≡ preparedWords) (o : ListsOpen nodes counts table₀ r opened) (d : ListsClosed nodes arguments counts cs opened c table) where
+module _ (nodes arguments counts heads table₀ opened table : List ℕ) (r c : ℕ) (l : length table₀ ≡ preparedWords) (o : ListsOpen nodes counts table₀ r opened) (d : ListsClosed nodes arguments counts heads opened c table) where
   abbrev full : List ℕ
   full = set (set table 1024 r) 1025 c
 
@@ -479,7 +479,7 @@ module _ (nodes arguments counts cs table₀ opened table : List ℕ) (r c : ℕ
   earlier-part = part-full 256 256 (omega arith)
 
   -- all is prepared
-  pub prepared-whole : PreparedOpen nodes arguments counts cs (set (set table 1024 r) 1025 c)
+  pub prepared-whole : PreparedOpen nodes arguments counts heads (set (set table 1024 r) 1025 c)
   prepared-whole =
       record {
         size = length-set (set table 1024 r) 1025 c ∙ length-set table 1024 r ∙ table-size;
@@ -506,15 +506,15 @@ chained-kept rep old new buckets earlier p e s =
     }
 
 -- so do the keys of closed applications that keep their heads
-kept-key : (nodes arguments counts cs cs′ l : List ℕ) → Counts nodes arguments counts (nodeCount nodes) → KeepsClosed nodes counts cs cs′ → (names : List ℕ) (q : ℕ) → Marked nodes counts (word l q) → keyAt nodes arguments cs′ l names q ≡ keyAt nodes arguments cs l names q
+kept-key : (nodes arguments counts heads heads′ l : List ℕ) → Counts nodes arguments counts (nodeCount nodes) → KeepsClosed nodes counts heads heads′ → (names : List ℕ) (q : ℕ) → Marked nodes counts (word l q) → keyAt nodes arguments heads′ l names q ≡ keyAt nodes arguments heads l names q
 unfolding keyAt
-kept-key nodes arguments counts cs cs′ l c k names q m =
-    key-same nodes arguments cs cs′ names names (word l q) (λ j b. ap (word names) (k (argumentOf nodes arguments (word l q) j) (c .below (word l q) (m .node) m j b)))
+kept-key nodes arguments counts heads heads′ l c k names q m =
+    key-same nodes arguments heads heads′ names names (word l q) (λ j b. ap (word names) (k (argumentOf nodes arguments (word l q) j) (c .below (word l q) (m .node) m j b)))
 
 -- what is prepared stays right where closed applications keep their heads
-pub prepared-kept : (nodes arguments counts cs cs′ table : List ℕ) → Sections nodes arguments → Counts nodes arguments counts (nodeCount nodes) → KeepsClosed nodes counts cs cs′ → Prepared nodes arguments counts cs table → Prepared nodes arguments counts cs′ table
-prepared-kept nodes arguments counts cs cs′ table s c k (nothing e n) = nothing e n
-prepared-kept nodes arguments counts cs cs′ table s c k (with-open f) =
+pub prepared-kept : (nodes arguments counts heads heads′ table : List ℕ) → Sections nodes arguments → Counts nodes arguments counts (nodeCount nodes) → KeepsClosed nodes counts heads heads′ → Prepared nodes arguments counts heads table → Prepared nodes arguments counts heads′ table
+prepared-kept nodes arguments counts heads heads′ table s c k (nothing e n) = nothing e n
+prepared-kept nodes arguments counts heads heads′ table s c k (with-open f) =
     with-open
     (record {
       size = f .size;
@@ -531,12 +531,12 @@ prepared-kept nodes arguments counts cs cs′ table s c k (with-open f) =
       closed-table = record {
         buckets-long = t .buckets-long;
         earlier-long = t .earlier-long;
-        chained = λ names a b. chained-kept (Representative nodes (closedIn table) names) (keyAt nodes arguments cs (closedIn table) names) (keyAt nodes arguments cs′ (closedIn table) names) (bucketsIn table) (earlierIn table) (length (closedIn table)) (λ q h. kept-key nodes arguments counts cs cs′ (closedIn table) c k names q (l .marked q h)) (t .chained names a b);
+        chained = λ names a b. chained-kept (Representative nodes (closedIn table) names) (keyAt nodes arguments heads (closedIn table) names) (keyAt nodes arguments heads′ (closedIn table) names) (bucketsIn table) (earlierIn table) (length (closedIn table)) (λ q h. kept-key nodes arguments counts heads heads′ (closedIn table) c k names q (l .marked q h)) (t .chained names a b);
       };
     })
   where
-    l : ClosedListed nodes counts cs (closedIn table)
+    l : ClosedListed nodes counts heads (closedIn table)
     l = f .closed-listed
 
-    t : ClosedTable nodes arguments cs (closedIn table) (bucketsIn table) (earlierIn table)
+    t : ClosedTable nodes arguments heads (closedIn table) (bucketsIn table) (earlierIn table)
     t = f .closed-table

@@ -46,19 +46,19 @@ use Rattle.values.proofs.StartLaws.{below, itself, start-partition, sta
 use Rattle.values.proofs.NamedLaws.{named-valued}
 
 -- one more node has the name of its head
-pub shared-next : (of names heads : List ℕ) (i : ℕ) → i < length heads → ((k : ℕ) → k < i → word heads k ≡ word names (word of k)) → (k : ℕ) → k < i + 1 → word (set heads i (word names (word of i))) k ≡ word names (word of k)
-shared-next of names heads i h s =
-    below-more (λ k. word (set heads i (word names (word of i))) k ≡ word names (word of k)) i (λ k l. getD-set-other heads i k (word names (word of i)) 0 (λ z. omega (arith, l, z)) ∙ s k l) (getD-set-same heads i (word names (word of i)) 0 h)
+pub shared-next : (starts names heads : List ℕ) (i : ℕ) → i < length heads → ((k : ℕ) → k < i → word heads k ≡ word names (word starts k)) → (k : ℕ) → k < i + 1 → word (set heads i (word names (word starts i))) k ≡ word names (word starts k)
+shared-next starts names heads i h s =
+    below-more (λ k. word (set heads i (word names (word starts i))) k ≡ word names (word starts k)) i (λ k l. getD-set-other heads i k (word names (word starts i)) 0 (λ z. omega (arith, l, z)) ∙ s k l) (getD-set-same heads i (word names (word starts i)) 0 h)
 
 -- all have
-pub shared-all : (of names heads : List ℕ) (i : ℕ) → length of ≡ length heads → length of ≤ i → ((k : ℕ) → k < i → word heads k ≡ word names (word of k)) → heads ≡ map (word names) of
-shared-all of names heads i l m s =
-    ext-getD 0 heads (map (word names) of) (sym l ∙ sym (length-map of (word names)))
-    (λ k h. s k (omega arith) ∙ sym (map-at (word names) of k (omega arith)))
+pub shared-all : (starts names heads : List ℕ) (i : ℕ) → length starts ≡ length heads → length starts ≤ i → ((k : ℕ) → k < i → word heads k ≡ word names (word starts k)) → heads ≡ map (word names) starts
+shared-all starts names heads i l m s =
+    ext-getD 0 heads (map (word names) starts) (sym l ∙ sym (length-map starts (word names)))
+    (λ k h. s k (omega arith) ∙ sym (map-at (word names) starts k (omega arith)))
 
 -- each head has a place among the names
-pub named-inside : (n : ℕ) (cs names : List ℕ) → Partition n cs → length names ≡ n → HeadsNamed cs names
-named-inside n cs names p l =
+pub named-inside : (n : ℕ) (starts names : List ℕ) → Partition n starts → length names ≡ n → HeadsNamed starts names
+named-inside n starts names p l =
     record {
       inside = λ i h.
           let z = p .size in
@@ -67,10 +67,10 @@ named-inside n cs names p l =
     }
 
 -- Heads that are not above their nodes: those that have arguments that are looked at, in rising order.
-module _ (nodes arguments : List ℕ) (s : Sections nodes arguments) (counts : List ℕ) (c : Counts nodes arguments counts (nodeCount nodes)) (cs : List ℕ) (p : Partition (nodeCount nodes) cs) (low : (i : ℕ) → i < nodeCount nodes → classOf cs i ≤ i) where
+module _ (nodes arguments : List ℕ) (s : Sections nodes arguments) (counts : List ℕ) (c : Counts nodes arguments counts (nodeCount nodes)) (starts : List ℕ) (p : Partition (nodeCount nodes) starts) (low : (i : ℕ) → i < nodeCount nodes → classOf starts i ≤ i) where
   -- Whether node i is its own head and has such arguments.
   dueHead : ℕ → Bool
-  dueHead i = eqb (classOf cs i) i && ltb 0 (word counts i)
+  dueHead i = eqb (classOf starts i) i && ltb 0 (word counts i)
 
   -- Those that are.
   rising : List ℕ
@@ -80,7 +80,7 @@ module _ (nodes arguments : List ℕ) (s : Sections nodes arguments) (counts : L
   unfolding rising dueHead
   due-at q h =
       let r = selected-from dueHead (nodeCount nodes) (word rising q) (placed rising q h) in
-      (r .0, ltb-true 0 (word counts (word rising q)) (and-true-right (eqb (classOf cs (word rising q)) (word rising q)) (ltb 0 (word counts (word rising q))) (r .1)))
+      (r .0, ltb-true 0 (word counts (word rising q)) (and-true-right (eqb (classOf starts (word rising q)) (word rising q)) (ltb 0 (word counts (word rising q))) (r .1)))
 
   rises : (q r : ℕ) → q < r → r < length rising → word rising q < word rising r
   unfolding rising
@@ -96,23 +96,23 @@ module _ (nodes arguments : List ℕ) (s : Sections nodes arguments) (counts : L
           let u : r < q → ⊥ = λ z. let y = rises r q z h in omega (arith, l, y) in
           omega (arith, n, u)
 
-  head-at : (i : ℕ) → i < nodeCount nodes → 0 < word counts (classOf cs i) → (q : ℕ) × (q < length rising) × (classOf cs i ≡ word rising q)
+  head-at : (i : ℕ) → i < nodeCount nodes → 0 < word counts (classOf starts i) → (q : ℕ) × (q < length rising) × (classOf starts i ≡ word rising q)
   unfolding rising dueHead
   head-at i h d =
-      member-place rising (classOf cs i) (selected-member dueHead (nodeCount nodes) (classOf cs i) (p .below i h) (rw (eq-eqb (classOf cs (classOf cs i)) (classOf cs i) (p .own i h), lt-ltb 0 (word counts (classOf cs i)) d)))
+      member-place rising (classOf starts i) (selected-member dueHead (nodeCount nodes) (classOf starts i) (p .below i h) (rw (eq-eqb (classOf starts (classOf starts i)) (classOf starts i) (p .own i h), lt-ltb 0 (word counts (classOf starts i)) d)))
 
   -- a head is met before every place that it must be before
-  head-met : (i r : ℕ) → i < nodeCount nodes → ((q : ℕ) → q < length rising → classOf cs i ≡ word rising q → q < r) → Met (word counts) rising r (classOf cs i)
-  head-met i r h b = go (ℕ-discrete (word counts (classOf cs i)) 0)
+  head-met : (i r : ℕ) → i < nodeCount nodes → ((q : ℕ) → q < length rising → classOf starts i ≡ word rising q → q < r) → Met (word counts) rising r (classOf starts i)
+  head-met i r h b = go (ℕ-discrete (word counts (classOf starts i)) 0)
     where
-      go : Dec (word counts (classOf cs i) ≡ 0) → Met (word counts) rising r (classOf cs i)
+      go : Dec (word counts (classOf starts i) ≡ 0) → Met (word counts) rising r (classOf starts i)
       go (yes z) = leaf z
       go (no n) =
           let q = head-at i h (omega (arith, n)) in
           before (q .0) (b (q .0) (q .1) (q .2)) (sym (q .2))
 
   -- they are in an order in which those of arguments come first
-  rising-ordered : Ordered nodes arguments (word counts) cs rising
+  rising-ordered : Ordered nodes arguments (word counts) starts rising
   rising-ordered =
       record {
         listed = record {
@@ -130,39 +130,39 @@ module _ (nodes arguments : List ℕ) (s : Sections nodes arguments) (counts : L
       }
 
 -- Classes of no pair, and the names of their values.
-module _ (nodes arguments : List ℕ) (s : Sections nodes arguments) (cs order : List ℕ) (l : length cs ≡ nodeCount nodes) (d : length order ≡ nodeCount nodes) (t : Started nodes arguments cs order (nodeCount nodes)) (names : List ℕ) (m : NamedAlong nodes arguments cs order names) where
+module _ (nodes arguments : List ℕ) (s : Sections nodes arguments) (starts order : List ℕ) (l : length starts ≡ nodeCount nodes) (d : length order ≡ nodeCount nodes) (t : Started nodes arguments starts order (nodeCount nodes)) (names : List ℕ) (m : NamedAlong nodes arguments starts order names) where
   abbrev ns : List Node
   ns = nodesFrom nodes arguments
 
   abbrev name : ℕ → ℕ
-  name = valueName cs names
+  name = valueName starts names
 
   -- The names of the nodes' heads, as heads.
   abbrev heads : List ℕ
-  heads = map (word names) cs
+  heads = map (word names) starts
 
   w : WellFormed ns
   w = sections-well-formed nodes arguments s
 
-  p : Partition (nodeCount nodes) cs
-  p = start-partition nodes arguments s cs order l t
+  p : Partition (nodeCount nodes) starts
+  p = start-partition nodes arguments s starts order l t
 
   none : Inside ns []
   none a b m = absurd (List·Memᴰ·not-nil m)
 
-  enough : (i : ℕ) → i < length ns → classOf cs i < length ns
-  enough i h = is-node nodes arguments (classOf cs i) (p .below i (counted nodes arguments i h))
+  enough : (i : ℕ) → i < length ns → classOf starts i < length ns
+  enough i h = is-node nodes arguments (classOf starts i) (p .below i (counted nodes arguments i h))
 
   -- the values that no pair gives, by names
-  by-name : (i j : ℕ) → i < length ns → j < length ns → value ns (solution (length ns) ns (classOf cs)) i ≡ value ns (solution (length ns) ns (classOf cs)) j ↔ (name i ≡ name j)
+  by-name : (i j : ℕ) → i < length ns → j < length ns → value ns (solution (length ns) ns (classOf starts)) i ≡ value ns (solution (length ns) ns (classOf starts)) j ↔ (name i ≡ name j)
   by-name =
-      values-named ns w [] none (classOf cs) (λ i. i) (start-solved nodes arguments s cs order l t) (length ns) enough name (named-valued nodes arguments cs names s p (m .named))
+      values-named ns w [] none (classOf starts) (λ i. i) (start-solved nodes arguments s starts order l t) (length ns) enough name (named-valued nodes arguments starts names s p (m .named))
 
   -- every substitution comes after the one that no pair gives
-  after : (i : ℕ) → i < length ns → termOf ns i ≡ sub var (value ns (solution (length ns) ns (classOf cs)) i)
+  after : (i : ℕ) → i < length ns → termOf ns i ≡ sub var (value ns (solution (length ns) ns (classOf starts)) i)
   after i h =
       sym (sub-var (termOf ns i))
-      ∙ value-after ns w (solution (length ns) ns (classOf cs)) var var (solution-first ns w [] none (classOf cs) (λ i. i) (start-solved nodes arguments s cs order l t) (length ns) enough var (λ a b m. absurd (List·Memᴰ·not-nil m))) i h
+      ∙ value-after ns w (solution (length ns) ns (classOf starts)) var var (solution-first ns w [] none (classOf starts) (λ i. i) (start-solved nodes arguments s starts order l t) (length ns) enough var (λ a b m. absurd (List·Memᴰ·not-nil m))) i h
 
   -- nodes with one name have one term
   one-term : (i j : ℕ) → i < length ns → j < length ns → name i ≡ name j → termOf ns i ≡ termOf ns j
@@ -170,11 +170,11 @@ module _ (nodes arguments : List ℕ) (s : Sections nodes arguments) (cs order :
 
   -- and the other way round
   one-name : (i j : ℕ) → i < length ns → j < length ns → termOf ns i ≡ termOf ns j → name i ≡ name j
-  one-name i j h k e = by-name i j h k .0 (ap (sub (solution (length ns) ns (classOf cs))) e)
+  one-name i j h k e = by-name i j h k .0 (ap (sub (solution (length ns) ns (classOf starts))) e)
 
   -- the head of a node is its name
   at : (i : ℕ) → i < nodeCount nodes → word heads i ≡ name i
-  at i h = map-at (word names) cs i (omega arith)
+  at i h = map-at (word names) starts i (omega arith)
 
   -- the name at a node is not above it, and stands at itself
   earlier : (i : ℕ) → i < nodeCount nodes → (word names i ≤ i) × (word names (word names i) ≡ word names i)
@@ -186,10 +186,10 @@ module _ (nodes arguments : List ℕ) (s : Sections nodes arguments) (cs order :
       (rw e (q .1), rw e (ap (word names) (sym y) ∙ q .3 ∙ y))
 
   -- a name is its own head where no pair is given
-  name-head : (i : ℕ) → i < nodeCount nodes → Dec (kindOf nodes (classOf cs i) ≡ 0) → classOf cs (name i) ≡ name i
+  name-head : (i : ℕ) → i < nodeCount nodes → Dec (kindOf nodes (classOf starts i) ≡ 0) → classOf starts (name i) ≡ name i
   name-head i h (yes k) = rw (m .named .variable i h k) (p .own i h)
   name-head i h (no n) =
-      itself nodes arguments s cs order l t (name i) (m .named .node i h) (m .named .application i h n)
+      itself nodes arguments s starts order l t (name i) (m .named .node i h) (m .named .application i h n)
 
   -- the head of a node is not above it, and has its name
   record HeadOf (k : ℕ) : Type 0 where
@@ -200,12 +200,12 @@ module _ (nodes arguments : List ℕ) (s : Sections nodes arguments) (cs order :
   head-of : (k : ℕ) → k < nodeCount nodes → HeadOf k
   head-of k h =
       let e = at k h in
-      let b = below nodes arguments s cs order l t k h in
-      let q = earlier (classOf cs k) (p .below k h) in
+      let b = below nodes arguments s starts order l t k h in
+      let q = earlier (classOf starts k) (p .below k h) in
       record {
         node = rw e (m .named .node k h);
         low = rw e (omega (arith, b, q .0));
-        named = rw e (ap (word names) (name-head k h (ℕ-discrete (kindOf nodes (classOf cs k)) 0)) ∙ q .1);
+        named = rw e (ap (word names) (name-head k h (ℕ-discrete (kindOf nodes (classOf starts k)) 0)) ∙ q .1);
       }
 
   -- nodes with one name have one head
@@ -227,15 +227,15 @@ module _ (nodes arguments : List ℕ) (s : Sections nodes arguments) (cs order :
 
   -- each class has a head
   shared-partition : Partition (nodeCount nodes) heads
-  shared-partition = record { size = length-map cs (word names) ∙ l; below = λ i h. head-of i h .node; own = own }
+  shared-partition = record { size = length-map starts (word names) ∙ l; below = λ i h. head-of i h .node; own = own }
 
   -- constants of one name are alike, so they have one
   shared-constants : OneConstant nodes heads
   shared-constants i j a b e =
-      let x : classOf cs i ≡ i = itself nodes arguments s cs order l t i (a .node) (a .applied) in
-      let y : classOf cs j ≡ j = itself nodes arguments s cs order l t j (b .node) (b .applied) in
+      let x : classOf starts i ≡ i = itself nodes arguments s starts order l t i (a .node) (a .applied) in
+      let y : classOf starts j ≡ j = itself nodes arguments s starts order l t j (b .node) (b .applied) in
       let z = a .bare in
-      let k : Alike nodes arguments cs names i j = record { name = e; count = a .bare ∙ sym (b .bare); per-argument = λ q h. absurd (omega (arith, h, z)) } in
+      let k : Alike nodes arguments starts names i j = record { name = e; count = a .bare ∙ sym (b .bare); per-argument = λ q h. absurd (omega (arith, h, z)) } in
       one-head i j (a .node) (b .node) (m .named .composed i j (a .node) (b .node) (rw x (a .applied)) (rw y (b .applied)) (rw (x, y) k))
 
   -- Each node and its head.
@@ -302,38 +302,38 @@ module _ (nodes arguments : List ℕ) (s : Sections nodes arguments) (cs order :
       }
 
 -- nodes of one term are put together
-pub shared-together : (nodes arguments cs order names heads : List ℕ) → Sections nodes arguments → length cs ≡ nodeCount nodes → length order ≡ nodeCount nodes → Started nodes arguments cs order (nodeCount nodes) → NamedAlong nodes arguments cs order names → heads ≡ map (word names) cs → Together nodes arguments heads
-shared-together nodes arguments cs order names heads s l d t m e =
+pub shared-together : (nodes arguments starts order names heads : List ℕ) → Sections nodes arguments → length starts ≡ nodeCount nodes → length order ≡ nodeCount nodes → Started nodes arguments starts order (nodeCount nodes) → NamedAlong nodes arguments starts order names → heads ≡ map (word names) starts → Together nodes arguments heads
+shared-together nodes arguments starts order names heads s l d t m e =
     rw e
     (record {
       formed = λ counts c. record {
         partition = parts;
-        constants = shared-constants nodes arguments s cs order l d t names m;
-        closed = heads-closed nodes arguments s counts c (map (word names) cs) parts low (λ i h. ap (sub var) (head-term nodes arguments s cs order l d t names m i (is-node nodes arguments i h))) one-head;
-        order = rising nodes arguments s counts c (map (word names) cs) parts low;
-        ordered = rising-ordered nodes arguments s counts c (map (word names) cs) parts low;
+        constants = shared-constants nodes arguments s starts order l d t names m;
+        closed = heads-closed nodes arguments s counts c (map (word names) starts) parts low (λ i h. ap (sub var) (head-term nodes arguments s starts order l d t names m i (is-node nodes arguments i h))) one-head;
+        order = rising nodes arguments s counts c (map (word names) starts) parts low;
+        ordered = rising-ordered nodes arguments s counts c (map (word names) starts) parts low;
       };
-      pairs = pairs nodes arguments s cs order l d t names m;
+      pairs = pairs nodes arguments s starts order l d t names m;
       stands = record {
-        inside = pairs-inside nodes arguments s cs order l d t names m;
-        closure = shared-closure nodes arguments s cs order l d t names m;
+        inside = pairs-inside nodes arguments s starts order l d t names m;
+        closure = shared-closure nodes arguments s starts order l d t names m;
       };
-      same = pairs-same nodes arguments s cs order l d t names m;
-      first = record { first = low; own = own nodes arguments s cs order l d t names m };
+      same = pairs-same nodes arguments s starts order l d t names m;
+      first = record { first = low; own = own nodes arguments s starts order l d t names m };
     })
   where
-    low : (i : ℕ) → i < nodeCount nodes → classOf (map (word names) cs) i ≤ i
-    low i h = head-of nodes arguments s cs order l d t names m i h .low
+    low : (i : ℕ) → i < nodeCount nodes → classOf (map (word names) starts) i ≤ i
+    low i h = head-of nodes arguments s starts order l d t names m i h .low
 
-    parts : Partition (nodeCount nodes) (map (word names) cs)
-    parts = shared-partition nodes arguments s cs order l d t names m
+    parts : Partition (nodeCount nodes) (map (word names) starts)
+    parts = shared-partition nodes arguments s starts order l d t names m
 
-    one-head : (i j : ℕ) → i < nodeCount nodes → j < nodeCount nodes → value (nodesFrom nodes arguments) var i ≡ value (nodesFrom nodes arguments) var j → classOf (map (word names) cs) i ≡ classOf (map (word names) cs) j
+    one-head : (i j : ℕ) → i < nodeCount nodes → j < nodeCount nodes → value (nodesFrom nodes arguments) var i ≡ value (nodesFrom nodes arguments) var j → classOf (map (word names) starts) i ≡ classOf (map (word names) starts) j
     one-head i j h k q =
-        term-head nodes arguments s cs order l d t names m i j (is-node nodes arguments i h) (is-node nodes arguments j k) (sym (sub-var (termOf (nodesFrom nodes arguments) i)) ∙ q ∙ sub-var (termOf (nodesFrom nodes arguments) j))
+        term-head nodes arguments s starts order l d t names m i j (is-node nodes arguments i h) (is-node nodes arguments j k) (sym (sub-var (termOf (nodesFrom nodes arguments) i)) ∙ q ∙ sub-var (termOf (nodesFrom nodes arguments) j))
 
 -- what unifying begins with, by its parts
-pub begun-shared : {nodes arguments cs : List ℕ} {v : Variables} → Lists nodes arguments v → Together nodes arguments cs → BeginsShared nodes arguments v cs
+pub begun-shared : {nodes arguments starts : List ℕ} {v : Variables} → Lists nodes arguments v → Together nodes arguments starts → BeginsShared nodes arguments v starts
 begun-shared l t =
     record {
       lists = l;

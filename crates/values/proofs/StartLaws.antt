@@ -41,14 +41,14 @@ unfolding startHead
 start-other nodes arguments i k = rw (ne-eqb (kindOf nodes i) 0 k)
 
 -- nothing is done yet
-pub started-none : (nodes arguments cs order : List ℕ) → Started nodes arguments cs order 0
-started-none nodes arguments cs order = record { head = λ k h. absurd (omega arith); place = λ k h. absurd (omega arith) }
+pub started-none : (nodes arguments heads order : List ℕ) → Started nodes arguments heads order 0
+started-none nodes arguments heads order = record { head = λ k h. absurd (omega arith); place = λ k h. absurd (omega arith) }
 
 -- one node more
-pub started-next : (nodes arguments cs order : List ℕ) (i h : ℕ) → i < length cs → i < length order → h ≡ startHead nodes arguments i → Started nodes arguments cs order i → Started nodes arguments (set cs i h) (set order i i) (i + 1)
-started-next nodes arguments cs order i h a b e s =
+pub started-next : (nodes arguments heads order : List ℕ) (i h : ℕ) → i < length heads → i < length order → h ≡ startHead nodes arguments i → Started nodes arguments heads order i → Started nodes arguments (set heads i h) (set order i i) (i + 1)
+started-next nodes arguments heads order i h a b e s =
     record {
-      head = below-more (λ k. word (set cs i h) k ≡ startHead nodes arguments k) i (λ k l. getD-set-other cs i k h 0 (λ z. omega (arith, l, z)) ∙ s .head k l) (getD-set-same cs i h 0 a ∙ e);
+      head = below-more (λ k. word (set heads i h) k ≡ startHead nodes arguments k) i (λ k l. getD-set-other heads i k h 0 (λ z. omega (arith, l, z)) ∙ s .head k l) (getD-set-same heads i h 0 a ∙ e);
       place = below-more (λ k. word (set order i i) k ≡ k) i (λ k l. getD-set-other order i k i 0 (λ z. omega (arith, l, z)) ∙ s .place k l) (getD-set-same order i i 0 b);
     }
 
@@ -77,27 +77,27 @@ module _ (nodes arguments : List ℕ) (s : Sections nodes arguments) where
       let r : word least x ≡ startHead nodes arguments i = l .right x y ∙ ap (nodeOf (nodesFrom nodes arguments)) q ∙ sym (start-variable nodes arguments i k) in
       (omega arith, r, rw r (start-below i h))
 
-  module _ (cs order : List ℕ) (m : length cs ≡ nodeCount nodes) (t : Started nodes arguments cs order (nodeCount nodes)) where
+  module _ (heads order : List ℕ) (m : length heads ≡ nodeCount nodes) (t : Started nodes arguments heads order (nodeCount nodes)) where
     -- a head is not above its node
-    pub below : (i : ℕ) → i < nodeCount nodes → classOf cs i ≤ i
+    pub below : (i : ℕ) → i < nodeCount nodes → classOf heads i ≤ i
     below i h = rw (t .head i h) (start-below i h)
 
     -- the head of a variable is a node of it
-    of-variable : (i x : ℕ) → i < nodeCount nodes → nodeAt (nodesFrom nodes arguments) i ≡ variable x → classOf cs i ≡ nodeOf (nodesFrom nodes arguments) x
+    of-variable : (i x : ℕ) → i < nodeCount nodes → nodeAt (nodesFrom nodes arguments) i ≡ variable x → classOf heads i ≡ nodeOf (nodesFrom nodes arguments) x
     of-variable i x h e =
         let v = section-variable nodes arguments s i h x .0 e in
         t .head i h ∙ start-variable nodes arguments i (v .0) ∙ ap (nodeOf (nodesFrom nodes arguments)) (sym (v .1))
 
-    at-head : (i : ℕ) → i < nodeCount nodes → kindOf nodes i ≡ 0 → nodeAt (nodesFrom nodes arguments) (classOf cs i) ≡ variable (nameOf nodes i)
+    at-head : (i : ℕ) → i < nodeCount nodes → kindOf nodes i ≡ 0 → nodeAt (nodesFrom nodes arguments) (classOf heads i) ≡ variable (nameOf nodes i)
     at-head i h k =
         rw (of-variable i (nameOf nodes i) h (variable-from nodes arguments i h k)) (least i h k .holds .1)
 
     -- an application is its own head
-    pub itself : (i : ℕ) → i < nodeCount nodes → (kindOf nodes i ≡ 0 → ⊥) → classOf cs i ≡ i
+    pub itself : (i : ℕ) → i < nodeCount nodes → (kindOf nodes i ≡ 0 → ⊥) → classOf heads i ≡ i
     itself i h k = t .head i h ∙ start-other nodes arguments i k
 
     -- each class has a head
-    pub start-partition : Partition (nodeCount nodes) cs
+    pub start-partition : Partition (nodeCount nodes) heads
     start-partition =
         record {
           size = m;
@@ -105,14 +105,14 @@ module _ (nodes arguments : List ℕ) (s : Sections nodes arguments) where
           own = λ i h. own i h (ℕ-discrete (kindOf nodes i) 0);
         }
       where
-        own : (i : ℕ) → i < nodeCount nodes → Dec (kindOf nodes i ≡ 0) → classOf cs (classOf cs i) ≡ classOf cs i
+        own : (i : ℕ) → i < nodeCount nodes → Dec (kindOf nodes i ≡ 0) → classOf heads (classOf heads i) ≡ classOf heads i
         own i h (yes k) =
             let b = below i h in
-            of-variable (classOf cs i) (nameOf nodes i) (omega (arith, b)) (at-head i h k) ∙ sym (of-variable i (nameOf nodes i) h (variable-from nodes arguments i h k))
-        own i h (no k) = ap (classOf cs) (itself i h k)
+            of-variable (classOf heads i) (nameOf nodes i) (omega (arith, b)) (at-head i h k) ∙ sym (of-variable i (nameOf nodes i) h (variable-from nodes arguments i h k))
+        own i h (no k) = ap (classOf heads) (itself i h k)
 
     -- they are the classes of no pair
-    start-closure : IsClosure (nodesFrom nodes arguments) [] (classOf cs)
+    start-closure : IsClosure (nodesFrom nodes arguments) [] (classOf heads)
     start-closure =
         record {
           joined = λ i h. joined i (rw (nodes-long nodes arguments) at h) (ℕ-discrete (kindOf nodes i) 0);
@@ -124,25 +124,25 @@ module _ (nodes arguments : List ℕ) (s : Sections nodes arguments) where
                 arguments = us;
                 applied = rw (itself i h (from-application nodes arguments i h f us e .0)) e;
                 as-long = refl;
-                one-head = λ a b n. let r = zip-at us us a b .0 n in ap (classOf cs) (r .3 ∙ sym (r .4));
+                one-head = λ a b n. let r = zip-at us us a b .0 n in ap (classOf heads) (r .3 ∙ sym (r .4));
               };
         }
       where
-        joined : (i : ℕ) → i < nodeCount nodes → Dec (kindOf nodes i ≡ 0) → Joined (nodesFrom nodes arguments) [] i (classOf cs i)
+        joined : (i : ℕ) → i < nodeCount nodes → Dec (kindOf nodes i ≡ 0) → Joined (nodesFrom nodes arguments) [] i (classOf heads i)
         joined i h (yes k) =
             let b = below i h in
-            let c : classOf cs i < nodeCount nodes = omega (arith, b) in
-            one-variable {i = i} {j = classOf cs i} (rw (nodes-long nodes arguments) h) (rw (nodes-long nodes arguments) c) (variable-from nodes arguments i h k) (at-head i h k)
+            let c : classOf heads i < nodeCount nodes = omega (arith, b) in
+            one-variable {i = i} {j = classOf heads i} (rw (nodes-long nodes arguments) h) (rw (nodes-long nodes arguments) c) (variable-from nodes arguments i h k) (at-head i h k)
         joined i h (no k) = rw (itself i h k) (same {i = i} (rw (nodes-long nodes arguments) h))
 
     -- they are a solved form: an argument's head is below its node
-    pub start-solved : Solved (nodesFrom nodes arguments) [] (classOf cs) (λ i. i)
+    pub start-solved : Solved (nodesFrom nodes arguments) [] (classOf heads) (λ i. i)
     start-solved =
         record {
           closure = start-closure;
           falls = λ i f us p e a n.
               let b = below i (rw (nodes-long nodes arguments) at p) in
-              let q = sections-well-formed nodes arguments s .smaller (classOf cs i) f us (omega (arith, b, p)) e a n in
+              let q = sections-well-formed nodes arguments s .smaller (classOf heads i) f us (omega (arith, b, p)) e a n in
               let h : a < nodeCount nodes = rw (nodes-long nodes arguments) at (let z : a < length (nodesFrom nodes arguments) = omega (arith, b, p, q) in z) in
               let d = below a h in
               omega (arith, d, q);
@@ -150,7 +150,7 @@ module _ (nodes arguments : List ℕ) (s : Sections nodes arguments) where
 
     module _ (l : length order ≡ nodeCount nodes) where
       -- nodes can be named in their own order
-      pub start-nameable : Nameable nodes arguments cs order
+      pub start-nameable : Nameable nodes arguments heads order
       start-nameable =
           record {
             node = λ p h. let g : p < nodeCount nodes = omega arith in rw (t .place p g) g;
@@ -163,18 +163,18 @@ module _ (nodes arguments : List ℕ) (s : Sections nodes arguments) where
                 let d = t .place q g in
                 let a = s .smaller q j g (rw d at c) in
                 let b = below (argumentOf nodes arguments q j) (omega (arith, a)) in
-                let x : classOf cs (argumentOf nodes arguments q j) ≡ word order p = rw d at e in
+                let x : classOf heads (argumentOf nodes arguments q j) ≡ word order p = rw d at e in
                 let y = t .place p (omega arith) in
                 omega (arith, a, b, x, y);
           }
 
       -- and every head stands in it
-      pub start-whole : (names : List ℕ) → Whole nodes cs order names
+      pub start-whole : (names : List ℕ) → Whole nodes heads order names
       start-whole names =
           all
           (λ i h.
           let b = below i h in
-          (classOf cs i, omega (arith, b), t .place (classOf cs i) (omega (arith, b))))
+          (classOf heads i, omega (arith, b), t .place (classOf heads i) (omega (arith, b))))
 
 -- the variables present, by their least nodes
 pub present-lists : {v : Variables} (nodes arguments least : List ℕ) (n : ℕ) → Sections nodes arguments → LeastByName nodes arguments least → n ≡ nodeCount nodes → ListsPresent least n (v .count) (v .nodes) → Lists nodes arguments v

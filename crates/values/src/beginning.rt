@@ -38,16 +38,16 @@ fn start_head(nodes: &[u32], arguments: &[u32], least: &[u16], i: usize) -> u8
 }
 
 // The classes where no pair is given: each node of a variable has its least node as its head, any other itself.
-fn start(nodes: &[u32], arguments: &[u32], least: &[u16], of: &mut [u8], order: &mut [u8])
+fn start(nodes: &[u32], arguments: &[u32], least: &[u16], heads: &mut [u8], order: &mut [u8])
     requires { ⌜ Sections (now nodes) (now arguments) ⌝ }
     requires { ⌜ LeastByName (now nodes) (now arguments) (now least) ⌝ }
-    requires { ⌜ (length (now of) ≡ nodeCount (now nodes)) × (length (now order) ≡ nodeCount (now nodes)) ⌝ }
-    ensures { λ r. ⌜ Started (now (nodes .entry)) (now (arguments .entry)) (now (of .exit)) (now (order .exit)) (nodeCount (now (nodes .entry))) ⌝ }
+    requires { ⌜ (length (now heads) ≡ nodeCount (now nodes)) × (length (now order) ≡ nodeCount (now nodes)) ⌝ }
+    ensures { λ r. ⌜ Started (now (nodes .entry)) (now (arguments .entry)) (now (heads .exit)) (now (order .exit)) (nodeCount (now (nodes .entry))) ⌝ }
 {
     let n = sections::node_count(nodes, arguments);
     let mut i: usize = 0;
     while i < n {
-        of[i] = start_head(nodes, arguments, least, i);
+        heads[i] = start_head(nodes, arguments, least, i);
         order[i] = i as u8;
         i += 1;
     }
@@ -67,13 +67,13 @@ pub fn variables(nodes: &[u32], arguments: &[u32]) -> Variables
 }
 
 // Gives each node the name of its head as its head.
-fn share_heads(of: &[u8], names: &[u8], heads: &mut [u8])
-    requires { ⌜ (length (now of) ≡ length (now heads)) × HeadsNamed (now of) (now names) ⌝ }
-    ensures { λ r. ⌜ now (heads .exit) ≡ map (word (now (names .entry))) (now (of .entry)) ⌝ }
+fn share_heads(starts: &[u8], names: &[u8], heads: &mut [u8])
+    requires { ⌜ (length (now starts) ≡ length (now heads)) × HeadsNamed (now starts) (now names) ⌝ }
+    ensures { λ r. ⌜ now (heads .exit) ≡ map (word (now (names .entry))) (now (starts .entry)) ⌝ }
 {
     let mut i: usize = 0;
-    while i < of.len() {
-        let head = of[i] as usize;
+    while i < starts.len() {
+        let head = starts[i] as usize;
         heads[i] = names[head];
         i += 1;
     }
@@ -87,24 +87,24 @@ fn share(
     starts: &mut [u8],
     order: &mut [u8],
     names: &mut [u8],
-    of: &mut [u8],
+    heads: &mut [u8],
 )
     requires { ⌜ Sections (now nodes) (now arguments) ⌝ }
     requires { ⌜ LeastByName (now nodes) (now arguments) (now least) ⌝ }
     requires { ⌜ (length (now starts) ≡ nodeCount (now nodes)) × (length (now order) ≡ nodeCount (now nodes)) ⌝ }
-    requires { ⌜ (length (now names) ≡ nodeCount (now nodes)) × (length (now of) ≡ nodeCount (now nodes)) ⌝ }
-    ensures { λ r. ⌜ Together (now (nodes .entry)) (now (arguments .entry)) (now (of .exit)) ⌝ }
+    requires { ⌜ (length (now names) ≡ nodeCount (now nodes)) × (length (now heads) ≡ nodeCount (now nodes)) ⌝ }
+    ensures { λ r. ⌜ Together (now (nodes .entry)) (now (arguments .entry)) (now (heads .exit)) ⌝ }
 {
     start(nodes, arguments, least, starts, order);
     names::name_values(nodes, arguments, starts, order, names);
-    share_heads(starts, names, of);
+    share_heads(starts, names, heads);
 }
 
 // The variables present, and the classes in which nodes of one term are together.
-pub fn begin_shared(nodes: &[u32], arguments: &[u32], of: &mut [u8]) -> Variables
+pub fn begin_shared(nodes: &[u32], arguments: &[u32], heads: &mut [u8]) -> Variables
     requires { ⌜ Sections (now nodes) (now arguments) ⌝ }
-    requires { ⌜ length (now of) ≡ nodeCount (now nodes) ⌝ }
-    ensures { λ r. ⌜ BeginsShared (now (nodes .entry)) (now (arguments .entry)) r (now (of .exit)) ⌝ }
+    requires { ⌜ length (now heads) ≡ nodeCount (now nodes) ⌝ }
+    ensures { λ r. ⌜ BeginsShared (now (nodes .entry)) (now (arguments .entry)) r (now (heads .exit)) ⌝ }
 {
     let n = sections::node_count(nodes, arguments);
     let mut least = [n as u16; VARIABLE_NAMES];
@@ -121,18 +121,18 @@ pub fn begin_shared(nodes: &[u32], arguments: &[u32], of: &mut [u8]) -> Variable
         &mut starts[0..n],
         &mut order[0..n],
         &mut names[0..n],
-        of,
+        heads,
     );
     Variables { count, nodes: list }
 }
 
 // Puts node i into the circle of its head, which is not after it; the nodes before it are in circles.
-fn put_in_circle(of: &[u8], next: &mut [u8], i: usize)
-    requires { ⌜ (i < length (now of)) × HeadsFirst (length (now of)) (now of) × (length (now of) ≤ maxNodes) ⌝ }
-    requires { ⌜ CirclesBefore (now of) (now next) i ⌝ }
-    ensures { λ r. ⌜ CirclesBefore (now (of .entry)) (now (next .exit)) (i + 1) ⌝ }
+fn put_in_circle(heads: &[u8], next: &mut [u8], i: usize)
+    requires { ⌜ (i < length (now heads)) × HeadsFirst (length (now heads)) (now heads) × (length (now heads) ≤ maxNodes) ⌝ }
+    requires { ⌜ CirclesBefore (now heads) (now next) i ⌝ }
+    ensures { λ r. ⌜ CirclesBefore (now (heads .entry)) (now (next .exit)) (i + 1) ⌝ }
 {
-    let h = of[i] as usize;
+    let h = heads[i] as usize;
     if h == i {
         next[i] = i as u8;
         return;
@@ -142,13 +142,13 @@ fn put_in_circle(of: &[u8], next: &mut [u8], i: usize)
 }
 
 // Puts the members of each class into a circle, where the heads come first. No head has gone.
-pub fn make_circles(of: &[u8], next: &mut [u8])
-    requires { ⌜ (now next ≡ replicate links 0) × HeadsFirst (length (now of)) (now of) × (length (now of) ≤ maxNodes) ⌝ }
-    ensures { λ r. ⌜ Trailed (length (now (of .entry))) (now (of .entry)) (now (next .exit)) ⌝ }
+pub fn make_circles(heads: &[u8], next: &mut [u8])
+    requires { ⌜ (now next ≡ replicate links 0) × HeadsFirst (length (now heads)) (now heads) × (length (now heads) ≤ maxNodes) ⌝ }
+    ensures { λ r. ⌜ Trailed (length (now (heads .entry))) (now (heads .entry)) (now (next .exit)) ⌝ }
 {
     let mut i: usize = 0;
-    while i < of.len() {
-        put_in_circle(of, next, i);
+    while i < heads.len() {
+        put_in_circle(heads, next, i);
         i += 1;
     }
 }

@@ -29,29 +29,29 @@ const ARGUMENT_FACTOR: usize = 157;
 fn argument_name(
     nodes: &[u32],
     arguments: &[u32],
-    of: &[u8],
+    heads: &[u8],
     names: &[u8],
     h: Node,
     j: usize,
 ) -> Node
-    requires { ⌜ Readable (now nodes) (now arguments) (now of) (now names) ⌝ }
+    requires { ⌜ Readable (now nodes) (now arguments) (now heads) (now names) ⌝ }
     requires { ⌜ (h .0 < nodeCount (now nodes)) × (j < countOf (now nodes) (h .0)) ⌝ }
-    ensures { λ r. ⌜ (r .0 ≡ valueName (now (of .entry)) (now (names .entry)) (argumentOf (now (nodes .entry)) (now (arguments .entry)) (h .0) j)) × (r .0 < maxNodes) ⌝ }
+    ensures { λ r. ⌜ (r .0 ≡ valueName (now (heads .entry)) (now (names .entry)) (argumentOf (now (nodes .entry)) (now (arguments .entry)) (h .0) j)) × (r .0 < maxNodes) ⌝ }
 {
-    lists::value_name(of, names, sections::argument(nodes, arguments, h, j))
+    lists::value_name(heads, names, sections::argument(nodes, arguments, h, j))
 }
 
 // The key of a node in the table of applications.
-pub fn key(nodes: &[u32], arguments: &[u32], of: &[u8], names: &[u8], h: Node) -> usize
-    requires { ⌜ Readable (now nodes) (now arguments) (now of) (now names) ⌝ }
+pub fn key(nodes: &[u32], arguments: &[u32], heads: &[u8], names: &[u8], h: Node) -> usize
+    requires { ⌜ Readable (now nodes) (now arguments) (now heads) (now names) ⌝ }
     requires { ⌜ h .0 < nodeCount (now nodes) ⌝ }
-    ensures { λ r. ⌜ (r ≡ keyOf (now (nodes .entry)) (now (arguments .entry)) (now (of .entry)) (now (names .entry)) (h .0)) × (r < keys) ⌝ }
+    ensures { λ r. ⌜ (r ≡ keyOf (now (nodes .entry)) (now (arguments .entry)) (now (heads .entry)) (now (names .entry)) (h .0)) × (r < keys) ⌝ }
 {
     let n = sections::arity(nodes, arguments, h);
     let mut x = (index(layout::name(nodes, h)) * NAME_FACTOR % 65536 / 256 + n) % KEYS;
     let mut j: usize = 0;
     while j < n {
-        let name = argument_name(nodes, arguments, of, names, h, j);
+        let name = argument_name(nodes, arguments, heads, names, h, j);
         x = (x * ARGUMENT_FACTOR + index(name.0) + 1) % KEYS;
         j += 1;
     }
@@ -59,10 +59,10 @@ pub fn key(nodes: &[u32], arguments: &[u32], of: &[u8], names: &[u8], h: Node) -
 }
 
 // Whether two applications have one symbol and arguments with the same names.
-fn alike(nodes: &[u32], arguments: &[u32], of: &[u8], names: &[u8], g: Node, h: Node) -> bool
-    requires { ⌜ Readable (now nodes) (now arguments) (now of) (now names) ⌝ }
+fn alike(nodes: &[u32], arguments: &[u32], heads: &[u8], names: &[u8], g: Node, h: Node) -> bool
+    requires { ⌜ Readable (now nodes) (now arguments) (now heads) (now names) ⌝ }
     requires { ⌜ (g .0 < nodeCount (now nodes)) × (h .0 < nodeCount (now nodes)) ⌝ }
-    ensures { λ r. ⌜ Compared (now (nodes .entry)) (now (arguments .entry)) (now (of .entry)) (now (names .entry)) (g .0) (h .0) r ⌝ }
+    ensures { λ r. ⌜ Compared (now (nodes .entry)) (now (arguments .entry)) (now (heads .entry)) (now (names .entry)) (g .0) (h .0) r ⌝ }
 {
     if !sections::one_symbol(nodes, g, h) {
         return false;
@@ -70,8 +70,8 @@ fn alike(nodes: &[u32], arguments: &[u32], of: &[u8], names: &[u8], g: Node, h: 
     let n = sections::arity(nodes, arguments, g);
     let mut j: usize = 0;
     while j < n {
-        let x = argument_name(nodes, arguments, of, names, g, j);
-        let y = argument_name(nodes, arguments, of, names, h, j);
+        let x = argument_name(nodes, arguments, heads, names, g, j);
+        let y = argument_name(nodes, arguments, heads, names, h, j);
         if x.0 != y.0 {
             return false;
         }
@@ -84,7 +84,7 @@ fn alike(nodes: &[u32], arguments: &[u32], of: &[u8], names: &[u8], g: Node, h: 
 fn find(
     nodes: &[u32],
     arguments: &[u32],
-    of: &[u8],
+    heads: &[u8],
     order: &[u8],
     names: &[u8],
     buckets: &[u16],
@@ -92,15 +92,15 @@ fn find(
     p: usize,
     k: usize,
 ) -> usize
-    requires { ⌜ Naming (now nodes) (now arguments) (now of) (now order) (now names) (now buckets) (now earlier) p ⌝ }
-    requires { ⌜ (p < length (now order)) × (k ≡ keyOf (now nodes) (now arguments) (now of) (now names) (word (now order) p)) × (k < keys) ⌝ }
-    ensures { λ r. ⌜ Found (now (nodes .entry)) (now (arguments .entry)) (now (of .entry)) (now (order .entry)) (now (names .entry)) p r ⌝ }
+    requires { ⌜ Naming (now nodes) (now arguments) (now heads) (now order) (now names) (now buckets) (now earlier) p ⌝ }
+    requires { ⌜ (p < length (now order)) × (k ≡ keyOf (now nodes) (now arguments) (now heads) (now names) (word (now order) p)) × (k < keys) ⌝ }
+    ensures { λ r. ⌜ Found (now (nodes .entry)) (now (arguments .entry)) (now (heads .entry)) (now (order .entry)) (now (names .entry)) p r ⌝ }
 {
     let h = lists::node_in(order, p);
     let mut cursor = lists::entry(buckets, k);
     while cursor != 0 {
         let g = lists::node_in(order, cursor - 1);
-        if alike(nodes, arguments, of, names, g, h) {
+        if alike(nodes, arguments, heads, names, g, h) {
             return cursor;
         }
         cursor = lists::entry(earlier, cursor - 1);
@@ -142,24 +142,24 @@ fn chain(buckets: &mut [u16], earlier: &mut [u16], p: usize, k: usize)
 fn name_node(
     nodes: &[u32],
     arguments: &[u32],
-    of: &[u8],
+    heads: &[u8],
     order: &[u8],
     names: &mut [u8],
     buckets: &mut [u16],
     earlier: &mut [u16],
     p: usize,
 )
-    requires { ⌜ Naming (now nodes) (now arguments) (now of) (now order) (now names) (now buckets) (now earlier) p ⌝ }
+    requires { ⌜ Naming (now nodes) (now arguments) (now heads) (now order) (now names) (now buckets) (now earlier) p ⌝ }
     requires { ⌜ p < length (now order) ⌝ }
-    ensures { λ r. ⌜ Naming (now (nodes .entry)) (now (arguments .entry)) (now (of .entry)) (now (order .entry)) (now (names .exit)) (now (buckets .exit)) (now (earlier .exit)) (p + 1) ⌝ }
+    ensures { λ r. ⌜ Naming (now (nodes .entry)) (now (arguments .entry)) (now (heads .entry)) (now (order .entry)) (now (names .exit)) (now (buckets .exit)) (now (earlier .exit)) (p + 1) ⌝ }
 {
     let h = lists::node_in(order, p);
     if sections::is_variable(nodes, h) {
         put(names, h, h);
         return;
     }
-    let k = key(nodes, arguments, of, names, h);
-    let cursor = find(nodes, arguments, of, order, names, buckets, earlier, p, k);
+    let k = key(nodes, arguments, heads, names, h);
+    let cursor = find(nodes, arguments, heads, order, names, buckets, earlier, p, k);
     if cursor != 0 {
         put(names, h, lists::node_in(order, cursor - 1));
         return;
@@ -172,38 +172,38 @@ fn name_node(
 fn name_all(
     nodes: &[u32],
     arguments: &[u32],
-    of: &[u8],
+    heads: &[u8],
     order: &[u8],
     start: usize,
     names: &mut [u8],
     buckets: &mut [u16],
     earlier: &mut [u16],
 )
-    requires { ⌜ Naming (now nodes) (now arguments) (now of) (now order) (now names) (now buckets) (now earlier) start ⌝ }
+    requires { ⌜ Naming (now nodes) (now arguments) (now heads) (now order) (now names) (now buckets) (now earlier) start ⌝ }
     requires { ⌜ start ≤ length (now order) ⌝ }
-    ensures { λ r. ⌜ NamedAlong (now (nodes .entry)) (now (arguments .entry)) (now (of .entry)) (now (order .entry)) (now (names .exit)) ⌝ }
+    ensures { λ r. ⌜ NamedAlong (now (nodes .entry)) (now (arguments .entry)) (now (heads .entry)) (now (order .entry)) (now (names .exit)) ⌝ }
 {
     let mut p = start;
     while p < order.len() {
-        name_node(nodes, arguments, of, order, names, buckets, earlier, p);
+        name_node(nodes, arguments, heads, order, names, buckets, earlier, p);
         p += 1;
     }
 }
 
 // Names the values of the classes.
-pub fn name_values(nodes: &[u32], arguments: &[u32], of: &[u8], order: &[u8], names: &mut [u8])
+pub fn name_values(nodes: &[u32], arguments: &[u32], heads: &[u8], order: &[u8], names: &mut [u8])
     requires { ⌜ Sections (now nodes) (now arguments) ⌝ }
-    requires { ⌜ Partition (nodeCount (now nodes)) (now of) ⌝ }
-    requires { ⌜ Nameable (now nodes) (now arguments) (now of) (now order) ⌝ }
-    requires { ⌜ (length (now names) ≡ nodeCount (now nodes)) × Whole (now nodes) (now of) (now order) (now names) ⌝ }
-    ensures { λ r. ⌜ NamedAlong (now (nodes .entry)) (now (arguments .entry)) (now (of .entry)) (now (order .entry)) (now (names .exit)) ⌝ }
+    requires { ⌜ Partition (nodeCount (now nodes)) (now heads) ⌝ }
+    requires { ⌜ Nameable (now nodes) (now arguments) (now heads) (now order) ⌝ }
+    requires { ⌜ (length (now names) ≡ nodeCount (now nodes)) × Whole (now nodes) (now heads) (now order) (now names) ⌝ }
+    ensures { λ r. ⌜ NamedAlong (now (nodes .entry)) (now (arguments .entry)) (now (heads .entry)) (now (order .entry)) (now (names .exit)) ⌝ }
 {
     let mut buckets = [0u16; KEYS];
     let mut earlier = [0u16; MAX_NODES];
     name_all(
         nodes,
         arguments,
-        of,
+        heads,
         order,
         0,
         names,
@@ -228,7 +228,7 @@ fn copy_table(from: &[u16], to: &mut [u16])
 fn name_copied(
     nodes: &[u32],
     arguments: &[u32],
-    of: &[u8],
+    heads: &[u8],
     order: &[u8],
     start: usize,
     buckets: &[u16],
@@ -237,37 +237,37 @@ fn name_copied(
     slots: &mut [u16],
     links: &mut [u16],
 )
-    requires { ⌜ Naming (now nodes) (now arguments) (now of) (now order) (now names) (now buckets) (now earlier) start ⌝ }
+    requires { ⌜ Naming (now nodes) (now arguments) (now heads) (now order) (now names) (now buckets) (now earlier) start ⌝ }
     requires { ⌜ start ≤ length (now order) ⌝ }
     requires { ⌜ (length (now buckets) ≡ length (now slots)) × (length (now earlier) ≡ length (now links)) ⌝ }
-    ensures { λ r. ⌜ NamedAlong (now (nodes .entry)) (now (arguments .entry)) (now (of .entry)) (now (order .entry)) (now (names .exit)) ⌝ }
+    ensures { λ r. ⌜ NamedAlong (now (nodes .entry)) (now (arguments .entry)) (now (heads .entry)) (now (order .entry)) (now (names .exit)) ⌝ }
 {
     copy_table(buckets, slots);
     copy_table(earlier, links);
-    name_all(nodes, arguments, of, order, start, names, slots, links);
+    name_all(nodes, arguments, heads, order, start, names, slots, links);
 }
 
 // Names the values of the classes from place `start` of an order on; those before it are named, and stand in a table.
 pub fn name_after(
     nodes: &[u32],
     arguments: &[u32],
-    of: &[u8],
+    heads: &[u8],
     order: &[u8],
     start: usize,
     buckets: &[u16],
     earlier: &[u16],
     names: &mut [u8],
 )
-    requires { ⌜ Naming (now nodes) (now arguments) (now of) (now order) (now names) (now buckets) (now earlier) start ⌝ }
+    requires { ⌜ Naming (now nodes) (now arguments) (now heads) (now order) (now names) (now buckets) (now earlier) start ⌝ }
     requires { ⌜ start ≤ length (now order) ⌝ }
-    ensures { λ r. ⌜ NamedAlong (now (nodes .entry)) (now (arguments .entry)) (now (of .entry)) (now (order .entry)) (now (names .exit)) ⌝ }
+    ensures { λ r. ⌜ NamedAlong (now (nodes .entry)) (now (arguments .entry)) (now (heads .entry)) (now (order .entry)) (now (names .exit)) ⌝ }
 {
     let mut buckets_after = [0u16; KEYS];
     let mut earlier_after = [0u16; MAX_NODES];
     name_copied(
         nodes,
         arguments,
-        of,
+        heads,
         order,
         start,
         buckets,

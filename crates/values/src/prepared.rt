@@ -87,13 +87,13 @@ fn list_open(nodes: &[u32], arguments: &[u32], counts: &[u8], prepared: &mut [u1
 }
 
 // Whether a node is a closed application with arguments and the head of its class.
-fn is_closed_head(nodes: &[u32], arguments: &[u32], counts: &[u8], of: &[u8], i: usize) -> bool
+fn is_closed_head(nodes: &[u32], arguments: &[u32], counts: &[u8], heads: &[u8], i: usize) -> bool
     requires { ⌜ Sections (now nodes) (now arguments) ⌝ }
-    requires { ⌜ (i < nodeCount (now nodes)) × (nodeCount (now nodes) ≤ length (now counts)) × (nodeCount (now nodes) ≤ length (now of)) ⌝ }
-    ensures { λ r. ⌜ r ≡ closedHeadTest (now (nodes .entry)) (now (counts .entry)) (now (of .entry)) i ⌝ }
+    requires { ⌜ (i < nodeCount (now nodes)) × (nodeCount (now nodes) ≤ length (now counts)) × (nodeCount (now nodes) ≤ length (now heads)) ⌝ }
+    ensures { λ r. ⌜ r ≡ closedHeadTest (now (nodes .entry)) (now (counts .entry)) (now (heads .entry)) i ⌝ }
 {
     let node = Node(i as u32);
-    let head = of[i] as usize;
+    let head = heads[i] as usize;
     sections::is_closed(nodes, counts, node)
         & (sections::arity(nodes, arguments, node) != 0)
         & (head == i)
@@ -103,17 +103,17 @@ fn is_closed_head(nodes: &[u32], arguments: &[u32], counts: &[u8], of: &[u8], i:
 fn note_closed(
     nodes: &[u32],
     arguments: &[u32],
-    of: &[u8],
+    heads: &[u8],
     names: &[u8],
     prepared: &mut [u16],
     place: usize,
     i: usize,
 )
-    requires { ⌜ Readable (now nodes) (now arguments) (now of) (now names) ⌝ }
+    requires { ⌜ Readable (now nodes) (now arguments) (now heads) (now names) ⌝ }
     requires { ⌜ (i < nodeCount (now nodes)) × (place < maxNodes) × (length (now prepared) ≡ preparedWords) ⌝ }
-    ensures { λ r. ⌜ now (prepared .exit) ≡ closedNoted (now (nodes .entry)) (now (arguments .entry)) (now (of .entry)) (now (names .entry)) (now (prepared .entry)) place i ⌝ }
+    ensures { λ r. ⌜ now (prepared .exit) ≡ closedNoted (now (nodes .entry)) (now (arguments .entry)) (now (heads .entry)) (now (names .entry)) (now (prepared .entry)) place i ⌝ }
 {
-    let k = names::key(nodes, arguments, of, names, Node(i as u32));
+    let k = names::key(nodes, arguments, heads, names, Node(i as u32));
     prepared[CLOSED + place] = i as u16;
     prepared[EARLIER + place] = prepared[k];
     prepared[k] = (place + 1) as u16;
@@ -124,22 +124,22 @@ fn list_closed(
     nodes: &[u32],
     arguments: &[u32],
     counts: &[u8],
-    of: &[u8],
+    heads: &[u8],
     names: &[u8],
     prepared: &mut [u16],
 ) -> usize
     requires { ⌜ Sections (now nodes) (now arguments) × Counts (now nodes) (now arguments) (now counts) (nodeCount (now nodes)) ⌝ }
-    requires { ⌜ Formed (now nodes) (now arguments) (now counts) (now of) ⌝ }
+    requires { ⌜ Formed (now nodes) (now arguments) (now counts) (now heads) ⌝ }
     requires { ⌜ (length (now names) ≡ nodeCount (now nodes)) × Themselves (now names) ⌝ }
     requires { ⌜ (length (now prepared) ≡ preparedWords) × ((k : ℕ) → k < 256 → word (now prepared) k ≡ 0) ⌝ }
-    ensures { λ r. ⌜ ListsClosed (now (nodes .entry)) (now (arguments .entry)) (now (counts .entry)) (now (of .entry)) (now (prepared .entry)) r (now (prepared .exit)) ⌝ }
+    ensures { λ r. ⌜ ListsClosed (now (nodes .entry)) (now (arguments .entry)) (now (counts .entry)) (now (heads .entry)) (now (prepared .entry)) r (now (prepared .exit)) ⌝ }
 {
     let n = sections::node_count(nodes, arguments);
     let mut count: usize = 0;
     let mut i: usize = 0;
     while i < n {
-        if is_closed_head(nodes, arguments, counts, of, i) {
-            note_closed(nodes, arguments, of, names, prepared, count, i);
+        if is_closed_head(nodes, arguments, counts, heads, i) {
+            note_closed(nodes, arguments, heads, names, prepared, count, i);
             count += 1;
         }
         i += 1;
@@ -152,30 +152,30 @@ fn prepare_with_room(
     nodes: &[u32],
     arguments: &[u32],
     counts: &[u8],
-    of: &[u8],
+    heads: &[u8],
     names: &mut [u8],
     prepared: &mut [u16],
 )
     requires { ⌜ Sections (now nodes) (now arguments) × Counts (now nodes) (now arguments) (now counts) (nodeCount (now nodes)) ⌝ }
-    requires { ⌜ Formed (now nodes) (now arguments) (now counts) (now of) ⌝ }
+    requires { ⌜ Formed (now nodes) (now arguments) (now counts) (now heads) ⌝ }
     requires { ⌜ (length (now names) ≡ nodeCount (now nodes)) × (now prepared ≡ replicate preparedWords 0) ⌝ }
-    ensures { λ r. ⌜ PreparedOpen (now (nodes .entry)) (now (arguments .entry)) (now (counts .entry)) (now (of .entry)) (now (prepared .exit)) ⌝ }
+    ensures { λ r. ⌜ PreparedOpen (now (nodes .entry)) (now (arguments .entry)) (now (counts .entry)) (now (heads .entry)) (now (prepared .exit)) ⌝ }
 {
     names::name_themselves(names);
     let opens = list_open(nodes, arguments, counts, prepared);
-    let closed = list_closed(nodes, arguments, counts, of, names, prepared);
+    let closed = list_closed(nodes, arguments, counts, heads, names, prepared);
     prepared[OPEN_COUNT] = opens as u16;
     prepared[CLOSED_COUNT] = closed as u16;
 }
 
 // Prepares for binding words, in words that are all 0.
-pub fn prepare(nodes: &[u32], arguments: &[u32], counts: &[u8], of: &[u8], prepared: &mut [u16])
+pub fn prepare(nodes: &[u32], arguments: &[u32], counts: &[u8], heads: &[u8], prepared: &mut [u16])
     requires { ⌜ Sections (now nodes) (now arguments) × Counts (now nodes) (now arguments) (now counts) (nodeCount (now nodes)) ⌝ }
-    requires { ⌜ Formed (now nodes) (now arguments) (now counts) (now of) ⌝ }
+    requires { ⌜ Formed (now nodes) (now arguments) (now counts) (now heads) ⌝ }
     requires { ⌜ now prepared ≡ replicate preparedWords 0 ⌝ }
-    ensures { λ r. ⌜ PreparedOpen (now (nodes .entry)) (now (arguments .entry)) (now (counts .entry)) (now (of .entry)) (now (prepared .exit)) ⌝ }
+    ensures { λ r. ⌜ PreparedOpen (now (nodes .entry)) (now (arguments .entry)) (now (counts .entry)) (now (heads .entry)) (now (prepared .exit)) ⌝ }
 {
     let n = sections::node_count(nodes, arguments);
     let mut names = [0u8; MAX_NODES];
-    prepare_with_room(nodes, arguments, counts, of, &mut names[0..n], prepared);
+    prepare_with_room(nodes, arguments, counts, heads, &mut names[0..n], prepared);
 }

@@ -96,7 +96,7 @@ either i n j m h = pick (eqb i n) refl (eqb j m) refl h
 branch-inside : {nodes arguments left right : List ℕ} {labels : Labels} {entry : List ℕ} {key weight unpaired i : ℕ} → Listable nodes arguments left right labels → Branching nodes arguments left right entry key weight unpaired i → Inside (nodesFrom nodes arguments) (pairsIn left right entry i)
 branch-inside {arguments = arguments} l g = pairable-inside arguments (branch-pairable l g)
 
-module _ {nodes arguments left right : List ℕ} {labels : Labels} {known prepared cs next : List ℕ} {key weight unpaired i : ℕ} {entry memory lent : List ℕ} {at : ℕ} (g : Walking nodes arguments left right labels known prepared cs next key weight unpaired i entry memory lent at) where
+module _ {nodes arguments left right : List ℕ} {labels : Labels} {known prepared heads next : List ℕ} {key weight unpaired i : ℕ} {entry memory lent : List ℕ} {at : ℕ} (g : Walking nodes arguments left right labels known prepared heads next key weight unpaired i entry memory lent at) where
   -- a hopeless branch has no entries
   pub hopeless-walked : hopeless (labels .left) (labels .right) (length left - i) unpaired ≡ true → Walked nodes arguments left right labels i entry memory lent at entry memory lent (idle at)
   hopeless-walked h =
@@ -110,7 +110,7 @@ module _ {nodes arguments left right : List ℕ} {labels : Labels} {known prepar
       nothing-below (g .remembers) (g .room) (below-stuck nodes arguments left right (mayIn known) labels i (take i entry) (pairsIn left right entry i) (marksIn left right entry) (g .listable) (g .partners) (g .branching .depth) (marks-long (g .branching)) (branch-inside (g .listable) (g .branching)) s)
 
   -- what is known of a branch stands where it is kept
-  walking-kept : {entry′ memory′ lent′ : List ℕ} {at′ : ℕ} → length entry′ ≡ length entry → KeepsBranch left right i entry entry′ → Remembers nodes arguments left right memory′ lent′ at′ → at′ ≤ length lent′ → Walking nodes arguments left right labels known prepared cs next key weight unpaired i entry′ memory′ lent′ at′
+  walking-kept : {entry′ memory′ lent′ : List ℕ} {at′ : ℕ} → length entry′ ≡ length entry → KeepsBranch left right i entry entry′ → Remembers nodes arguments left right memory′ lent′ at′ → at′ ≤ length lent′ → Walking nodes arguments left right labels known prepared heads next key weight unpaired i entry′ memory′ lent′ at′
   walking-kept l k r h =
       record {
         listable = g .listable;
@@ -184,7 +184,7 @@ module _ {nodes arguments left right : List ℕ} {labels : Labels} {known prepar
       pairs-placed = rw digits-next (paired-placed left right (take i entry) d [] l)
 
       -- the walk goes on with it
-      pub placed-next : {entry₁ : List ℕ} → entry₁ ≡ set entry i d → Walking nodes arguments left right labels known prepared cs next key (weight * 16) unpaired (i + 1) entry₁ memory lent at
+      pub placed-next : {entry₁ : List ℕ} → entry₁ ≡ set entry i d → Walking nodes arguments left right labels known prepared heads next key (weight * 16) unpaired (i + 1) entry₁ memory lent at
       placed-next z =
           rw z
           record {
@@ -286,7 +286,7 @@ module _ {nodes arguments left right : List ℕ} {labels : Labels} {known prepar
 
         module _ {entry₁ : List ℕ} (z : entry₁ ≡ paired) where
           -- the pair is to be joined to the classes
-          pub joining : Joining nodes arguments left right labels known prepared cs next (key + d * weight) (weight * 16) (unpaired - 1) i (word left i) (word right (d - 1)) entry₁ memory lent at
+          pub joining : Joining nodes arguments left right labels known prepared heads next (key + d * weight) (weight * 16) (unpaired - 1) i (word left i) (word right (d - 1)) entry₁ memory lent at
           joining =
               rw z
               record {
@@ -357,7 +357,7 @@ module _ {nodes arguments left right : List ℕ} {labels : Labels} {i : ℕ} {en
   digit-kept = rw (t .keeps .digits, t .keeps .marks) refl
 
   -- what is known of the branch still stands, where the classes are the same
-  pub turning-walking : {known prepared cs next cs′ next′ : List ℕ} {key weight unpaired : ℕ} {memory₀ : List ℕ} → cs′ ≡ cs → next′ ≡ next → Walking nodes arguments left right labels known prepared cs next key weight unpaired i entry₀ memory₀ lent₀ at₀ → Walking nodes arguments left right labels known prepared cs′ next′ key weight unpaired i entry memory lent at
+  pub turning-walking : {known prepared heads next heads′ next′ : List ℕ} {key weight unpaired : ℕ} {memory₀ : List ℕ} → heads′ ≡ heads → next′ ≡ next → Walking nodes arguments left right labels known prepared heads next key weight unpaired i entry₀ memory₀ lent₀ at₀ → Walking nodes arguments left right labels known prepared heads′ next′ key weight unpaired i entry memory lent at
   turning-walking p q g = rw (p, q) (walking-kept g (t .size) (t .keeps) (t .remembers) (t .remains .within))
 
   module _ (h : d ≤ length right + labels .right) where
@@ -401,7 +401,7 @@ module _ {nodes arguments left right : List ℕ} {labels : Labels} {i : ℕ} {en
       }
 
 -- a pair is to be joined to the classes
-module _ {nodes arguments left right : List ℕ} {labels : Labels} {known prepared cs next : List ℕ} {key weight unpaired i a b : ℕ} {entry memory lent : List ℕ} {at : ℕ} (g : Joining nodes arguments left right labels known prepared cs next key weight unpaired i a b entry memory lent at) where
+module _ {nodes arguments left right : List ℕ} {labels : Labels} {known prepared heads next : List ℕ} {key weight unpaired i a b : ℕ} {entry memory lent : List ℕ} {at : ℕ} (g : Joining nodes arguments left right labels known prepared heads next key weight unpaired i a b entry memory lent at) where
   -- it fails or not, whichever of the two lists it comes to
   joined-unified : outcome (nodesFrom nodes arguments) ((a, b) ∷ g .standing .pairs) ≡ unified ↔ (outcome (nodesFrom nodes arguments) ((a, b) ∷ pairsIn left right entry i) ≡ unified)
   joined-unified =
@@ -410,7 +410,7 @@ module _ {nodes arguments left right : List ℕ} {labels : Labels} {known prepar
       same-unified (nodesFrom nodes arguments) (sections-well-formed nodes arguments (g .listable .sections)) ((a, b) ∷ g .standing .pairs) ((a, b) ∷ pairsIn left right entry i) (inside-more (nodesFrom nodes arguments) a b (g .standing .pairs) x y (g .standing .stands .inside)) (rw (g .pair) at (branch-inside (g .listable) (g .branching))) (same-more (nodesFrom nodes arguments) (a, b) (g .standing .pairs) (pairsIn left right entry i) (g .standing .unifiers))
 
   -- where it does not, it is walked on with
-  walking-on : {cs′ next′ : List ℕ} → Formed nodes arguments known cs′ → Trailed (nodeCount nodes) cs′ next′ → Prepared nodes arguments known cs′ prepared → Stands nodes arguments cs′ ((a, b) ∷ g .standing .pairs) → Walking nodes arguments left right labels known prepared cs′ next′ key weight unpaired (i + 1) entry memory lent at
+  walking-on : {heads′ next′ : List ℕ} → Formed nodes arguments known heads′ → Trailed (nodeCount nodes) heads′ next′ → Prepared nodes arguments known heads′ prepared → Stands nodes arguments heads′ ((a, b) ∷ g .standing .pairs) → Walking nodes arguments left right labels known prepared heads′ next′ key weight unpaired (i + 1) entry memory lent at
   walking-on f o y s =
       record {
         listable = g .listable;
@@ -450,49 +450,49 @@ module _ {nodes arguments left right : List ℕ} {labels : Labels} {known prepar
   mark-room = omega (arith, g .trailed .size)
 
   -- the two nodes have one head already: x is whether they have
-  module _ {x : Bool} (y : x ≡ eqb (word cs a) (word cs b)) (o : x ≡ true) where
+  module _ {x : Bool} (y : x ≡ eqb (word heads a) (word heads b)) (o : x ≡ true) where
     -- by the test
-    e : classOf cs a ≡ classOf cs b
-    e = eqb-true (word cs a) (word cs b) (sym y ∙ o)
+    e : classOf heads a ≡ classOf heads b
+    e = eqb-true (word heads a) (word heads b) (sym y ∙ o)
 
     -- the classes stand for the pair as well
-    at-once : Stands nodes arguments cs ((a, b) ∷ g .standing .pairs)
-    at-once = together nodes arguments known cs (g .listable .sections) (g .formed) a b (g .first) (g .second) e (g .standing .pairs) (g .standing .stands)
+    at-once : Stands nodes arguments heads ((a, b) ∷ g .standing .pairs)
+    at-once = together nodes arguments known heads (g .listable .sections) (g .formed) a b (g .first) (g .second) e (g .standing .pairs) (g .standing .stands)
 
     -- so the walk goes on with them
-    pub same-next : Walking nodes arguments left right labels known prepared cs next key weight unpaired (i + 1) entry memory lent at
+    pub same-next : Walking nodes arguments left right labels known prepared heads next key weight unpaired (i + 1) entry memory lent at
     same-next = walking-on (g .formed) (g .trailed) (g .ready) at-once
 
     -- and the pair has the entries below it
     pub same-joined : {entry′ memory′ lent′ : List ℕ} {w : Written} → Walked nodes arguments left right labels (i + 1) entry memory lent at entry′ memory′ lent′ w → WalkedJoined nodes arguments left right labels i a b entry memory lent at entry′ memory′ lent′ w
-    same-joined r = walked-on (formed-unified nodes arguments known cs (g .listable .sections) (g .formed) (g .known-right .counts) ((a, b) ∷ g .standing .pairs) at-once) r
+    same-joined r = walked-on (formed-unified nodes arguments known heads (g .listable .sections) (g .formed) (g .known-right .counts) ((a, b) ∷ g .standing .pairs) at-once) r
 
   -- the classes are extended
-  module _ {r : Extended} {cs′ next′ : List ℕ} (x : Extends nodes arguments known cs next a b r cs′ next′) where
+  module _ {r : Extended} {heads′ next′ : List ℕ} (x : Extends nodes arguments known heads next a b r heads′ next′) where
     -- the answer is what the pairs come to
     came-to : outcome (nodesFrom nodes arguments) ((a, b) ∷ g .standing .pairs) ≡ extended r
     came-to = sym (x .answers (g .standing .pairs) (g .standing .stands))
 
     -- a pair that fails has no entries below it, and the classes are as before
-    failed-joined : (extended r ≡ unified → ⊥) → WalkedJoined nodes arguments left right labels i a b entry memory lent at entry memory lent (idle at) × ((cs′ ≡ cs) × (next′ ≡ next))
+    failed-joined : (extended r ≡ unified → ⊥) → WalkedJoined nodes arguments left right labels i a b entry memory lent at entry memory lent (idle at) × ((heads′ ≡ heads) × (next′ ≡ next))
     failed-joined f = (nothing-below (g .remembers) (g .room) (not-unified _ _ (λ z. f (sym came-to ∙ joined-unified .1 z))), x .failed (λ z. f (ap extended z)))
 
     -- a clash
-    pub clash-joined : r ≡ Clash → WalkedJoined nodes arguments left right labels i a b entry memory lent at entry memory lent (idle at) × ((cs′ ≡ cs) × (next′ ≡ next))
+    pub clash-joined : r ≡ Clash → WalkedJoined nodes arguments left right labels i a b entry memory lent at entry memory lent (idle at) × ((heads′ ≡ heads) × (next′ ≡ next))
     clash-joined e = failed-joined (λ z. let y = ap extended e in let o : _≡_ {A = ℕ} 0 1 = cc in omega arith)
 
     -- a variable in a term that holds it
-    pub occurs-joined : r ≡ Occurs → WalkedJoined nodes arguments left right labels i a b entry memory lent at entry memory lent (idle at) × ((cs′ ≡ cs) × (next′ ≡ next))
+    pub occurs-joined : r ≡ Occurs → WalkedJoined nodes arguments left right labels i a b entry memory lent at entry memory lent (idle at) × ((heads′ ≡ heads) × (next′ ≡ next))
     occurs-joined e = failed-joined (λ z. let y = ap extended e in let o : _≡_ {A = ℕ} 0 1 = cc in omega arith)
 
     module _ (e : r ≡ Unified) where
       -- the walk goes on with the extended classes
-      pub joined-next : Walking nodes arguments left right labels known prepared cs′ next′ key weight unpaired (i + 1) entry memory lent at
+      pub joined-next : Walking nodes arguments left right labels known prepared heads′ next′ key weight unpaired (i + 1) entry memory lent at
       joined-next =
           walking-on
           (x .formed e (g .standing .pairs) (g .standing .stands))
           (merges-trailed (g .trailed) (x .merges))
-          (prepared-kept nodes arguments known cs cs′ prepared (g .listable .sections) (g .known-right .counts) (x .kept e) (g .ready))
+          (prepared-kept nodes arguments known heads heads′ prepared (g .listable .sections) (g .known-right .counts) (x .kept e) (g .ready))
           (x .stands e (g .standing .pairs) (g .standing .stands))
 
       -- and the pair has the entries below it
@@ -500,11 +500,11 @@ module _ {nodes arguments left right : List ℕ} {labels : Labels} {known prepar
       unified-joined y = walked-on (came-to ∙ ap extended e) y
 
       -- after the walk they are the same, and the joins can be undone
-      module _ {cs″ next″ : List ℕ} (s : (cs″ ≡ cs′) × (next″ ≡ next′)) where
+      module _ {heads″ next″ : List ℕ} (s : (heads″ ≡ heads′) × (next″ ≡ next′)) where
         -- there are classes to go back to
-        pub joins-since : Since (length cs″) (gone next) cs″ next″ × (length next″ ≡ links)
+        pub joins-since : Since (length heads″) (gone next) heads″ next″ × (length next″ ≡ links)
         joins-since = rw (s .0, s .1) (merges-since (g .trailed) (joined-next .formed .partition .size) (x .merges))
 
         -- these are the classes before the joins
-        pub joins-undone : {cs₁ next₁ : List ℕ} → Before (length cs″) (gone next) cs₁ next₁ cs″ next″ → (cs₁ ≡ cs) × (next₁ ≡ next)
+        pub joins-undone : {heads₁ next₁ : List ℕ} → Before (length heads″) (gone next) heads₁ next₁ heads″ next″ → (heads₁ ≡ heads) × (next₁ ≡ next)
         joins-undone o = merges-back (joined-next .formed .partition .size) (x .merges) (rw (s .0, s .1) at o)

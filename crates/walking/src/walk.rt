@@ -1,7 +1,7 @@
 // The walk over the choices: depth first over left digits, each pair on top of the pairs before it. A branch ends at its first pair that fails.
 // The branch stands in an entry: the digits of the left terms so far, and a mark for each right term, 0 where it is paired.
 // What goes along with it: what is known of nodes and pairs of terms (`known`), what is prepared for binding words (`prepared`), the classes
-// of its pairs by heads and circles (`of`, `next`), the key of these pairs and what the next digit counts in it (`key`, `weight`), how many
+// of its pairs by heads and circles (`heads`, `next`), the key of these pairs and what the next digit counts in it (`key`, `weight`), how many
 // right terms are not paired, and what is remembered of binding words (`memory`).
 ghost use mathlib.Core.Path.{_≡_};
 ghost use mathlib.Core.Logic.{_⊎_};
@@ -68,7 +68,7 @@ fn write_branch(
     labels: Labels,
     known: &[u8],
     prepared: &[u16],
-    of: &[u8],
+    heads: &[u8],
     next: &[u8],
     key: usize,
     weight: usize,
@@ -79,7 +79,7 @@ fn write_branch(
     out: &mut [u32],
     at: usize,
 ) -> Written
-    requires { ⌜ Walking (now nodes) (now arguments) (now left) (now right) labels (now known) (now prepared) (now of) (now next) key weight unpaired i (now entry) (now memory) (now out) at ⌝ }
+    requires { ⌜ Walking (now nodes) (now arguments) (now left) (now right) labels (now known) (now prepared) (now heads) (now next) key weight unpaired i (now entry) (now memory) (now out) at ⌝ }
     requires { ⌜ (i ≡ length (now left)) ⊎ (unpaired ≡ 0) ⌝ }
     ensures { λ r. ⌜ Walked (now (nodes .entry)) (now (arguments .entry)) (now (left .entry)) (now (right .entry)) labels i (now (entry .entry)) (now (memory .entry)) (now (out .entry)) at (now (entry .exit)) (now (memory .exit)) (now (out .exit)) r ⌝ }
 {
@@ -90,7 +90,7 @@ fn write_branch(
         right,
         known,
         prepared,
-        of,
+        heads,
         key,
         i,
         entry,
@@ -179,7 +179,7 @@ fn walk_joined(
     labels: Labels,
     known: &[u8],
     prepared: &[u16],
-    of: &mut [u8],
+    heads: &mut [u8],
     next: &mut [u8],
     key: usize,
     weight: usize,
@@ -191,12 +191,12 @@ fn walk_joined(
     out: &mut [u32],
     at: usize,
 ) -> Written
-    requires { ⌜ Joining (now nodes) (now arguments) (now left) (now right) labels (now known) (now prepared) (now of) (now next) key weight unpaired i (word (now left) i) (word (now right) (d - 1)) (now entry) (now memory) (now out) at ⌝ }
+    requires { ⌜ Joining (now nodes) (now arguments) (now left) (now right) labels (now known) (now prepared) (now heads) (now next) key weight unpaired i (word (now left) i) (word (now right) (d - 1)) (now entry) (now memory) (now out) at ⌝ }
     requires { ⌜ (i < length (now left)) × (0 < d) × (d ≤ length (now right)) ⌝ }
     ensures { λ r. ⌜ WalkedJoined (now (nodes .entry)) (now (arguments .entry)) (now (left .entry)) (now (right .entry)) labels i (word (now (left .entry)) i) (word (now (right .entry)) (d - 1)) (now (entry .entry)) (now (memory .entry)) (now (out .entry)) at (now (entry .exit)) (now (memory .exit)) (now (out .exit)) r ⌝ }
-    ensures { λ r. ⌜ (now (of .exit) ≡ now (of .entry)) × (now (next .exit) ≡ now (next .entry)) ⌝ }
+    ensures { λ r. ⌜ (now (heads .exit) ≡ now (heads .entry)) × (now (next .exit) ≡ now (next .entry)) ⌝ }
 {
-    if branch::one_class(left, right, of, i, d) {
+    if branch::one_class(left, right, heads, i, d) {
         return walk(
             nodes,
             arguments,
@@ -205,7 +205,7 @@ fn walk_joined(
             labels,
             known,
             prepared,
-            of,
+            heads,
             next,
             key,
             weight,
@@ -235,7 +235,7 @@ fn walk_joined(
         );
     }
     let mark = next[GONE];
-    match branch::join_pair(nodes, arguments, left, right, known, of, next, i, d) {
+    match branch::join_pair(nodes, arguments, left, right, known, heads, next, i, d) {
         Extended::Clash => Written {
             used: at,
             missed: 0,
@@ -253,7 +253,7 @@ fn walk_joined(
                 labels,
                 known,
                 prepared,
-                of,
+                heads,
                 next,
                 key,
                 weight,
@@ -264,7 +264,7 @@ fn walk_joined(
                 out,
                 at,
             );
-            undo(of, next, mark);
+            undo(heads, next, mark);
             w
         }
     }
@@ -279,7 +279,7 @@ fn step(
     labels: Labels,
     known: &[u8],
     prepared: &[u16],
-    of: &mut [u8],
+    heads: &mut [u8],
     next: &mut [u8],
     key: usize,
     weight: usize,
@@ -291,10 +291,10 @@ fn step(
     out: &mut [u32],
     at: usize,
 ) -> Written
-    requires { ⌜ Walking (now nodes) (now arguments) (now left) (now right) labels (now known) (now prepared) (now of) (now next) key weight unpaired i (now entry) (now memory) (now out) at ⌝ }
+    requires { ⌜ Walking (now nodes) (now arguments) (now left) (now right) labels (now known) (now prepared) (now heads) (now next) key weight unpaired i (now entry) (now memory) (now out) at ⌝ }
     requires { ⌜ (i < length (now left)) × (0 < d) × (d ≤ length (now right) + labels .right) ⌝ }
     ensures { λ r. ⌜ Stepped (now (nodes .entry)) (now (arguments .entry)) (now (left .entry)) (now (right .entry)) labels i d (now (entry .entry)) (now (memory .entry)) (now (out .entry)) at (now (entry .exit)) (now (memory .exit)) (now (out .exit)) r ⌝ }
-    ensures { λ r. ⌜ (now (of .exit) ≡ now (of .entry)) × (now (next .exit) ≡ now (next .entry)) ⌝ }
+    ensures { λ r. ⌜ (now (heads .exit) ≡ now (heads .entry)) × (now (next .exit) ≡ now (next .entry)) ⌝ }
 {
     if right.len() < d {
         branch::put_digit(entry, i, d);
@@ -306,7 +306,7 @@ fn step(
             labels,
             known,
             prepared,
-            of,
+            heads,
             next,
             key,
             weight * BASE,
@@ -334,7 +334,7 @@ fn step(
         labels,
         known,
         prepared,
-        of,
+        heads,
         next,
         key + d * weight,
         weight * BASE,
@@ -359,7 +359,7 @@ pub fn walk(
     labels: Labels,
     known: &[u8],
     prepared: &[u16],
-    of: &mut [u8],
+    heads: &mut [u8],
     next: &mut [u8],
     key: usize,
     weight: usize,
@@ -370,9 +370,9 @@ pub fn walk(
     out: &mut [u32],
     at: usize,
 ) -> Written
-    requires { ⌜ Walking (now nodes) (now arguments) (now left) (now right) labels (now known) (now prepared) (now of) (now next) key weight unpaired i (now entry) (now memory) (now out) at ⌝ }
+    requires { ⌜ Walking (now nodes) (now arguments) (now left) (now right) labels (now known) (now prepared) (now heads) (now next) key weight unpaired i (now entry) (now memory) (now out) at ⌝ }
     ensures { λ r. ⌜ Walked (now (nodes .entry)) (now (arguments .entry)) (now (left .entry)) (now (right .entry)) labels i (now (entry .entry)) (now (memory .entry)) (now (out .entry)) at (now (entry .exit)) (now (memory .exit)) (now (out .exit)) r ⌝ }
-    ensures { λ r. ⌜ (now (of .exit) ≡ now (of .entry)) × (now (next .exit) ≡ now (next .entry)) ⌝ }
+    ensures { λ r. ⌜ (now (heads .exit) ≡ now (heads .entry)) × (now (next .exit) ≡ now (next .entry)) ⌝ }
 {
     let n = left.len();
     if branch::hopeless(labels, n - i, unpaired) {
@@ -390,7 +390,7 @@ pub fn walk(
             labels,
             known,
             prepared,
-            of,
+            heads,
             next,
             key,
             weight,
@@ -420,7 +420,7 @@ pub fn walk(
             labels,
             known,
             prepared,
-            of,
+            heads,
             next,
             key,
             weight,

@@ -13,19 +13,19 @@ use Rattle.nodes.specs.Code.Open.{Marked}
 use Rattle.nodes.specs.Code.Named.{valueName, Readable, Alike, Applied, Named}
 
 -- The sections, the heads of the nodes, and the names of the heads.
-pub record HeadNames (nodes arguments cs names : List ℕ) : Type 0 where
-  pub readable : Readable nodes arguments cs names
-  pub named : Named nodes arguments cs names
+pub record HeadNames (nodes arguments heads names : List ℕ) : Type 0 where
+  pub readable : Readable nodes arguments heads names
+  pub named : Named nodes arguments heads names
 
 -- A list by name, after application i was noted in it: at its name, if no smaller node stands there.
 unfoldable pub applicationNoted : List ℕ → List ℕ → List ℕ → ℕ → List ℕ
-applicationNoted cs names by i = cond (ltb i (word by (valueName cs names i))) (set by (valueName cs names i) i) by
+applicationNoted heads names by i = cond (ltb i (word by (valueName heads names i))) (set by (valueName heads names i) i) by
 
 -- A list by name, after the node at place k of a list was noted in it: one whose head is a variable is, at its name.
 unfoldable pub freeNoted : List ℕ → List ℕ → List ℕ → List ℕ → List ℕ → ℕ → List ℕ
-freeNoted nodes cs names list by k =
-    cond (eqb (kindOf nodes (classOf cs (word list k))) 0)
-    (set by (valueName cs names (word list k)) (word list k))
+freeNoted nodes heads names list by k =
+    cond (eqb (kindOf nodes (classOf heads (word list k))) 0)
+    (set by (valueName heads names (word list k)) (word list k))
     by
 
 -- Node j is an application.
@@ -34,11 +34,11 @@ IsApplied nodes j = kindOf nodes j ≡ 0 → ⊥
 
 -- The head of the node at place k of a list is a variable.
 abbrev pub IsFree : List ℕ → List ℕ → List ℕ → ℕ → Type 0
-IsFree nodes cs list k = kindOf nodes (classOf cs (word list k)) ≡ 0
+IsFree nodes heads list k = kindOf nodes (classOf heads (word list k)) ≡ 0
 
 -- The name of the node at place k of a list.
 abbrev pub nameAt : List ℕ → List ℕ → List ℕ → ℕ → ℕ
-nameAt cs names list k = valueName cs names (word list k)
+nameAt heads names list k = valueName heads names (word list k)
 
 -- All these are applications.
 pub record AreApplied (nodes list : List ℕ) : Type 0 where
@@ -46,30 +46,30 @@ pub record AreApplied (nodes list : List ℕ) : Type 0 where
   pub applied : (p : ℕ) → p < length list → IsApplied nodes (word list p)
 
 -- The name of an application is alike its head, and a closed application's is not after it.
-pub record NamesLeast (nodes arguments counts cs names : List ℕ) : Type 0 where
-  pub alike : (i : ℕ) → i < nodeCount nodes → Applied nodes cs i → Alike nodes arguments cs names (valueName cs names i) (classOf cs i)
-  pub least : (i : ℕ) → Marked nodes counts i → valueName cs names i ≤ i
+pub record NamesLeast (nodes arguments counts heads names : List ℕ) : Type 0 where
+  pub alike : (i : ℕ) → i < nodeCount nodes → Applied nodes heads i → Alike nodes arguments heads names (valueName heads names i) (classOf heads i)
+  pub least : (i : ℕ) → Marked nodes counts i → valueName heads names i ≤ i
 
 -- At an application that names itself stands one of its name, not after it, nor after the first k of a list of open applications where
 -- they have that name.
-pub record OpenNoted (nodes cs names opens by : List ℕ) (k : ℕ) : Type 0 where
+pub record OpenNoted (nodes heads names opens by : List ℕ) (k : ℕ) : Type 0 where
   pub long : length by ≡ nodeCount nodes
-  pub named : (s : ℕ) → s < nodeCount nodes → IsApplied nodes s → valueName cs names s ≡ s → (word by s < nodeCount nodes) × IsApplied nodes (word by s) × (valueName cs names (word by s) ≡ s) × (word by s ≤ s)
-  pub least : (p : ℕ) → p < k → word by (valueName cs names (word opens p)) ≤ word opens p
+  pub named : (s : ℕ) → s < nodeCount nodes → IsApplied nodes s → valueName heads names s ≡ s → (word by s < nodeCount nodes) × IsApplied nodes (word by s) × (valueName heads names (word by s) ≡ s) × (word by s ≤ s)
+  pub least : (p : ℕ) → p < k → word by (valueName heads names (word opens p)) ≤ word opens p
 
 -- At the name of an application stands the least of that name.
-pub record ApplicationsNoted (nodes cs names by : List ℕ) : Type 0 where
-  pub least : (i : ℕ) → i < nodeCount nodes → Applied nodes cs i → Least (λ k. (k < nodeCount nodes) × IsApplied nodes k × (valueName cs names k ≡ valueName cs names i)) (word by (valueName cs names i))
+pub record ApplicationsNoted (nodes heads names by : List ℕ) : Type 0 where
+  pub least : (i : ℕ) → i < nodeCount nodes → Applied nodes heads i → Least (λ k. (k < nodeCount nodes) × IsApplied nodes k × (valueName heads names k ≡ valueName heads names i)) (word by (valueName heads names i))
 
 -- The nodes from place k on whose heads are variables are noted, and what stands at applications is as it was.
-pub record FreeFrom (nodes cs names list by by′ : List ℕ) (k : ℕ) : Type 0 where
+pub record FreeFrom (nodes heads names list by by′ : List ℕ) (k : ℕ) : Type 0 where
   pub long : length by′ ≡ nodeCount nodes
-  pub kept : Kept (IsFree nodes cs list) (nameAt cs names list) (word list) k (length list) by′
+  pub kept : Kept (IsFree nodes heads list) (nameAt heads names list) (word list) k (length list) by′
   pub applied : (s : ℕ) → IsApplied nodes s → word by′ s ≡ word by s
 
 -- What stands at the names of a list of nodes.
 unfoldable pub readAt : List ℕ → List ℕ → List ℕ → List ℕ → List ℕ
-readAt cs names by list = map (λ v. word by (valueName cs names v)) list
+readAt heads names by list = map (λ v. word by (valueName heads names v)) list
 
 -- All these are nodes.
 pub record AreNodes (nodes list : List ℕ) : Type 0 where
@@ -80,9 +80,9 @@ pub record AllBelow (n : ℕ) (xs : List ℕ) : Type 0 where
   pub below : (k : ℕ) → k < length xs → word xs k < n
 
 -- The words of a list of nodes, found by names and a list of open applications.
-pub record WordsFound (nodes cs names opens list out out′ : List ℕ) : Type 0 where
+pub record WordsFound (nodes heads names opens list out out′ : List ℕ) : Type 0 where
   pub applications : List ℕ
   pub all : List ℕ
-  pub noted : OpenNoted nodes cs names opens applications (length opens)
-  pub free : FreeFrom nodes cs names list applications all 0
-  pub words-read : out′ ≡ readAt cs names all list ++ drop (length list) out
+  pub noted : OpenNoted nodes heads names opens applications (length opens)
+  pub free : FreeFrom nodes heads names list applications all 0
+  pub words-read : out′ ≡ readAt heads names all list ++ drop (length list) out

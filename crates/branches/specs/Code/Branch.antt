@@ -36,9 +36,9 @@ abbrev pub pairsIn : List ℕ → List ℕ → List ℕ → ℕ → List (ℕ ×
 pairsIn left right entry i = pairedBy left right (take i entry) []
 
 -- Classes cs stand for pairs with the same unifiers as those of the first i digits of an entry.
-pub record Standing (nodes arguments left right cs entry : List ℕ) (i : ℕ) : Type 0 where
+pub record Standing (nodes arguments left right heads entry : List ℕ) (i : ℕ) : Type 0 where
   pub pairs : List (ℕ × ℕ)
-  pub stands : Stands nodes arguments cs pairs
+  pub stands : Stands nodes arguments heads pairs
   pub unifiers : (σ : Substitution) → Unifies (nodesFrom nodes arguments) pairs σ ↔ Unifies (nodesFrom nodes arguments) (pairsIn left right entry i) σ
 
 -- The marks of the right terms in an entry: 0 where paired.

@@ -15,19 +15,19 @@ use Rattle.nodes.specs.Code.Formed.{Formed}
 use Rattle.classes.specs.Code.Stands.{StandsAlways, Never}
 
 -- What trying a pair by itself needs to know: of the sections, of open and closed applications, and of the classes.
-pub record Triable (nodes arguments counts cs next : List ℕ) : Type 0 where
+pub record Triable (nodes arguments counts heads next : List ℕ) : Type 0 where
   pub sections : Sections nodes arguments
   pub counts-right : Counts nodes arguments counts (nodeCount nodes)
-  pub formed : Formed nodes arguments counts cs
-  pub trailed : Trailed (nodeCount nodes) cs next
-  pub stands : StandsAlways nodes arguments cs
+  pub formed : Formed nodes arguments counts heads
+  pub trailed : Trailed (nodeCount nodes) heads next
+  pub stands : StandsAlways nodes arguments heads
 
 -- The same of the classes, whatever the counts are, as long as these are right.
-pub record Trying (nodes arguments cs next : List ℕ) : Type 0 where
+pub record Trying (nodes arguments heads next : List ℕ) : Type 0 where
   pub sections : Sections nodes arguments
-  pub formed : (counts : List ℕ) → Counts nodes arguments counts (nodeCount nodes) → Formed nodes arguments counts cs
-  pub trailed : Trailed (nodeCount nodes) cs next
-  pub stands : StandsAlways nodes arguments cs
+  pub formed : (counts : List ℕ) → Counts nodes arguments counts (nodeCount nodes) → Formed nodes arguments counts heads
+  pub trailed : Trailed (nodeCount nodes) heads next
+  pub stands : StandsAlways nodes arguments heads
 
 -- A pair of terms with mark 0 has no common value.
 pub record MayPair (nodes arguments left right may : List ℕ) : Type 0 where

@@ -68,14 +68,14 @@ pub record Branching (nodes arguments left right entry : List ℕ) (key weight u
   pub weighed : weight ≡ 16 ^ i
 
 -- What the walk needs to know at depth i: of the sections and the labels, of what is known and prepared, of the classes and the branch, of what is remembered, and of the lent words.
-pub record Walking (nodes arguments left right : List ℕ) (labels : Labels) (known prepared cs next : List ℕ) (key weight unpaired i : ℕ) (entry memory lent : List ℕ) (at : ℕ) : Type 0 where
+pub record Walking (nodes arguments left right : List ℕ) (labels : Labels) (known prepared heads next : List ℕ) (key weight unpaired i : ℕ) (entry memory lent : List ℕ) (at : ℕ) : Type 0 where
   pub listable : Listable nodes arguments left right labels
   pub known-right : KnownOf nodes arguments known
   pub partners : MayPair nodes arguments left right (mayIn known)
-  pub formed : Formed nodes arguments known cs
-  pub trailed : Trailed (nodeCount nodes) cs next
-  pub ready : Prepared nodes arguments known cs prepared
-  pub standing : Standing nodes arguments left right cs entry i
+  pub formed : Formed nodes arguments known heads
+  pub trailed : Trailed (nodeCount nodes) heads next
+  pub ready : Prepared nodes arguments known heads prepared
+  pub standing : Standing nodes arguments left right heads entry i
   pub branching : Branching nodes arguments left right entry key weight unpaired i
   pub remembers : Remembers nodes arguments left right memory lent at
   pub room : at ≤ length lent
@@ -122,14 +122,14 @@ Stepped nodes arguments left right labels i d entry memory lent at entry′ memo
     WritesBelow (digitEntries nodes arguments left right labels entry i d) nodes arguments left right i entry memory lent at entry′ memory′ lent′ w
 
 -- What is needed where left term i has its digit in the entry, and is paired by it: the pair of a and b is still to be joined to the classes.
-pub record Joining (nodes arguments left right : List ℕ) (labels : Labels) (known prepared cs next : List ℕ) (key weight unpaired i a b : ℕ) (entry memory lent : List ℕ) (at : ℕ) : Type 0 where
+pub record Joining (nodes arguments left right : List ℕ) (labels : Labels) (known prepared heads next : List ℕ) (key weight unpaired i a b : ℕ) (entry memory lent : List ℕ) (at : ℕ) : Type 0 where
   pub listable : Listable nodes arguments left right labels
   pub known-right : KnownOf nodes arguments known
   pub partners : MayPair nodes arguments left right (mayIn known)
-  pub formed : Formed nodes arguments known cs
-  pub trailed : Trailed (nodeCount nodes) cs next
-  pub ready : Prepared nodes arguments known cs prepared
-  pub standing : Standing nodes arguments left right cs entry i
+  pub formed : Formed nodes arguments known heads
+  pub trailed : Trailed (nodeCount nodes) heads next
+  pub ready : Prepared nodes arguments known heads prepared
+  pub standing : Standing nodes arguments left right heads entry i
   pub branching : Branching nodes arguments left right entry key weight unpaired (i + 1)
   pub pair : pairsIn left right entry (i + 1) ≡ (a, b) ∷ pairsIn left right entry i
   pub first : a < nodeCount nodes

@@ -15,26 +15,26 @@ use Rattle.nodes.specs.Code.Trail.{Trailed, Merges}
 
 -- Nodes of one class of cs are of one class of ds.
 abbrev pub Coarser : List ℕ → List ℕ → Type 0
-Coarser cs ds = (i j : ℕ) → i < length cs → j < length cs → classOf cs i ≡ classOf cs j → classOf ds i ≡ classOf ds j
+Coarser heads ds = (i j : ℕ) → i < length heads → j < length heads → classOf heads i ≡ classOf heads j → classOf ds i ≡ classOf ds j
 
 -- Nodes a and b are of one class of cs, or will be when the pairs of todo are joined.
 abbrev pub Linked : List ℕ → List (ℕ × ℕ) → ℕ → ℕ → Type 0
-Linked cs todo a b = (ds : List ℕ) → Coarser cs ds → Unites ds todo → classOf ds a ≡ classOf ds b
+Linked heads todo a b = (ds : List ℕ) → Coarser heads ds → Unites ds todo → classOf ds a ≡ classOf ds b
 
 -- The head of node i has its symbol, and their arguments are linked.
-pub record HeadLinks (ns : List Node) (cs : List ℕ) (todo : List (ℕ × ℕ)) (i f : ℕ) (us : List ℕ) : Type 0 where
+pub record HeadLinks (ns : List Node) (heads : List ℕ) (todo : List (ℕ × ℕ)) (i f : ℕ) (us : List ℕ) : Type 0 where
   pub arguments : List ℕ
-  pub applied : nodeAt ns (classOf cs i) ≡ application f arguments
+  pub applied : nodeAt ns (classOf heads i) ≡ application f arguments
   pub as-long : length us ≡ length arguments
-  pub linked : (a b : ℕ) → List·Memᴰ (a, b) (zip us arguments) → Linked cs todo a b
+  pub linked : (a b : ℕ) → List·Memᴰ (a, b) (zip us arguments) → Linked heads todo a b
 
 -- Classes that are the closure but for the pairs of todo, which are still to be joined.
-pub record ClosureUpTo (ns : List Node) (ps : List (ℕ × ℕ)) (cs : List ℕ) (todo : List (ℕ × ℕ)) : Type 0 where
-  pub joined : (i : ℕ) → i < length ns → Joined ns ps i (classOf cs i)
+pub record ClosureUpTo (ns : List Node) (ps : List (ℕ × ℕ)) (heads : List ℕ) (todo : List (ℕ × ℕ)) : Type 0 where
+  pub joined : (i : ℕ) → i < length ns → Joined ns ps i (classOf heads i)
   pub wanted : (a b : ℕ) → List·Memᴰ (a, b) todo → Joined ns ps a b
-  pub given : (a b : ℕ) → List·Memᴰ (a, b) ps → Linked cs todo a b
-  pub one-variable : (i j x : ℕ) → i < length ns → j < length ns → nodeAt ns i ≡ variable x → nodeAt ns j ≡ variable x → classOf cs i ≡ classOf cs j
-  pub applications : (i f : ℕ) (us : List ℕ) → i < length ns → nodeAt ns i ≡ application f us → HeadLinks ns cs todo i f us
+  pub given : (a b : ℕ) → List·Memᴰ (a, b) ps → Linked heads todo a b
+  pub one-variable : (i j x : ℕ) → i < length ns → j < length ns → nodeAt ns i ≡ variable x → nodeAt ns j ≡ variable x → classOf heads i ≡ classOf heads j
+  pub applications : (i f : ℕ) (us : List ℕ) → i < length ns → nodeAt ns i ≡ application f us → HeadLinks ns heads todo i f us
 
 -- Arguments j of nodes g and h.
 unfoldable pub argumentPair : List ℕ → List ℕ → ℕ → ℕ → ℕ → ℕ × ℕ
@@ -45,20 +45,20 @@ unfoldable pub argumentPairs : List ℕ → List ℕ → ℕ → ℕ → List (�
 argumentPairs nodes arguments g h = tabulate (countOf nodes g) (argumentPair nodes arguments g h)
 
 -- What joining needs to know: of the sections, of open and closed applications, and of the classes.
-pub record Joinable (nodes arguments counts cs next : List ℕ) : Type 0 where
+pub record Joinable (nodes arguments counts heads next : List ℕ) : Type 0 where
   pub sections : Sections nodes arguments
   pub counts-right : Counts nodes arguments counts (nodeCount nodes)
-  pub partition : Partition (nodeCount nodes) cs
-  pub closed : ClosedHeads nodes arguments counts cs
-  pub trailed : Trailed (nodeCount nodes) cs next
+  pub partition : Partition (nodeCount nodes) heads
+  pub closed : ClosedHeads nodes arguments counts heads
+  pub trailed : Trailed (nodeCount nodes) heads next
 
 -- What joining nodes a and b comes to: the pair is done, and whatever the closure then joins, or there is a clash. Heads that are left were
 -- heads before, and closed applications keep theirs.
-pub record Joins (nodes arguments counts cs next : List ℕ) (a b : ℕ) (fine : Bool) (cs′ next′ : List ℕ) : Type 0 where
-  pub partition : Partition (nodeCount nodes) cs′
-  pub merges : Merges (nodeCount nodes) cs next cs′ next′
-  pub fewer : roots (nodeCount nodes) cs′ ≤ roots (nodeCount nodes) cs
-  pub heads : (i : ℕ) → i < nodeCount nodes → classOf cs (classOf cs′ i) ≡ classOf cs′ i
-  pub kept : KeepsClosed nodes counts cs cs′
-  pub done : fine ≡ true → (ps todo : List (ℕ × ℕ)) → ClosureUpTo (nodesFrom nodes arguments) ps cs ((a, b) ∷ todo) → ClosureUpTo (nodesFrom nodes arguments) ps cs′ todo
-  pub clashes : fine ≡ false → (ps todo : List (ℕ × ℕ)) → ClosureUpTo (nodesFrom nodes arguments) ps cs ((a, b) ∷ todo) → Clash (nodesFrom nodes arguments) ps
+pub record Joins (nodes arguments counts heads next : List ℕ) (a b : ℕ) (fine : Bool) (heads′ next′ : List ℕ) : Type 0 where
+  pub partition : Partition (nodeCount nodes) heads′
+  pub merges : Merges (nodeCount nodes) heads next heads′ next′
+  pub fewer : roots (nodeCount nodes) heads′ ≤ roots (nodeCount nodes) heads
+  pub stay : (i : ℕ) → i < nodeCount nodes → classOf heads (classOf heads′ i) ≡ classOf heads′ i
+  pub kept : KeepsClosed nodes counts heads heads′
+  pub done : fine ≡ true → (ps todo : List (ℕ × ℕ)) → ClosureUpTo (nodesFrom nodes arguments) ps heads ((a, b) ∷ todo) → ClosureUpTo (nodesFrom nodes arguments) ps heads′ todo
+  pub clashes : fine ≡ false → (ps todo : List (ℕ × ℕ)) → ClosureUpTo (nodesFrom nodes arguments) ps heads ((a, b) ∷ todo) → Clash (nodesFrom nodes arguments) ps

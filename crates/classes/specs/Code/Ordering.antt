@@ -23,26 +23,26 @@ unfoldable pub isDone : List ℕ → ℕ → Bool
 isDone marks k = eqb (word marks k) 2
 
 -- The first places of the order hold the nodes that are done, which have arguments, those of arguments first. A mark is 0 for a new node, 1 for an open one, 2 for one that is done.
-pub record Ordering (nodes arguments : List ℕ) (due : ℕ → ℕ) (cs marks order : List ℕ) (count : ℕ) : Type 0 where
+pub record Ordering (nodes arguments : List ℕ) (due : ℕ → ℕ) (heads marks order : List ℕ) (count : ℕ) : Type 0 where
   pub marks-size : length marks ≡ nodeCount nodes
   pub order-size : length order ≡ nodeCount nodes
   pub range : (k : ℕ) → k < nodeCount nodes → word marks k ≤ 2
   pub listed : (p : ℕ) → p < count → (word order p < nodeCount nodes) × (word marks (word order p) ≡ 2)
   pub compound : (p : ℕ) → p < count → 0 < due (word order p)
   pub once : (p q : ℕ) → p < q → q < count → word order p ≡ word order q → ⊥
-  pub first : (p : ℕ) → p < count → (j : ℕ) → j < due (word order p) → Met due order p (classOf cs (argumentOf nodes arguments (word order p) j))
+  pub first : (p : ℕ) → p < count → (j : ℕ) → j < due (word order p) → Met due order p (classOf heads (argumentOf nodes arguments (word order p) j))
   pub done : (k : ℕ) → k < nodeCount nodes → word marks k ≡ 2 → (p : ℕ) × (p < count) × (word order p ≡ k)
   pub room : count ≤ countBelow (nodeCount nodes) (isDone marks)
 
 -- What a visit of node h asks: it has arguments, and every open node leads to it.
-pub record Visiting (nodes arguments counts cs marks order : List ℕ) (count h : ℕ) : Type 0 where
+pub record Visiting (nodes arguments counts heads marks order : List ℕ) (count h : ℕ) : Type 0 where
   pub sections : Sections nodes arguments
   pub counts-right : Counts nodes arguments counts (nodeCount nodes)
-  pub partition : Partition (nodeCount nodes) cs
-  pub ordering : Ordering nodes arguments (word counts) cs marks order count
+  pub partition : Partition (nodeCount nodes) heads
+  pub ordering : Ordering nodes arguments (word counts) heads marks order count
   pub node : h < nodeCount nodes
   pub compound : 0 < word counts h
-  pub leads : (k : ℕ) → k < nodeCount nodes → word marks k ≡ 1 → Leads nodes arguments (word counts) cs k h
+  pub leads : (k : ℕ) → k < nodeCount nodes → word marks k ≡ 1 → Leads nodes arguments (word counts) heads k h
 
 -- The marks of nodes that were not new stay, and no node is open that was not.
 pub record Later (n : ℕ) (marks later : List ℕ) : Type 0 where
@@ -50,8 +50,8 @@ pub record Later (n : ℕ) (marks later : List ℕ) : Type 0 where
   pub none-opened : (k : ℕ) → k < n → word later k ≡ 1 → word marks k ≡ 1
 
 -- What a visit of node h leaves where it finds no cycle: h is done.
-pub record Passed (nodes arguments : List ℕ) (due : ℕ → ℕ) (cs marks : List ℕ) (h : ℕ) (after order : List ℕ) (count : ℕ) : Type 0 where
-  pub ordering : Ordering nodes arguments due cs after order count
+pub record Passed (nodes arguments : List ℕ) (due : ℕ → ℕ) (heads marks : List ℕ) (h : ℕ) (after order : List ℕ) (count : ℕ) : Type 0 where
+  pub ordering : Ordering nodes arguments due heads after order count
   pub passed : word after h ≡ 2
   pub later : Later (nodeCount nodes) marks after
 
@@ -60,15 +60,15 @@ abbrev pub Settled : (ℕ → ℕ) → List ℕ → ℕ → Type 0
 Settled due marks g = 0 < due g → word marks g ≡ 2
 
 -- Before argument j of node h is visited, where h is open among these marks: the heads of the arguments before it are done, if they have arguments.
-pub record Turn (nodes arguments : List ℕ) (due : ℕ → ℕ) (cs marks : List ℕ) (h : ℕ) (after order : List ℕ) (count j : ℕ) : Type 0 where
-  pub ordering : Ordering nodes arguments due cs after order count
+pub record Turn (nodes arguments : List ℕ) (due : ℕ → ℕ) (heads marks : List ℕ) (h : ℕ) (after order : List ℕ) (count j : ℕ) : Type 0 where
+  pub ordering : Ordering nodes arguments due heads after order count
   pub later : Later (nodeCount nodes) marks after
-  pub settled : (i : ℕ) → i < j → Settled due after (classOf cs (argumentOf nodes arguments h i))
+  pub settled : (i : ℕ) → i < j → Settled due after (classOf heads (argumentOf nodes arguments h i))
 
 -- What a visit of node h answers and leaves.
-pub record Visited (nodes arguments : List ℕ) (due : ℕ → ℕ) (cs marks : List ℕ) (h : ℕ) (r : Placed) (after order : List ℕ) : Type 0 where
-  pub cycle : r ≡ Cycle → Looped nodes arguments due cs
-  pub counted : (c : ℕ) → r ≡ Count c → Passed nodes arguments due cs marks h after order c
+pub record Visited (nodes arguments : List ℕ) (due : ℕ → ℕ) (heads marks : List ℕ) (h : ℕ) (r : Placed) (after order : List ℕ) : Type 0 where
+  pub cycle : r ≡ Cycle → Looped nodes arguments due heads
+  pub counted : (c : ℕ) → r ≡ Count c → Passed nodes arguments due heads marks h after order c
 
 -- What the search starts with: every one of n nodes is new.
 pub record Starting (n : ℕ) (marks order : List ℕ) : Type 0 where
@@ -77,7 +77,7 @@ pub record Starting (n : ℕ) (marks order : List ℕ) : Type 0 where
   pub new : (k : ℕ) → k < n → word marks k ≡ 0
 
 -- Before place i of a list of nodes is looked at: the heads of the nodes before it are done, if arguments of theirs are looked at, and no node is open.
-pub record Sweep (nodes arguments : List ℕ) (due : ℕ → ℕ) (cs list marks order : List ℕ) (count i : ℕ) : Type 0 where
-  pub ordering : Ordering nodes arguments due cs marks order count
+pub record Sweep (nodes arguments : List ℕ) (due : ℕ → ℕ) (heads list marks order : List ℕ) (count i : ℕ) : Type 0 where
+  pub ordering : Ordering nodes arguments due heads marks order count
   pub none-open : (k : ℕ) → k < nodeCount nodes → word marks k ≡ 1 → ⊥
-  pub heads : (k : ℕ) → k < i → Settled due marks (classOf cs (word list k))
+  pub swept : (k : ℕ) → k < i → Settled due marks (classOf heads (word list k))

@@ -24,18 +24,18 @@ extended Occurs = occurs
 
 -- Classes cs are extended by the pair of a and b: the answer is what unifying the longer list comes to. Where that is unified, classes cs′
 -- stand for it, closed applications keep their heads, and the joins can be undone; otherwise the classes are as before.
-pub record Extends (nodes arguments counts cs next : List ℕ) (a b : ℕ) (r : Extended) (cs′ next′ : List ℕ) : Type 0 where
-  pub answers : (ps : List (ℕ × ℕ)) → Stands nodes arguments cs ps → extended r ≡ outcome (nodesFrom nodes arguments) ((a, b) ∷ ps)
-  pub formed : r ≡ Unified → (ps : List (ℕ × ℕ)) → Stands nodes arguments cs ps → Formed nodes arguments counts cs′
-  pub stands : r ≡ Unified → (ps : List (ℕ × ℕ)) → Stands nodes arguments cs ps → Stands nodes arguments cs′ ((a, b) ∷ ps)
-  pub merges : Merges (nodeCount nodes) cs next cs′ next′
-  pub failed : (r ≡ Unified → ⊥) → (cs′ ≡ cs) × (next′ ≡ next)
-  pub kept : r ≡ Unified → KeepsClosed nodes counts cs cs′
+pub record Extends (nodes arguments counts heads next : List ℕ) (a b : ℕ) (r : Extended) (heads′ next′ : List ℕ) : Type 0 where
+  pub answers : (ps : List (ℕ × ℕ)) → Stands nodes arguments heads ps → extended r ≡ outcome (nodesFrom nodes arguments) ((a, b) ∷ ps)
+  pub formed : r ≡ Unified → (ps : List (ℕ × ℕ)) → Stands nodes arguments heads ps → Formed nodes arguments counts heads′
+  pub stands : r ≡ Unified → (ps : List (ℕ × ℕ)) → Stands nodes arguments heads ps → Stands nodes arguments heads′ ((a, b) ∷ ps)
+  pub merges : Merges (nodeCount nodes) heads next heads′ next′
+  pub failed : (r ≡ Unified → ⊥) → (heads′ ≡ heads) × (next′ ≡ next)
+  pub kept : r ≡ Unified → KeepsClosed nodes counts heads heads′
 
 -- The classes stand for pairs that every substitution unifies.
-pub record StandsAlways (nodes arguments cs : List ℕ) : Type 0 where
+pub record StandsAlways (nodes arguments heads : List ℕ) : Type 0 where
   pub pairs : List (ℕ × ℕ)
-  pub stands : Stands nodes arguments cs pairs
+  pub stands : Stands nodes arguments heads pairs
   pub same : (σ : Substitution) → Unifies (nodesFrom nodes arguments) pairs σ
 
 -- No list of pairs with the pair of a and b has a unifier.

@@ -19,18 +19,18 @@ pub record IsConstant (nodes : List ℕ) (i : ℕ) : Type 0 where
 
 -- Constants of one name have one head.
 abbrev pub OneConstant : List ℕ → List ℕ → Type 0
-OneConstant nodes cs = (i j : ℕ) → IsConstant nodes i → IsConstant nodes j → nameOf nodes i ≡ nameOf nodes j → classOf cs i ≡ classOf cs j
+OneConstant nodes heads = (i j : ℕ) → IsConstant nodes i → IsConstant nodes j → nameOf nodes i ≡ nameOf nodes j → classOf heads i ≡ classOf heads j
 
 -- Heads of classes of nodes: constants of one name have one, closed applications keep theirs, and those with arguments that are looked at
 -- can be put in order.
-pub record Formed (nodes arguments counts cs : List ℕ) : Type 0 where
-  pub partition : Partition (nodeCount nodes) cs
-  pub constants : OneConstant nodes cs
-  pub closed : ClosedHeads nodes arguments counts cs
+pub record Formed (nodes arguments counts heads : List ℕ) : Type 0 where
+  pub partition : Partition (nodeCount nodes) heads
+  pub constants : OneConstant nodes heads
+  pub closed : ClosedHeads nodes arguments counts heads
   pub order : List ℕ
-  pub ordered : Ordered nodes arguments (word counts) cs order
+  pub ordered : Ordered nodes arguments (word counts) heads order
 
 -- They are the classes of a list of pairs.
-pub record Stands (nodes arguments cs : List ℕ) (ps : List (ℕ × ℕ)) : Type 0 where
+pub record Stands (nodes arguments heads : List ℕ) (ps : List (ℕ × ℕ)) : Type 0 where
   pub inside : Inside (nodesFrom nodes arguments) ps
-  pub closure : IsClosure (nodesFrom nodes arguments) ps (classOf cs)
+  pub closure : IsClosure (nodesFrom nodes arguments) ps (classOf heads)

@@ -37,18 +37,18 @@ pub record CountedAt (nodes arguments counts : List ℕ) (i r : ℕ) : Type 0 wh
 
 -- The test whether node i is a closed application with arguments and the head of its class.
 unfoldable pub closedHeadTest : List ℕ → List ℕ → List ℕ → ℕ → Bool
-closedHeadTest nodes counts cs i = markedTest nodes counts i && not (eqb (countOf nodes i) 0) && eqb (classOf cs i) i
+closedHeadTest nodes counts heads i = markedTest nodes counts i && not (eqb (countOf nodes i) 0) && eqb (classOf heads i) i
 
 -- Closed applications have closed heads, not after them and of the same term; those of one term have one head.
-pub record ClosedHeads (nodes arguments counts cs : List ℕ) : Type 0 where
-  pub closed : (i : ℕ) → Marked nodes counts i → Marked nodes counts (classOf cs i)
-  pub least : (i : ℕ) → Marked nodes counts i → classOf cs i ≤ i
-  pub valued : (i : ℕ) → Marked nodes counts i → value (nodesFrom nodes arguments) var (classOf cs i) ≡ value (nodesFrom nodes arguments) var i
-  pub shared : (i j : ℕ) → Marked nodes counts i → Marked nodes counts j → value (nodesFrom nodes arguments) var i ≡ value (nodesFrom nodes arguments) var j → classOf cs i ≡ classOf cs j
+pub record ClosedHeads (nodes arguments counts heads : List ℕ) : Type 0 where
+  pub closed : (i : ℕ) → Marked nodes counts i → Marked nodes counts (classOf heads i)
+  pub least : (i : ℕ) → Marked nodes counts i → classOf heads i ≤ i
+  pub valued : (i : ℕ) → Marked nodes counts i → value (nodesFrom nodes arguments) var (classOf heads i) ≡ value (nodesFrom nodes arguments) var i
+  pub shared : (i j : ℕ) → Marked nodes counts i → Marked nodes counts j → value (nodesFrom nodes arguments) var i ≡ value (nodesFrom nodes arguments) var j → classOf heads i ≡ classOf heads j
 
 -- Closed applications have the heads that they had.
 abbrev pub KeepsClosed : List ℕ → List ℕ → List ℕ → List ℕ → Type 0
-KeepsClosed nodes counts cs cs′ = (i : ℕ) → Marked nodes counts i → classOf cs′ i ≡ classOf cs i
+KeepsClosed nodes counts heads heads′ = (i : ℕ) → Marked nodes counts i → classOf heads′ i ≡ classOf heads i
 
 -- Open applications: every node with arguments that are looked at stands in the list.
 pub record OpenListed (nodes counts opens : List ℕ) : Type 0 where

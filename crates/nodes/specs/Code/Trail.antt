@@ -23,47 +23,47 @@ unfoldable pub notedGone : List ℕ → ℕ → List ℕ
 notedGone next g = set (set next 256 (suc (gone next))) (256 + suc (gone next)) g
 
 -- The members of each class stand in a circle, there is room to note each head that can still go, and nothing stands behind those noted.
-pub record Trailed (n : ℕ) (cs next : List ℕ) : Type 0 where
-  pub circles : Circles n cs next
+pub record Trailed (n : ℕ) (heads next : List ℕ) : Type 0 where
+  pub circles : Circles n heads next
   pub few : n ≤ maxNodes
   pub size : length next ≡ links
-  pub room : gone next + roots n cs ≤ 256
+  pub room : gone next + roots n heads ≤ 256
   pub clear : (k : ℕ) → 256 + gone next < k → word next k ≡ 0
 
 -- The class of head g has become a part of that of head h, and g is noted.
-pub record Merged (n : ℕ) (cs next : List ℕ) (g h : ℕ) (cs′ next′ : List ℕ) : Type 0 where
-  pub heads : TwoHeads n cs next g h
-  pub trailed : Trailed n cs next
-  pub renames : cs′ ≡ map (renamed g h) cs
+pub record Merged (n : ℕ) (heads next : List ℕ) (g h : ℕ) (heads′ next′ : List ℕ) : Type 0 where
+  pub two : TwoHeads n heads next g h
+  pub trailed : Trailed n heads next
+  pub renames : heads′ ≡ map (renamed g h) heads
   pub linked : next′ ≡ notedGone (exchanged next g h) g
 
 -- The same where h is as strong.
-pub record Goes (nodes counts cs next : List ℕ) (g h : ℕ) (cs′ next′ : List ℕ) : Type 0 where
-  pub merged : Merged (length cs) cs next g h cs′ next′
+pub record Goes (nodes counts heads next : List ℕ) (g h : ℕ) (heads′ next′ : List ℕ) : Type 0 where
+  pub merged : Merged (length heads) heads next g h heads′ next′
   pub weaker : strengthOf nodes counts g ≤ strengthOf nodes counts h
 
 -- One class has become a part of another.
 abbrev pub OneMerged : ℕ → List ℕ → List ℕ → List ℕ → List ℕ → Type 0
-OneMerged n cs next cs′ next′ = (g : ℕ) × (h : ℕ) × Merged n cs next g h cs′ next′
+OneMerged n heads next heads′ next′ = (g : ℕ) × (h : ℕ) × Merged n heads next g h heads′ next′
 
 -- One after the other has.
-pub data Merges (n : ℕ) (cs next : List ℕ) : List ℕ → List ℕ → Type 0 where
-  none : Merges n cs next cs next
-  more : {cs₁ next₁ cs₂ next₂ : List ℕ} → Merges n cs next cs₁ next₁ → OneMerged n cs₁ next₁ cs₂ next₂ → Merges n cs next cs₂ next₂
+pub data Merges (n : ℕ) (heads next : List ℕ) : List ℕ → List ℕ → Type 0 where
+  none : Merges n heads next heads next
+  more : {heads₁ next₁ heads₂ next₂ : List ℕ} → Merges n heads next heads₁ next₁ → OneMerged n heads₁ next₁ heads₂ next₂ → Merges n heads next heads₂ next₂
 
 -- Classes before the last head went.
-pub record Last (n : ℕ) (cs′ next′ : List ℕ) : Type 0 where
+pub record Last (n : ℕ) (heads′ next′ : List ℕ) : Type 0 where
   pub heads : List ℕ
   pub next : List ℕ
-  pub merged : OneMerged n heads next cs′ next′
+  pub merged : OneMerged n heads next heads′ next′
 
 -- Classes from which others come, when only so many heads had gone.
-pub record Before (n mark : ℕ) (cs next cs′ next′ : List ℕ) : Type 0 where
-  pub merges : Merges n cs next cs′ next′
+pub record Before (n mark : ℕ) (heads next heads′ next′ : List ℕ) : Type 0 where
+  pub merges : Merges n heads next heads′ next′
   pub marked : gone next ≡ mark
 
 -- There are such classes.
-pub record Since (n mark : ℕ) (cs′ next′ : List ℕ) : Type 0 where
+pub record Since (n mark : ℕ) (heads′ next′ : List ℕ) : Type 0 where
   pub heads : List ℕ
   pub next : List ℕ
-  pub before : Before n mark heads next cs′ next′
+  pub before : Before n mark heads next heads′ next′

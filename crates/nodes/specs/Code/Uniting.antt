@@ -22,19 +22,19 @@ pub record Circling (n : ℕ) (next : List ℕ) (g : ℕ) : Type 0 where
   pub back : Follows next (word next g) g
 
 -- The nodes of the circle of node g get head h.
-pub record Relabels (next : List ℕ) (g h : ℕ) (cs cs′ : List ℕ) : Type 0 where
-  pub size : length cs′ ≡ length cs
-  pub circle : (k : ℕ) → Follows next g k → classOf cs′ k ≡ h
-  pub others : (k : ℕ) → (Follows next g k → ⊥) → classOf cs′ k ≡ classOf cs k
+pub record Relabels (next : List ℕ) (g h : ℕ) (heads heads′ : List ℕ) : Type 0 where
+  pub size : length heads′ ≡ length heads
+  pub circle : (k : ℕ) → Follows next g k → classOf heads′ k ≡ h
+  pub others : (k : ℕ) → (Follows next g k → ⊥) → classOf heads′ k ≡ classOf heads k
 
 -- Heads g and h of two of the classes of n nodes.
-pub record TwoHeads (n : ℕ) (cs next : List ℕ) (g h : ℕ) : Type 0 where
-  pub partition : Partition n cs
-  pub circles : Circles n cs next
+pub record TwoHeads (n : ℕ) (heads next : List ℕ) (g h : ℕ) : Type 0 where
+  pub partition : Partition n heads
+  pub circles : Circles n heads next
   pub first : g < n
   pub second : h < n
-  pub first-own : classOf cs g ≡ g
-  pub second-own : classOf cs h ≡ h
+  pub first-own : classOf heads g ≡ g
+  pub second-own : classOf heads h ≡ h
   pub apart : g ≡ h → ⊥
 
 -- Nodes g and h exchange the ones after them.

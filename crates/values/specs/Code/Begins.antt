@@ -31,14 +31,14 @@ pub record Lists (nodes arguments : List ℕ) (v : Variables) : Type 0 where
 
 -- The binding words stand in the lent words, before those past them, for whatever pairs the classes stand for.
 abbrev pub Leaves : List ℕ → List ℕ → List ℕ → List ℕ → List ℕ → Type 0
-Leaves nodes arguments cs lent lent′ = (ps : List (ℕ × ℕ)) → Stands nodes arguments cs ps → lent′ ≡ wordsOf (nodesFrom nodes arguments) ps ++ drop (length (variablesOf (nodesFrom nodes arguments))) lent
+Leaves nodes arguments heads lent lent′ = (ps : List (ℕ × ℕ)) → Stands nodes arguments heads ps → lent′ ≡ wordsOf (nodesFrom nodes arguments) ps ++ drop (length (variablesOf (nodesFrom nodes arguments))) lent
 
 -- What unifying begins with: the variables present, and classes in which nodes of one term are together. They stand for
 -- pairs of nodes of one term, which every substitution unifies.
-pub record BeginsShared (nodes arguments : List ℕ) (v : Variables) (cs : List ℕ) : Type 0 where
+pub record BeginsShared (nodes arguments : List ℕ) (v : Variables) (heads : List ℕ) : Type 0 where
   pub lists : Lists nodes arguments v
-  pub formed : (counts : List ℕ) → Counts nodes arguments counts (nodeCount nodes) → Formed nodes arguments counts cs
+  pub formed : (counts : List ℕ) → Counts nodes arguments counts (nodeCount nodes) → Formed nodes arguments counts heads
   pub pairs : List (ℕ × ℕ)
-  pub stands : Stands nodes arguments cs pairs
+  pub stands : Stands nodes arguments heads pairs
   pub same : (σ : Substitution) → Unifies (nodesFrom nodes arguments) pairs σ
-  pub first : HeadsFirst (nodeCount nodes) cs
+  pub first : HeadsFirst (nodeCount nodes) heads

@@ -11,18 +11,18 @@ use Rattle.nodes.specs.Code.Named.{Themselves}
 use Rattle.values.specs.Code.Naming.{keys, keyOf, keyAt, Representative, Chained}
 
 -- The heads of closed applications with arguments, in rising order.
-pub record ClosedListed (nodes counts cs closed : List ℕ) : Type 0 where
+pub record ClosedListed (nodes counts heads closed : List ℕ) : Type 0 where
   pub marked : (p : ℕ) → p < length closed → Marked nodes counts (word closed p)
   pub compound : (p : ℕ) → p < length closed → 0 < countOf nodes (word closed p)
-  pub own : (p : ℕ) → p < length closed → classOf cs (word closed p) ≡ word closed p
+  pub own : (p : ℕ) → p < length closed → classOf heads (word closed p) ≡ word closed p
   pub rising : (p q : ℕ) → p < q → q < length closed → word closed p < word closed q
-  pub whole : (i : ℕ) → Marked nodes counts i → 0 < countOf nodes i → classOf cs i ≡ i → (p : ℕ) × (p < length closed) × (word closed p ≡ i)
+  pub whole : (i : ℕ) → Marked nodes counts i → 0 < countOf nodes i → classOf heads i ≡ i → (p : ℕ) × (p < length closed) × (word closed p ≡ i)
 
 -- A table of these, by the heads of their arguments, as each names itself.
-pub record ClosedTable (nodes arguments cs closed buckets earlier : List ℕ) : Type 0 where
+pub record ClosedTable (nodes arguments heads closed buckets earlier : List ℕ) : Type 0 where
   pub buckets-long : length buckets ≡ keys
   pub earlier-long : length earlier ≡ maxNodes
-  pub chained : (names : List ℕ) → length names ≡ nodeCount nodes → Themselves names → Chained (Representative nodes closed names) (keyAt nodes arguments cs closed names) buckets earlier (length closed)
+  pub chained : (names : List ℕ) → length names ≡ nodeCount nodes → Themselves names → Chained (Representative nodes closed names) (keyAt nodes arguments heads closed names) buckets earlier (length closed)
 
 -- How many words they take: the table, open applications, closed ones, and how many there are of each.
 abbrev pub preparedWords : ℕ
@@ -42,18 +42,18 @@ unfoldable pub closedIn : List ℕ → List ℕ
 closedIn table = take (word table 1025) (drop 768 table)
 
 -- What is prepared where there are open applications.
-pub record PreparedOpen (nodes arguments counts cs table : List ℕ) : Type 0 where
+pub record PreparedOpen (nodes arguments counts heads table : List ℕ) : Type 0 where
   pub size : length table ≡ preparedWords
   pub open-few : word table 1024 ≤ maxNodes
   pub closed-few : word table 1025 ≤ maxNodes
   pub open-listed : OpenListed nodes counts (openIn table)
-  pub closed-listed : ClosedListed nodes counts cs (closedIn table)
-  pub closed-table : ClosedTable nodes arguments cs (closedIn table) (bucketsIn table) (earlierIn table)
+  pub closed-listed : ClosedListed nodes counts heads (closedIn table)
+  pub closed-table : ClosedTable nodes arguments heads (closedIn table) (bucketsIn table) (earlierIn table)
 
 -- What is prepared: no words where there are no open applications.
-pub data Prepared (nodes arguments counts cs table : List ℕ) : Type 0 where
-  nothing : length table ≡ 0 → ((i : ℕ) → i < nodeCount nodes → word counts i ≡ 0) → Prepared nodes arguments counts cs table
-  with-open : PreparedOpen nodes arguments counts cs table → Prepared nodes arguments counts cs table
+pub data Prepared (nodes arguments counts heads table : List ℕ) : Type 0 where
+  nothing : length table ≡ 0 → ((i : ℕ) → i < nodeCount nodes → word counts i ≡ 0) → Prepared nodes arguments counts heads table
+  with-open : PreparedOpen nodes arguments counts heads table → Prepared nodes arguments counts heads table
 
 -- The open applications are listed, r of them; what is not in their part stays.
 pub record ListsOpen (nodes counts table : List ℕ) (r : ℕ) (table′ : List ℕ) : Type 0 where
@@ -65,14 +65,14 @@ pub record ListsOpen (nodes counts table : List ℕ) (r : ℕ) (table′ : List 
 
 -- The words after closed application i was noted at a place and put into the table.
 unfoldable pub closedNoted : List ℕ → List ℕ → List ℕ → List ℕ → List ℕ → ℕ → ℕ → List ℕ
-closedNoted nodes arguments cs names table place i =
-    let k = keyOf nodes arguments cs names i in
+closedNoted nodes arguments heads names table place i =
+    let k = keyOf nodes arguments heads names i in
     set (set (set table (768 + place) i) (256 + place) (word table k)) k (place + 1)
 
 -- The closed applications are listed, r of them, with a table; the part of the open ones stays.
-pub record ListsClosed (nodes arguments counts cs table : List ℕ) (r : ℕ) (table′ : List ℕ) : Type 0 where
+pub record ListsClosed (nodes arguments counts heads table : List ℕ) (r : ℕ) (table′ : List ℕ) : Type 0 where
   pub size : length table′ ≡ length table
   pub few : r ≤ maxNodes
-  pub listed : ClosedListed nodes counts cs (take r (drop 768 table′))
-  pub chained : ClosedTable nodes arguments cs (take r (drop 768 table′)) (take 256 table′) (take 256 (drop 256 table′))
+  pub listed : ClosedListed nodes counts heads (take r (drop 768 table′))
+  pub chained : ClosedTable nodes arguments heads (take r (drop 768 table′)) (take 256 table′) (take 256 (drop 256 table′))
   pub open-kept : (k : ℕ) → 512 ≤ k → k < 768 → word table′ k ≡ word table k

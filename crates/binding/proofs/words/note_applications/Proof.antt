@@ -10,10 +10,10 @@ use Rattle.binding.proofs.words.note_applications.Statement.{statement}
 use Rattle.binding.proofs.words.note_applications.Tie as tie
 
 abbrev Inv-loop : tie.InvT-loop
-Inv-loop nodes arguments opens of names by₀ p₀ by p = (p ≤ length opens) × OpenNoted nodes of names opens by p
+Inv-loop nodes arguments opens heads names by₀ p₀ by p = (p ≤ length opens) × OpenNoted nodes heads names opens by p
 
 abbrev μ-loop : tie.MeasureT-loop
-μ-loop nodes arguments opens of names by₀ p₀ by p = length opens - p
+μ-loop nodes arguments opens heads names by₀ p₀ by p = length opens - p
 
 loop-holds : tie.Need-loop-holds Inv-loop μ-loop
 loop-holds c =

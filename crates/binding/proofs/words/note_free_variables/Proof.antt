@@ -9,10 +9,10 @@ use Rattle.binding.proofs.words.note_free_variables.Statement.{statemen
 use Rattle.binding.proofs.words.note_free_variables.Tie as tie
 
 abbrev Inv-loop : tie.InvT-loop
-Inv-loop nodes arguments of names by₀ list k₀ by k = (k ≤ length list) × FreeFrom nodes of names list by₀ by k
+Inv-loop nodes arguments heads names by₀ list k₀ by k = (k ≤ length list) × FreeFrom nodes heads names list by₀ by k
 
 abbrev μ-loop : tie.MeasureT-loop
-μ-loop nodes arguments of names by₀ list k₀ by k = k
+μ-loop nodes arguments heads names by₀ list k₀ by k = k
 
 loop-holds : tie.Need-loop-holds Inv-loop μ-loop
 loop-holds c =

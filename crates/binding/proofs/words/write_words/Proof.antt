@@ -9,10 +9,10 @@ use Rattle.binding.proofs.words.write_words.Statement.{statement}
 use Rattle.binding.proofs.words.write_words.Tie as tie
 
 abbrev Inv-loop : tie.InvT-loop
-Inv-loop nodes arguments of names by list out₀ k₀ out k = (k ≤ length list) × (length out ≡ length out₀) × (out ≡ readTo of names by list out₀ k)
+Inv-loop nodes arguments heads names by list out₀ k₀ out k = (k ≤ length list) × (length out ≡ length out₀) × (out ≡ readTo heads names by list out₀ k)
 
 abbrev μ-loop : tie.MeasureT-loop
-μ-loop nodes arguments of names by list out₀ k₀ out k = length list - k
+μ-loop nodes arguments heads names by list out₀ k₀ out k = length list - k
 
 loop-holds : tie.Need-loop-holds Inv-loop μ-loop
 loop-holds c = (search needs, refl, read-none _ _ _ _ _)
@@ -45,7 +45,7 @@ returns c =
     let l = c .before .loop in
     let a = c .before .before .before .before .before .before .before .before .before .args in
     let e : l .k ≡ length (a .list .now) = omega arith in
-    l .inv .2 ∙ read-all (a .of .now) (a .names .now) (a .by .now) (a .list .now) (a .out .now) (l .k) e
+    l .inv .2 ∙ read-all (a .heads .now) (a .names .now) (a .by .now) (a .list .now) (a .out .now) (l .k) e
 
 pub write-words-spec : {M : Type 1} → statement M
 write-words-spec =

@@ -11,11 +11,11 @@ use Rattle.branches.proofs.partners.mark_row.Statement.{statement}
 use Rattle.branches.proofs.partners.mark_row.Tie as tie
 
 abbrev Inv-loop : tie.InvT-loop
-Inv-loop nodes arguments left right of₀ next₀ known₀ i a j₀ of next known j =
-    (j ≤ length right) × PairsKnown nodes arguments left right known × KeepsCounts nodes known₀ known × (length known ≡ length known₀) × (of ≡ of₀) × (next ≡ next₀)
+Inv-loop nodes arguments left right heads₀ next₀ known₀ i a j₀ heads next known j =
+    (j ≤ length right) × PairsKnown nodes arguments left right known × KeepsCounts nodes known₀ known × (length known ≡ length known₀) × (heads ≡ heads₀) × (next ≡ next₀)
 
 abbrev μ-loop : tie.MeasureT-loop
-μ-loop nodes arguments left right of₀ next₀ known₀ i a j₀ of next known j = length right - j
+μ-loop nodes arguments left right heads₀ next₀ known₀ i a j₀ heads next known j = length right - j
 
 node-at-requires : tie.Need-node-at-requires Inv-loop μ-loop
 node-at-requires c κs = search needs

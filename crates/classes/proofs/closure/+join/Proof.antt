@@ -45,11 +45,11 @@ claims t =
     (node-reads.Asked, node-reads.Learnt, is-variable-reads.Asked, is-variable-reads.Learnt, unite-reads.Asked, unite-reads.Learnt, one-symbol-reads.Asked, one-symbol-reads.Learnt, both-closed-reads.Asked, both-closed-reads.Learnt, arity-reads.Asked, arity-reads.Learnt, argument-reads.Asked, argument-reads.Learnt, join-below t, join.Post)
 
 abbrev join-Inv-loop : join-lts.InvT-loop
-join-Inv-loop nodes arguments counts of₀ next₀ i j g h first second count k₀ of next k =
-    (count ≡ countOf nodes g) × (k ≤ count) × (length of ≡ length of₀) × (length next ≡ length next₀) × Advances nodes arguments counts of₀ next₀ (firstPairs nodes arguments g h k) of next
+join-Inv-loop nodes arguments counts heads₀ next₀ i j g h first second count k₀ heads next k =
+    (count ≡ countOf nodes g) × (k ≤ count) × (length heads ≡ length heads₀) × (length next ≡ length next₀) × Advances nodes arguments counts heads₀ next₀ (firstPairs nodes arguments g h k) heads next
 
 abbrev join-μ-loop : join-lts.MeasureT-loop
-join-μ-loop nodes arguments counts of₀ next₀ i j g h first second count k₀ of next k = count - k
+join-μ-loop nodes arguments counts heads₀ next₀ i j g h first second count k₀ heads next k = count - k
 
 -- where the heads differ, where both were tested for a variable, where both are applications that were tested, and where these are alike
 abbrev Apart : ℕ → Type 0
@@ -68,17 +68,17 @@ abbrev start : (t : ℕ) → Apart t → join-lts.Start (claims t) (join-at t) j
 start t c = c .before .before .before .before .before .before .before .before .before .before
 
 -- the two nodes are of different classes
-meets : (t : ℕ) (c : Apart t) → let s = start t c in Meeting (s .args .nodes .now) (s .args .arguments .now) (s .args .counts .now) (s .args .of .now) (s .args .next .now) (s .args .a .0) (s .args .b .0)
+meets : (t : ℕ) (c : Apart t) → let s = start t c in Meeting (s .args .nodes .now) (s .args .arguments .now) (s .args .counts .now) (s .args .heads .now) (s .args .next .now) (s .args .a .0) (s .args .b .0)
 meets t c =
     let s = start t c in
     record { joinable = s .pre .1 .0; first = s .pre .1 .1 .0; second = s .pre .1 .1 .1; apart = c .if1 .left }
 
 -- the heads of the two nodes
 abbrev first-head : (t : ℕ) → Apart t → ℕ
-first-head t c = classOf (start t c .args .of .now) (start t c .args .a .0)
+first-head t c = classOf (start t c .args .heads .now) (start t c .args .a .0)
 
 abbrev second-head : (t : ℕ) → Apart t → ℕ
-second-head t c = classOf (start t c .args .of .now) (start t c .args .b .0)
+second-head t c = classOf (start t c .args .heads .now) (start t c .args .b .0)
 
 -- the first head's test for a variable
 first-kind : (t : ℕ) (c : Kinds t) → c .before .is-variable .result ≡ eqb (kindOf (start t (c .before .before .before .before) .args .nodes .now) (first-head t (c .before .before .before .before))) 0
@@ -109,7 +109,7 @@ closed t c =
     tested-by (λ i j. markedTest ns ks i && markedTest ns ks j) _ _ _ _ _ (c .before .before .before .before .before .before .node .ensures .0) (c .before .before .before .before .before .node2 .ensures .0) (c .both-closed .ensures)
 
 -- they have one symbol and are not both closed
-alike : (t : ℕ) (c : Alike t) → let s = start t (c .before .before .before .before .before .before .before .before) in OneSymbolHeads (s .args .nodes .now) (s .args .arguments .now) (s .args .counts .now) (s .args .of .now) (s .args .a .0) (s .args .b .0)
+alike : (t : ℕ) (c : Alike t) → let s = start t (c .before .before .before .before .before .before .before .before) in OneSymbolHeads (s .args .nodes .now) (s .args .arguments .now) (s .args .counts .now) (s .args .heads .now) (s .args .a .0) (s .args .b .0)
 alike t c =
     let s = start t (c .before .before .before .before .before .before .before .before) in
     let m = meets t (c .before .before .before .before .before .before .before .before) in

@@ -37,10 +37,10 @@ claims t =
     (argument-head-reads.Asked, argument-head-reads.Learnt, is-due-reads.Asked, is-due-reads.Learnt, visit-below t, visit.Post)
 
 abbrev visit-Inv-loop : visit-lts.InvT-loop
-visit-Inv-loop nodes arguments counts of marks₀ order₀ placed h i mark n count₀ j₀ marks order count j = (j ≤ n) × Turn nodes arguments (word counts) of marks₀ (h .0) marks order count j
+visit-Inv-loop nodes arguments counts heads marks₀ order₀ placed h i mark n count₀ j₀ marks order count j = (j ≤ n) × Turn nodes arguments (word counts) heads marks₀ (h .0) marks order count j
 
 abbrev visit-μ-loop : visit-lts.MeasureT-loop
-visit-μ-loop nodes arguments counts of marks₀ order₀ placed h i mark n count₀ j₀ marks order count j = n - j
+visit-μ-loop nodes arguments counts heads marks₀ order₀ placed h i mark n count₀ j₀ marks order count j = n - j
 
 visit-cast-i : (t : ℕ) → visit-lts.Need-cast-i (claims t) (visit-at t) visit.Post visit-Inv-loop visit-μ-loop
 visit-cast-i t c = search needs

@@ -34,7 +34,7 @@ returns c =
     let s = c .before .before .before .before .before .before .before .before .before .before .before .before .before .before .before .before in
     let p = s .pre in
     record {
-      heads = p .0;
+      two = p .0;
       trailed = p .1;
       renames = relabels-renames _ _ _ _ _ (p .0) _ (c .before .before .before .before .before .before .before .before .before .before .relabel .ensures);
       linked = c .before .before .note .ensures ∙ ap (λ (l : List ℕ). notedGone l (s .args .from)) (c .before .before .before .before .before .before .link .ensures);

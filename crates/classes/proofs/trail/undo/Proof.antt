@@ -6,10 +6,10 @@ use Rattle.classes.proofs.trail.undo.Statement.{statement}
 use Rattle.classes.proofs.trail.undo.Tie as tie
 
 abbrev Inv-loop : tie.InvT-loop
-Inv-loop of₀ next₀ mark k₀ of next k = Undoing (length of₀) mark k of next of₀ next₀
+Inv-loop heads₀ next₀ mark k₀ heads next k = Undoing (length heads₀) mark k heads next heads₀ next₀
 
 abbrev μ-loop : tie.MeasureT-loop
-μ-loop of₀ next₀ mark k₀ of next k = k
+μ-loop heads₀ next₀ mark k₀ heads next k = k
 
 slice-read-k : tie.Need-slice-read-k Inv-loop μ-loop
 slice-read-k c = let e = c .before .before .before .pre .1 in omega (arith, e)

@@ -19,11 +19,11 @@ index-requires c κs = search needs
 sub-unify-with-room : tie.Need-sub-unify-with-room
 sub-unify-with-room c = search needs
 
-part-of-start : tie.Need-part-of-start
-part-of-start c = search needs
+part-heads-start : tie.Need-part-heads-start
+part-heads-start c = search needs
 
-part-of-end : tie.Need-part-of-end
-part-of-end c = search needs
+part-heads-end : tie.Need-part-heads-end
+part-heads-end c = search needs
 
 sub-unify-with-room-2 : tie.Need-sub-unify-with-room-2
 sub-unify-with-room-2 c = search needs
@@ -63,8 +63,8 @@ unify-nodes-spec =
     returns
     index-requires
     sub-unify-with-room
-    part-of-start
-    part-of-end
+    part-heads-start
+    part-heads-end
     slice-aggregate-unify-with-room
     sub-unify-with-room-2
     part-counts-start

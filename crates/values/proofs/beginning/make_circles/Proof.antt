@@ -10,11 +10,11 @@ use Rattle.values.proofs.beginning.make_circles.Statement.{statement}
 use Rattle.values.proofs.beginning.make_circles.Tie as tie
 
 abbrev Inv-loop : tie.InvT-loop
-Inv-loop of next₀ i₀ next i =
-    (length next ≡ length next₀) × (i ≤ length of) × HeadsFirst (length of) of × (length of ≤ maxNodes) × CirclesBefore of next i
+Inv-loop heads next₀ i₀ next i =
+    (length next ≡ length next₀) × (i ≤ length heads) × HeadsFirst (length heads) heads × (length heads ≤ maxNodes) × CirclesBefore heads next i
 
 abbrev μ-loop : tie.MeasureT-loop
-μ-loop of next₀ i₀ next i = length of - i
+μ-loop heads next₀ i₀ next i = length heads - i
 
 loop-holds : tie.Need-loop-holds Inv-loop μ-loop
 loop-holds c = let s = c .before .before in (search needs, search needs, s .pre .1, s .pre .2, circles-none _ _ (s .pre .0))

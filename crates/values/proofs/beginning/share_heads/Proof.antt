@@ -11,11 +11,11 @@ use Rattle.values.proofs.beginning.share_heads.Statement.{statement}
 use Rattle.values.proofs.beginning.share_heads.Tie as tie
 
 abbrev Inv-loop : tie.InvT-loop
-Inv-loop of names heads₀ i₀ heads i =
-    (length of ≡ length heads) × (length heads ≡ length heads₀) × (i ≤ length of) × HeadsNamed of names × ((k : ℕ) → k < i → word heads k ≡ word names (word of k))
+Inv-loop starts names heads₀ i₀ heads i =
+    (length starts ≡ length heads) × (length heads ≡ length heads₀) × (i ≤ length starts) × HeadsNamed starts names × ((k : ℕ) → k < i → word heads k ≡ word names (word starts k))
 
 abbrev μ-loop : tie.MeasureT-loop
-μ-loop of names heads₀ i₀ heads i = length of - i
+μ-loop starts names heads₀ i₀ heads i = length starts - i
 
 loop-holds : tie.Need-loop-holds Inv-loop μ-loop
 loop-holds c = (c .pre .0, search needs, search needs, c .pre .1, λ k h. absurd (omega arith))
@@ -45,7 +45,7 @@ loop-less c = search needs
 loop-again : tie.Need-loop-again Inv-loop μ-loop
 loop-again c =
     let l = c .before .before .before .loop in
-    (simp length-set (l .inv .0), simp length-set (l .inv .1), search needs, l .inv .3, shared-next (c .before .before .before .before .args .of .now) (c .before .before .before .before .args .names .now) (l .heads) (l .i) (search needs) (l .inv .4))
+    (simp length-set (l .inv .0), simp length-set (l .inv .1), search needs, l .inv .3, shared-next (c .before .before .before .before .args .starts .now) (c .before .before .before .before .args .names .now) (l .heads) (l .i) (search needs) (l .inv .4))
 
 same-length : tie.Need-same-length Inv-loop μ-loop
 same-length c = search needs
@@ -53,7 +53,7 @@ same-length c = search needs
 returns : tie.Need-returns Inv-loop μ-loop
 returns c =
     let l = c .before .loop in
-    shared-all (c .before .before .args .of .now) (c .before .before .args .names .now) (l .heads) (l .i) (l .inv .0) (c .loop-test .left) (l .inv .4)
+    shared-all (c .before .before .args .starts .now) (c .before .before .args .names .now) (l .heads) (l .i) (l .inv .0) (c .loop-test .left) (l .inv .4)
 
 pub share-heads-spec : {M : Type 1} → statement M
 share-heads-spec =

@@ -12,10 +12,10 @@ use Rattle.values.proofs.beginning.start.Statement.{statement}
 use Rattle.values.proofs.beginning.start.Tie as tie
 
 abbrev Inv-loop : tie.InvT-loop
-Inv-loop nodes arguments least of₀ order₀ n i₀ of order i = (n ≡ nodeCount nodes) × (n ≤ maxNodes) × (i ≤ n) × (length of ≡ n) × (length order ≡ n) × Started nodes arguments of order i
+Inv-loop nodes arguments least heads₀ order₀ n i₀ heads order i = (n ≡ nodeCount nodes) × (n ≤ maxNodes) × (i ≤ n) × (length heads ≡ n) × (length order ≡ n) × Started nodes arguments heads order i
 
 abbrev μ-loop : tie.MeasureT-loop
-μ-loop nodes arguments least of₀ order₀ n i₀ of order i = n - i
+μ-loop nodes arguments least heads₀ order₀ n i₀ heads order i = n - i
 
 node-count-requires : tie.Need-node-count-requires Inv-loop μ-loop
 node-count-requires c κs = search needs
@@ -26,8 +26,8 @@ loop-holds c = (search needs, search needs, search needs, search needs, search n
 start-head-requires : tie.Need-start-head-requires Inv-loop μ-loop
 start-head-requires c κs = let s = c .before .before .before .before .before .before .before .before in (s .pre .0, (s .pre .1 .0, search needs))
 
-slice-write-of : tie.Need-slice-write-of Inv-loop μ-loop
-slice-write-of c = search needs
+slice-write-heads : tie.Need-slice-write-heads Inv-loop μ-loop
+slice-write-heads c = search needs
 
 cast-order : tie.Need-cast-order Inv-loop μ-loop
 cast-order c = search needs
@@ -67,7 +67,7 @@ start-spec =
     node-count-requires
     loop-holds
     start-head-requires
-    slice-write-of
+    slice-write-heads
     cast-order
     slice-write-order
     add-i

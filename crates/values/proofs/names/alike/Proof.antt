@@ -10,11 +10,11 @@ use Rattle.values.proofs.names.alike.Statement.{statement}
 use Rattle.values.proofs.names.alike.Tie as tie
 
 abbrev Inv-loop : tie.InvT-loop
-Inv-loop nodes arguments of names g h n j₀ j =
-    (n ≡ countOf nodes (g .0)) × (j ≤ n) × AlikeUpTo nodes arguments of names (g .0) (h .0) j
+Inv-loop nodes arguments heads names g h n j₀ j =
+    (n ≡ countOf nodes (g .0)) × (j ≤ n) × AlikeUpTo nodes arguments heads names (g .0) (h .0) j
 
 abbrev μ-loop : tie.MeasureT-loop
-μ-loop nodes arguments of names g h n j₀ j = n - j
+μ-loop nodes arguments heads names g h n j₀ j = n - j
 
 one-symbol-requires : tie.Need-one-symbol-requires Inv-loop μ-loop
 one-symbol-requires c κs = search needs

@@ -9,11 +9,11 @@ use Rattle.values.proofs.names.find.Statement.{statement}
 use Rattle.values.proofs.names.find.Tie as tie
 
 abbrev Inv-loop : tie.InvT-loop
-Inv-loop nodes arguments of order names buckets earlier p k h cursor₀ cursor =
-    (h .0 ≡ word order p) × Searching nodes arguments of order names p k cursor
+Inv-loop nodes arguments heads order names buckets earlier p k h cursor₀ cursor =
+    (h .0 ≡ word order p) × Searching nodes arguments heads order names p k cursor
 
 abbrev μ-loop : tie.MeasureT-loop
-μ-loop nodes arguments of order names buckets earlier p k h cursor₀ cursor = cursor
+μ-loop nodes arguments heads order names buckets earlier p k h cursor₀ cursor = cursor
 
 node-in-requires : tie.Need-node-in-requires Inv-loop μ-loop
 node-in-requires c κs = search needs

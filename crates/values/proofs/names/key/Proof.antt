@@ -9,11 +9,11 @@ use Rattle.values.proofs.names.key.Statement.{statement}
 use Rattle.values.proofs.names.key.Tie as tie
 
 abbrev Inv-loop : tie.InvT-loop
-Inv-loop nodes arguments of names h n x₀ j₀ x j =
-    (n ≡ countOf nodes (h .0)) × (j ≤ n) × ((x ≡ keyUpTo nodes arguments of names (h .0) j) × (x < keys))
+Inv-loop nodes arguments heads names h n x₀ j₀ x j =
+    (n ≡ countOf nodes (h .0)) × (j ≤ n) × ((x ≡ keyUpTo nodes arguments heads names (h .0) j) × (x < keys))
 
 abbrev μ-loop : tie.MeasureT-loop
-μ-loop nodes arguments of names h n x₀ j₀ x j = n - j
+μ-loop nodes arguments heads names h n x₀ j₀ x j = n - j
 
 arity-requires : tie.Need-arity-requires Inv-loop μ-loop
 arity-requires c κs = search needs

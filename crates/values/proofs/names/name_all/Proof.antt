@@ -9,11 +9,11 @@ use Rattle.values.proofs.names.name_all.Statement.{statement}
 use Rattle.values.proofs.names.name_all.Tie as tie
 
 abbrev Inv-loop : tie.InvT-loop
-Inv-loop nodes arguments of order start names₀ buckets₀ earlier₀ p₀ names buckets earlier p =
-    (p ≤ length order) × Naming nodes arguments of order names buckets earlier p
+Inv-loop nodes arguments heads order start names₀ buckets₀ earlier₀ p₀ names buckets earlier p =
+    (p ≤ length order) × Naming nodes arguments heads order names buckets earlier p
 
 abbrev μ-loop : tie.MeasureT-loop
-μ-loop nodes arguments of order start names₀ buckets₀ earlier₀ p₀ names buckets earlier p = length order - p
+μ-loop nodes arguments heads order start names₀ buckets₀ earlier₀ p₀ names buckets earlier p = length order - p
 
 loop-holds : tie.Need-loop-holds Inv-loop μ-loop
 loop-holds c =

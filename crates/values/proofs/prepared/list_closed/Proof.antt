@@ -14,11 +14,11 @@ use Rattle.values.proofs.prepared.list_closed.Statement.{statement}
 use Rattle.values.proofs.prepared.list_closed.Tie as tie
 
 abbrev Inv-loop : tie.InvT-loop
-Inv-loop nodes arguments counts of names prepared₀ n count₀ i₀ prepared count i =
-    (n ≡ nodeCount nodes) × (n ≤ maxNodes) × (i ≤ n) × (length prepared₀ ≡ preparedWords) × ClosedBefore nodes arguments counts of prepared₀ prepared count i
+Inv-loop nodes arguments counts heads names prepared₀ n count₀ i₀ prepared count i =
+    (n ≡ nodeCount nodes) × (n ≤ maxNodes) × (i ≤ n) × (length prepared₀ ≡ preparedWords) × ClosedBefore nodes arguments counts heads prepared₀ prepared count i
 
 abbrev μ-loop : tie.MeasureT-loop
-μ-loop nodes arguments counts of names prepared₀ n count₀ i₀ prepared count i = n - i
+μ-loop nodes arguments counts heads names prepared₀ n count₀ i₀ prepared count i = n - i
 
 node-count-requires : tie.Need-node-count-requires Inv-loop μ-loop
 node-count-requires c κs = search needs

@@ -223,11 +223,11 @@ step-returns-3 t c =
     (joined-stepped g (r .0) (r .1) (omega (arith, l)) (c .before .before .before .before .before .before .before .before .before .before .before .before .before .before .before .before .before .before .before .before .before .before .before .before .before .free-mark .ensures) (c .before .before .before .before .before .before .before .before .before .before .before .before .before .before .before .before .before .before .before .before .before .before .before .before .if2 .left) (c .before .before .before .before .before .before .before .before .before .before .before .before .before .before .before .before .before .before .before .before .before .before .put-pair .ensures) (c .before .before .before .before .before .before .before .before .before .before .before .before .before .before .walk-joined .ensures .0) (c .before .before .put-back .ensures), c .before .before .before .before .before .before .before .before .before .before .before .before .before .before .walk-joined .ensures .1)
 
 abbrev walk-Inv-loop : walk-lts.InvT-loop
-walk-Inv-loop nodes arguments left right labels known prepared of₀ next₀ key weight unpaired i entry₀ memory₀ out₀ at n last used₀ d₀ of next entry memory out used d =
-    (last ≡ length right + labels .right) × (of ≡ of₀) × (next ≡ next₀) × Turning nodes arguments left right labels i entry₀ out₀ at d entry memory out used
+walk-Inv-loop nodes arguments left right labels known prepared heads₀ next₀ key weight unpaired i entry₀ memory₀ out₀ at n last used₀ d₀ heads next entry memory out used d =
+    (last ≡ length right + labels .right) × (heads ≡ heads₀) × (next ≡ next₀) × Turning nodes arguments left right labels i entry₀ out₀ at d entry memory out used
 
 abbrev walk-μ-loop : walk-lts.MeasureT-loop
-walk-μ-loop nodes arguments left right labels known prepared of₀ next₀ key weight unpaired i entry₀ memory₀ out₀ at n last used₀ d₀ of next entry memory out used d =
+walk-μ-loop nodes arguments left right labels known prepared heads₀ next₀ key weight unpaired i entry₀ memory₀ out₀ at n last used₀ d₀ heads next entry memory out used d =
     suc last - d
 
 walk-sub-hopeless : (t : ℕ) → walk-lts.Need-sub-hopeless (walk-claims t) (walk-at t) walk.Post walk-Inv-loop walk-μ-loop
