@@ -368,9 +368,9 @@ order-put closed placed xs ys zs start end e d f g =
     ap (take (end - 0)) (g ∙ ap (λ (l : List ℕ). l ++ placed ++ drop (start + length placed) ys) h) ∙ take-at (closed ++ placed) (drop (start + length placed) ys) (end - 0) (sym z)
 
 -- where there are no prepared words there are no open applications
-pub prepared-none : (nodes arguments counts heads table : List ℕ) → Prepared nodes arguments counts heads table → length table ≡ 0 → OpenListed nodes counts table
-prepared-none nodes arguments counts heads table (with-open f) z = let s = f .size in absurd (omega (arith, s, z))
-prepared-none nodes arguments counts heads table (nothing e n) z =
+pub prepared-none : (nodes arguments counts heads prepared : List ℕ) → Prepared nodes arguments counts heads prepared → length prepared ≡ 0 → OpenListed nodes counts prepared
+prepared-none nodes arguments counts heads prepared (with-open f) z = let s = f .size in absurd (omega (arith, s, z))
+prepared-none nodes arguments counts heads prepared (nothing e n) z =
     record {
       node = λ p h. absurd (omega arith);
       applied = λ p h. absurd (omega arith);
@@ -378,22 +378,22 @@ prepared-none nodes arguments counts heads table (nothing e n) z =
     }
 
 -- and otherwise there are open applications
-pub prepared-open : (nodes arguments counts heads table : List ℕ) → Prepared nodes arguments counts heads table → (length table ≡ 0 → ⊥) → PreparedOpen nodes arguments counts heads table
-prepared-open nodes arguments counts heads table (with-open f) n = f
-prepared-open nodes arguments counts heads table (nothing e z) n = absurd (n e)
+pub prepared-open : (nodes arguments counts heads prepared : List ℕ) → Prepared nodes arguments counts heads prepared → (length prepared ≡ 0 → ⊥) → PreparedOpen nodes arguments counts heads prepared
+prepared-open nodes arguments counts heads prepared (with-open f) n = f
+prepared-open nodes arguments counts heads prepared (nothing e z) n = absurd (n e)
 
 -- Their parts, as the code takes them.
-module _ (nodes arguments counts heads table : List ℕ) (f : PreparedOpen nodes arguments counts heads table) where
+module _ (nodes arguments counts heads prepared : List ℕ) (f : PreparedOpen nodes arguments counts heads prepared) where
   -- the open applications
-  pub prepared-opens : (r : ℕ) → r ≡ word table 1024 → OpenListed nodes counts (take (512 + r - 512) (drop 512 table))
+  pub prepared-opens : (r : ℕ) → r ≡ word prepared 1024 → OpenListed nodes counts (take (512 + r - 512) (drop 512 prepared))
   unfolding openIn
   prepared-opens r e =
-      let d : 512 + r - 512 ≡ word table 1024 = omega (arith, e) in
+      let d : 512 + r - 512 ≡ word prepared 1024 = omega (arith, e) in
       rw d (f .open-listed)
 
   -- the closed ones, and the table of them
-  pub prepared-closed : (r : ℕ) → r ≡ word table 1025 → ClosedListed nodes counts heads (take (768 + r - 768) (drop 768 table)) × ClosedTable nodes arguments heads (take (768 + r - 768) (drop 768 table)) (take 256 table) (take 256 (drop 256 table))
+  pub prepared-closed : (r : ℕ) → r ≡ word prepared 1025 → ClosedListed nodes counts heads (take (768 + r - 768) (drop 768 prepared)) × ClosedTable nodes arguments heads (take (768 + r - 768) (drop 768 prepared)) (take 256 prepared) (take 256 (drop 256 prepared))
   unfolding closedIn bucketsIn earlierIn
   prepared-closed r e =
-      let d : 768 + r - 768 ≡ word table 1025 = omega (arith, e) in
+      let d : 768 + r - 768 ≡ word prepared 1025 = omega (arith, e) in
       rw d (f .closed-listed, f .closed-table)

@@ -41,16 +41,16 @@ part-before : (start n j a : ℕ) (l : List ℕ) → n ≤ j → take n (drop st
 part-before start n j a l h = ap (take n) (drop-set-add start l j a) ∙ take-set-le n (drop start l) j a h
 
 -- The words from a start on are the numbers below i with a property, in rising order.
-pub record Gathered (P : ℕ → Type 0) (start : ℕ) (table : List ℕ) (count i : ℕ) : Type 0 where
+pub record Gathered (P : ℕ → Type 0) (start : ℕ) (prepared : List ℕ) (count i : ℕ) : Type 0 where
   pub few : count ≤ i
-  pub below : (p : ℕ) → p < count → word table (start + p) < i
-  pub has : (p : ℕ) → p < count → P (word table (start + p))
-  pub rising : (p q : ℕ) → p < q → q < count → word table (start + p) < word table (start + q)
-  pub whole : (k : ℕ) → k < i → P k → (p : ℕ) × (p < count) × (word table (start + p) ≡ k)
+  pub below : (p : ℕ) → p < count → word prepared (start + p) < i
+  pub has : (p : ℕ) → p < count → P (word prepared (start + p))
+  pub rising : (p q : ℕ) → p < q → q < count → word prepared (start + p) < word prepared (start + q)
+  pub whole : (k : ℕ) → k < i → P k → (p : ℕ) × (p < count) × (word prepared (start + p) ≡ k)
 
 -- at first there are none
-gathered-none : (P : ℕ → Type 0) (start : ℕ) (table : List ℕ) → Gathered P start table 0 0
-gathered-none P start table =
+gathered-none : (P : ℕ → Type 0) (start : ℕ) (prepared : List ℕ) → Gathered P start prepared 0 0
+gathered-none P start prepared =
     record {
       few = omega arith;
       below = λ p h. absurd (omega arith);
@@ -59,9 +59,9 @@ gathered-none P start table =
       whole = λ k h. absurd (omega arith);
     }
 
-module _ (P : ℕ → Type 0) (start : ℕ) (table : List ℕ) (count i : ℕ) (g : Gathered P start table count i) where
+module _ (P : ℕ → Type 0) (start : ℕ) (prepared : List ℕ) (count i : ℕ) (g : Gathered P start prepared count i) where
   -- a number without the property
-  gathered-skip : (P i → ⊥) → Gathered P start table count (i + 1)
+  gathered-skip : (P i → ⊥) → Gathered P start prepared count (i + 1)
   gathered-skip n =
       let f = g .few in
       record {
@@ -69,27 +69,27 @@ module _ (P : ℕ → Type 0) (start : ℕ) (table : List ℕ) (count i : ℕ) (
         below = λ p h. let b = g .below p h in omega (arith, b);
         has = g .has;
         rising = g .rising;
-        whole = below-more (λ k. P k → (p : ℕ) × (p < count) × (word table (start + p) ≡ k)) i (g .whole) (λ h. absurd (n h));
+        whole = below-more (λ k. P k → (p : ℕ) × (p < count) × (word prepared (start + p) ≡ k)) i (g .whole) (λ h. absurd (n h));
       }
 
   -- a number with it is put behind the others
-  gathered-put : (table′ : List ℕ) → P i → ((p : ℕ) → p < count → word table′ (start + p) ≡ word table (start + p)) → word table′ (start + count) ≡ i → Gathered P start table′ (count + 1) (i + 1)
-  gathered-put table′ here kept put =
+  gathered-put : (prepared′ : List ℕ) → P i → ((p : ℕ) → p < count → word prepared′ (start + p) ≡ word prepared (start + p)) → word prepared′ (start + count) ≡ i → Gathered P start prepared′ (count + 1) (i + 1)
+  gathered-put prepared′ here kept put =
       let f = g .few in
       record {
         few = omega (arith, f);
-        below = below-more (λ p. word table′ (start + p) < i + 1) count (λ p l. let e = kept p l in let b = g .below p l in omega (arith, e, b)) (omega (arith, put));
-        has = below-more (λ p. P (word table′ (start + p))) count (λ p l. rw (kept p l) (g .has p l)) (rw put here);
+        below = below-more (λ p. word prepared′ (start + p) < i + 1) count (λ p l. let e = kept p l in let b = g .below p l in omega (arith, e, b)) (omega (arith, put));
+        has = below-more (λ p. P (word prepared′ (start + p))) count (λ p l. rw (kept p l) (g .has p l)) (rw put here);
         rising = λ p q l h. rising-at p q l h (ℕ-discrete q count);
-        whole = below-more (λ k. P k → (p : ℕ) × (p < count + 1) × (word table′ (start + p) ≡ k)) i (λ k l h. let w = g .whole k l h in let b = w .1 in (w .0, omega (arith, b), kept (w .0) (w .1) ∙ w .2)) (λ h. (count, omega arith, put));
+        whole = below-more (λ k. P k → (p : ℕ) × (p < count + 1) × (word prepared′ (start + p) ≡ k)) i (λ k l h. let w = g .whole k l h in let b = w .1 in (w .0, omega (arith, b), kept (w .0) (w .1) ∙ w .2)) (λ h. (count, omega arith, put));
       }
     where
-      rising-at : (p q : ℕ) → p < q → q < count + 1 → Dec (q ≡ count) → word table′ (start + p) < word table′ (start + q)
+      rising-at : (p q : ℕ) → p < q → q < count + 1 → Dec (q ≡ count) → word prepared′ (start + p) < word prepared′ (start + q)
       rising-at p q l h (yes e) =
           let u : p < count = omega (arith, e) in
           let x = kept p u in
           let b = g .below p u in
-          let y : word table′ (start + q) ≡ i = ap (λ (k : ℕ). word table′ (start + k)) e ∙ put in
+          let y : word prepared′ (start + q) ≡ i = ap (λ (k : ℕ). word prepared′ (start + k)) e ∙ put in
           omega (arith, x, b, y)
       rising-at p q l h (no n) =
           let v : q < count = omega (arith, n) in
@@ -103,49 +103,49 @@ abbrev IsOpen : List ℕ → ℕ → Type 0
 IsOpen counts k = 0 < word counts k
 
 -- Of the nodes before node i, the open applications are listed.
-pub record OpenBefore (counts table₀ table : List ℕ) (count i : ℕ) : Type 0 where
-  pub size : length table ≡ length table₀
-  pub gathered : Gathered (IsOpen counts) 512 table count i
-  pub before : (k : ℕ) → k < 512 → word table k ≡ word table₀ k
-  pub behind : (k : ℕ) → 768 ≤ k → word table k ≡ word table₀ k
+pub record OpenBefore (counts prepared₀ prepared : List ℕ) (count i : ℕ) : Type 0 where
+  pub size : length prepared ≡ length prepared₀
+  pub gathered : Gathered (IsOpen counts) 512 prepared count i
+  pub before : (k : ℕ) → k < 512 → word prepared k ≡ word prepared₀ k
+  pub behind : (k : ℕ) → 768 ≤ k → word prepared k ≡ word prepared₀ k
 
 -- at first there are none
-pub open-none : (counts table : List ℕ) → OpenBefore counts table table 0 0
-open-none counts table =
+pub open-none : (counts prepared : List ℕ) → OpenBefore counts prepared prepared 0 0
+open-none counts prepared =
     record {
       size = refl;
-      gathered = gathered-none (IsOpen counts) 512 table;
+      gathered = gathered-none (IsOpen counts) 512 prepared;
       before = λ k h. refl;
       behind = λ k h. refl;
     }
 
-module _ (counts table₀ table : List ℕ) (count i : ℕ) (o : OpenBefore counts table₀ table count i) where
+module _ (counts prepared₀ prepared : List ℕ) (count i : ℕ) (o : OpenBefore counts prepared₀ prepared count i) where
   -- a node that is none
-  pub open-skip : word counts i ≡ 0 → {table′ : List ℕ} {count′ : ℕ} → table′ ≡ table → count′ ≡ count → OpenBefore counts table₀ table′ count′ (i + 1)
+  pub open-skip : word counts i ≡ 0 → {prepared′ : List ℕ} {count′ : ℕ} → prepared′ ≡ prepared → count′ ≡ count → OpenBefore counts prepared₀ prepared′ count′ (i + 1)
   open-skip e x y =
       rw (x, y)
       (record {
         size = o .size;
-        gathered = gathered-skip (IsOpen counts) 512 table count i (o .gathered) (λ h. omega (arith, e, h));
+        gathered = gathered-skip (IsOpen counts) 512 prepared count i (o .gathered) (λ h. omega (arith, e, h));
         before = o .before;
         behind = o .behind;
       })
 
   -- one that is
-  pub open-put : (word counts i ≡ 0 → ⊥) → length table₀ ≡ preparedWords → count < maxNodes → {table′ : List ℕ} {count′ : ℕ} → table′ ≡ set table (512 + count) i → count′ ≡ count + 1 → OpenBefore counts table₀ table′ count′ (i + 1)
+  pub open-put : (word counts i ≡ 0 → ⊥) → length prepared₀ ≡ preparedWords → count < maxNodes → {prepared′ : List ℕ} {count′ : ℕ} → prepared′ ≡ set prepared (512 + count) i → count′ ≡ count + 1 → OpenBefore counts prepared₀ prepared′ count′ (i + 1)
   open-put n l c x y =
       let s = o .size in
       rw (x, y)
       (record {
-        size = length-set table (512 + count) i ∙ o .size;
-        gathered = gathered-put (IsOpen counts) 512 table count i (o .gathered) (set table (512 + count) i) (omega (arith, n)) (λ p h. getD-set-other table (512 + count) (512 + p) i 0 (λ z. omega (arith, z, h))) (getD-set-same table (512 + count) i 0 (omega (arith, s, l, c)));
-        before = λ k h. getD-set-other table (512 + count) k i 0 (λ z. omega (arith, z, h)) ∙ o .before k h;
-        behind = λ k h. getD-set-other table (512 + count) k i 0 (λ z. omega (arith, z, h, c)) ∙ o .behind k h;
+        size = length-set prepared (512 + count) i ∙ o .size;
+        gathered = gathered-put (IsOpen counts) 512 prepared count i (o .gathered) (set prepared (512 + count) i) (omega (arith, n)) (λ p h. getD-set-other prepared (512 + count) (512 + p) i 0 (λ z. omega (arith, z, h))) (getD-set-same prepared (512 + count) i 0 (omega (arith, s, l, c)));
+        before = λ k h. getD-set-other prepared (512 + count) k i 0 (λ z. omega (arith, z, h)) ∙ o .before k h;
+        behind = λ k h. getD-set-other prepared (512 + count) k i 0 (λ z. omega (arith, z, h, c)) ∙ o .behind k h;
       })
 
 -- the open applications of all nodes
-pub open-all : (nodes arguments counts table₀ table : List ℕ) (count i n : ℕ) → Sections nodes arguments → Counts nodes arguments counts (nodeCount nodes) → length table₀ ≡ preparedWords → n ≡ nodeCount nodes → n ≤ maxNodes → i ≤ n → n ≤ i → OpenBefore counts table₀ table count i → ListsOpen nodes counts table₀ count table
-open-all nodes arguments counts table₀ table count i n s c l e m a b o =
+pub open-all : (nodes arguments counts prepared₀ prepared : List ℕ) (count i n : ℕ) → Sections nodes arguments → Counts nodes arguments counts (nodeCount nodes) → length prepared₀ ≡ preparedWords → n ≡ nodeCount nodes → n ≤ maxNodes → i ≤ n → n ≤ i → OpenBefore counts prepared₀ prepared count i → ListsOpen nodes counts prepared₀ count prepared
+open-all nodes arguments counts prepared₀ prepared count i n s c l e m a b o =
     record {
       size = o .size;
       few = few;
@@ -154,7 +154,7 @@ open-all nodes arguments counts table₀ table count i n s c l e m a b o =
         applied = λ p h. rw (at p h) (applied p (rw long at h));
         whole = λ k h q.
             let w = o .gathered .whole k (omega arith) q in
-            (w .0, rw long (w .1), part-at 512 count (w .0) table (w .1) ∙ w .2);
+            (w .0, rw long (w .1), part-at 512 count (w .0) prepared (w .1) ∙ w .2);
       };
       before = o .before;
       behind = o .behind;
@@ -163,18 +163,18 @@ open-all nodes arguments counts table₀ table count i n s c l e m a b o =
     few : count ≤ maxNodes
     few = let f = o .gathered .few in omega (arith, f)
 
-    long : length (take count (drop 512 table)) ≡ count
-    long = let z = o .size in part-long 512 count table (omega (arith, z, l, few))
+    long : length (take count (drop 512 prepared)) ≡ count
+    long = let z = o .size in part-long 512 count prepared (omega (arith, z, l, few))
 
-    at : (p : ℕ) → p < length (take count (drop 512 table)) → word (take count (drop 512 table)) p ≡ word table (512 + p)
-    at p h = part-at 512 count p table (rw long at h)
+    at : (p : ℕ) → p < length (take count (drop 512 prepared)) → word (take count (drop 512 prepared)) p ≡ word prepared (512 + p)
+    at p h = part-at 512 count p prepared (rw long at h)
 
-    node : (p : ℕ) → p < count → word table (512 + p) < nodeCount nodes
+    node : (p : ℕ) → p < count → word prepared (512 + p) < nodeCount nodes
     node p h = let x = o .gathered .below p h in omega (arith, x)
 
-    applied : (p : ℕ) → p < count → kindOf nodes (word table (512 + p)) ≡ 0 → ⊥
+    applied : (p : ℕ) → p < count → kindOf nodes (word prepared (512 + p)) ≡ 0 → ⊥
     applied p h =
-        counted-application nodes arguments s (word table (512 + p)) 0 (node p h) (looked-at c (word table (512 + p)) 0 (node p h) (o .gathered .has p h))
+        counted-application nodes arguments s (word prepared (512 + p)) 0 (node p h) (looked-at c (word prepared (512 + p)) 0 (node p h) (o .gathered .has p h))
 
 -- the key of a node depends on the names of its arguments
 key-same-up-to : (nodes arguments heads heads′ names names′ : List ℕ) (h : ℕ) → ((j : ℕ) → j < countOf nodes h → valueName heads′ names′ (argumentOf nodes arguments h j) ≡ valueName heads names (argumentOf nodes arguments h j)) → (j : ℕ) → j ≤ countOf nodes h → keyUpTo nodes arguments heads′ names′ h j ≡ keyUpTo nodes arguments heads names h j
@@ -225,10 +225,10 @@ head-false nodes counts heads i e m =
     false≢true (sym e ∙ rw (marked-test nodes counts i (m .marked), ne-eqb (countOf nodes i) 0 (λ z. omega (arith, z, c)), eq-eqb (classOf heads i) i (m .own)))
 
 -- what the words are after a closed application was noted: the key is below the place that is written first
-pub noted-read : (nodes arguments heads names table : List ℕ) (place i k : ℕ) → k ≡ keyOf nodes arguments heads names i → k < keys → set (set (set table (768 + place) i) (256 + place) (word (set table (768 + place) i) k)) k (place + 1) ≡ closedNoted nodes arguments heads names table place i
+pub noted-read : (nodes arguments heads names prepared : List ℕ) (place i k : ℕ) → k ≡ keyOf nodes arguments heads names i → k < keys → set (set (set prepared (768 + place) i) (256 + place) (word (set prepared (768 + place) i) k)) k (place + 1) ≡ closedNoted nodes arguments heads names prepared place i
 unfolding closedNoted
-noted-read nodes arguments heads names table place i k e h =
-    ap (λ (x : ℕ). set (set (set table (768 + place) i) (256 + place) x) k (place + 1)) (getD-set-other table (768 + place) k i 0 (λ z. omega (arith, z, h))) ∙ rw e refl
+noted-read nodes arguments heads names prepared place i k e h =
+    ap (λ (x : ℕ). set (set (set prepared (768 + place) i) (256 + place) x) k (place + 1)) (getD-set-other prepared (768 + place) k i 0 (λ z. omega (arith, z, h))) ∙ rw e refl
 
 -- a representative depends on the node at its place
 representative-same : (nodes l l′ names : List ℕ) (q : ℕ) → word l′ q ≡ word l q → Representative nodes l names q → Representative nodes l′ names q
@@ -239,23 +239,23 @@ unfolding keyAt
 key-at-same nodes arguments heads l l′ names q e = ap (keyOf nodes arguments heads names) e
 
 -- Of the nodes before node i, the closed applications with arguments that are heads are listed, and stand in the table.
-pub record ClosedBefore (nodes arguments counts heads table₀ table : List ℕ) (count i : ℕ) : Type 0 where
-  pub size : length table ≡ length table₀
-  pub gathered : Gathered (IsClosedHead nodes counts heads) 768 table count i
-  pub chained : (names : List ℕ) → length names ≡ nodeCount nodes → Themselves names → Chained (Representative nodes (take count (drop 768 table)) names) (keyAt nodes arguments heads (take count (drop 768 table)) names) (take 256 table) (take 256 (drop 256 table)) count
-  pub open-kept : (k : ℕ) → 512 ≤ k → k < 768 → word table k ≡ word table₀ k
+pub record ClosedBefore (nodes arguments counts heads prepared₀ prepared : List ℕ) (count i : ℕ) : Type 0 where
+  pub size : length prepared ≡ length prepared₀
+  pub gathered : Gathered (IsClosedHead nodes counts heads) 768 prepared count i
+  pub chained : (names : List ℕ) → length names ≡ nodeCount nodes → Themselves names → Chained (Representative nodes (take count (drop 768 prepared)) names) (keyAt nodes arguments heads (take count (drop 768 prepared)) names) (take 256 prepared) (take 256 (drop 256 prepared)) count
+  pub open-kept : (k : ℕ) → 512 ≤ k → k < 768 → word prepared k ≡ word prepared₀ k
 
 -- at first there are none
-pub closed-list-none : (nodes arguments counts heads table : List ℕ) → ((k : ℕ) → k < 256 → word table k ≡ 0) → ClosedBefore nodes arguments counts heads table table 0 0
-closed-list-none nodes arguments counts heads table z =
+pub closed-list-none : (nodes arguments counts heads prepared : List ℕ) → ((k : ℕ) → k < 256 → word prepared k ≡ 0) → ClosedBefore nodes arguments counts heads prepared prepared 0 0
+closed-list-none nodes arguments counts heads prepared z =
     record {
       size = refl;
-      gathered = gathered-none (IsClosedHead nodes counts heads) 768 table;
+      gathered = gathered-none (IsClosedHead nodes counts heads) 768 prepared;
       chained = λ names l t.
           record {
             bucket-reaches = λ q h. absurd (omega arith);
             bucket-is = λ x b h e.
-                let y : word (take 256 table) x ≡ 0 = getD-take 256 table x 0 h ∙ z x h in
+                let y : word (take 256 prepared) x ≡ 0 = getD-take 256 prepared x 0 h ∙ z x h in
                 absurd (omega (arith, e, y));
             earlier-reaches = λ r q l h. absurd (omega arith);
             earlier-is = λ q b h. absurd (omega arith);
@@ -263,72 +263,72 @@ closed-list-none nodes arguments counts heads table z =
       open-kept = λ k h l. refl;
     }
 
-module _ (nodes arguments counts heads table₀ table : List ℕ) (count i : ℕ) (o : ClosedBefore nodes arguments counts heads table₀ table count i) where
+module _ (nodes arguments counts heads prepared₀ prepared : List ℕ) (count i : ℕ) (o : ClosedBefore nodes arguments counts heads prepared₀ prepared count i) where
   -- a node that is none
-  pub closed-list-skip : (v : Bool) → v ≡ closedHeadTest nodes counts heads i → v ≡ false → {table′ : List ℕ} {count′ : ℕ} → table′ ≡ table → count′ ≡ count → ClosedBefore nodes arguments counts heads table₀ table′ count′ (i + 1)
+  pub closed-list-skip : (v : Bool) → v ≡ closedHeadTest nodes counts heads i → v ≡ false → {prepared′ : List ℕ} {count′ : ℕ} → prepared′ ≡ prepared → count′ ≡ count → ClosedBefore nodes arguments counts heads prepared₀ prepared′ count′ (i + 1)
   closed-list-skip v e f x y =
       rw (x, y)
       (record {
         size = o .size;
-        gathered = gathered-skip (IsClosedHead nodes counts heads) 768 table count i (o .gathered) (head-false nodes counts heads i (sym e ∙ f));
+        gathered = gathered-skip (IsClosedHead nodes counts heads) 768 prepared count i (o .gathered) (head-false nodes counts heads i (sym e ∙ f));
         chained = o .chained;
         open-kept = o .open-kept;
       })
 
-  module _ (names : List ℕ) (p : Partition (nodeCount nodes) heads) (s : Sections nodes arguments) (long : length names ≡ nodeCount nodes) (themselves : Themselves names) (h : i < nodeCount nodes) (l : length table₀ ≡ preparedWords) (few : count < maxNodes) where
+  module _ (names : List ℕ) (p : Partition (nodeCount nodes) heads) (s : Sections nodes arguments) (long : length names ≡ nodeCount nodes) (themselves : Themselves names) (h : i < nodeCount nodes) (l : length prepared₀ ≡ preparedWords) (few : count < maxNodes) where
     abbrev k : ℕ
     k = keyOf nodes arguments heads names i
 
     abbrev noted : List ℕ
-    noted = set (set (set table (768 + count) i) (256 + count) (word table k)) k (count + 1)
+    noted = set (set (set prepared (768 + count) i) (256 + count) (word prepared k)) k (count + 1)
 
     small : k < 256
     small = key-small nodes arguments heads names i
 
-    size : length table ≡ 1026
+    size : length prepared ≡ 1026
     size = o .size ∙ l
 
     -- what is not written stays
-    noted-other : (m : ℕ) → (m ≡ 768 + count → ⊥) → (m ≡ 256 + count → ⊥) → (m ≡ k → ⊥) → word noted m ≡ word table m
+    noted-other : (m : ℕ) → (m ≡ 768 + count → ⊥) → (m ≡ 256 + count → ⊥) → (m ≡ k → ⊥) → word noted m ≡ word prepared m
     noted-other m a b c =
-        getD-set-other (set (set table (768 + count) i) (256 + count) (word table k)) k m (count + 1) 0 c
-        ∙ getD-set-other (set table (768 + count) i) (256 + count) m (word table k) 0 b
-        ∙ getD-set-other table (768 + count) m i 0 a
+        getD-set-other (set (set prepared (768 + count) i) (256 + count) (word prepared k)) k m (count + 1) 0 c
+        ∙ getD-set-other (set prepared (768 + count) i) (256 + count) m (word prepared k) 0 b
+        ∙ getD-set-other prepared (768 + count) m i 0 a
 
     noted-here : word noted (768 + count) ≡ i
     noted-here =
-        getD-set-other (set (set table (768 + count) i) (256 + count) (word table k)) k (768 + count) (count + 1) 0 (λ z. omega (arith, z, small))
-        ∙ getD-set-other (set table (768 + count) i) (256 + count) (768 + count) (word table k) 0 (λ z. omega (arith, z))
-        ∙ getD-set-same table (768 + count) i 0 (omega (arith, size, few))
+        getD-set-other (set (set prepared (768 + count) i) (256 + count) (word prepared k)) k (768 + count) (count + 1) 0 (λ z. omega (arith, z, small))
+        ∙ getD-set-other (set prepared (768 + count) i) (256 + count) (768 + count) (word prepared k) 0 (λ z. omega (arith, z))
+        ∙ getD-set-same prepared (768 + count) i 0 (omega (arith, size, few))
 
-    noted-list : (q : ℕ) → q < count → word noted (768 + q) ≡ word table (768 + q)
+    noted-list : (q : ℕ) → q < count → word noted (768 + q) ≡ word prepared (768 + q)
     noted-list q b = noted-other (768 + q) (λ z. omega (arith, z, b)) (λ z. omega (arith, z, b, few)) (λ z. omega (arith, z, small))
 
     -- the list so far, as a part
-    list-kept : (q : ℕ) → q < count → word (take (count + 1) (drop 768 noted)) q ≡ word (take count (drop 768 table)) q
+    list-kept : (q : ℕ) → q < count → word (take (count + 1) (drop 768 noted)) q ≡ word (take count (drop 768 prepared)) q
     list-kept q b =
-        part-at 768 (count + 1) q noted (omega arith) ∙ noted-list q b ∙ sym (part-at 768 count q table b)
+        part-at 768 (count + 1) q noted (omega arith) ∙ noted-list q b ∙ sym (part-at 768 count q prepared b)
 
     list-here : word (take (count + 1) (drop 768 noted)) count ≡ i
     list-here = part-at 768 (count + 1) count noted (omega arith) ∙ noted-here
 
     -- the two parts of the table
-    noted-buckets : take 256 noted ≡ set (take 256 table) k (count + 1)
+    noted-buckets : take 256 noted ≡ set (take 256 prepared) k (count + 1)
     noted-buckets =
-        take-set-lt 256 (set (set table (768 + count) i) (256 + count) (word table k)) k (count + 1) small
-        ∙ ap (λ (t : List ℕ). set t k (count + 1)) (take-set-le 256 (set table (768 + count) i) (256 + count) (word table k) (omega arith) ∙ take-set-le 256 table (768 + count) i (omega arith))
+        take-set-lt 256 (set (set prepared (768 + count) i) (256 + count) (word prepared k)) k (count + 1) small
+        ∙ ap (λ (t : List ℕ). set t k (count + 1)) (take-set-le 256 (set prepared (768 + count) i) (256 + count) (word prepared k) (omega arith) ∙ take-set-le 256 prepared (768 + count) i (omega arith))
 
-    noted-earlier : take 256 (drop 256 noted) ≡ set (take 256 (drop 256 table)) count (word (take 256 table) k)
+    noted-earlier : take 256 (drop 256 noted) ≡ set (take 256 (drop 256 prepared)) count (word (take 256 prepared) k)
     noted-earlier =
-        ap (take 256) (drop-set-lt 256 (set (set table (768 + count) i) (256 + count) (word table k)) k (count + 1) small ∙ drop-set-add 256 (set table (768 + count) i) count (word table k))
-        ∙ take-set-lt 256 (drop 256 (set table (768 + count) i)) count (word table k) few
-        ∙ ap (λ (t : List ℕ). set t count (word table k)) far
-        ∙ ap (set (take 256 (drop 256 table)) count) (sym (getD-take 256 table k 0 small))
+        ap (take 256) (drop-set-lt 256 (set (set prepared (768 + count) i) (256 + count) (word prepared k)) k (count + 1) small ∙ drop-set-add 256 (set prepared (768 + count) i) count (word prepared k))
+        ∙ take-set-lt 256 (drop 256 (set prepared (768 + count) i)) count (word prepared k) few
+        ∙ ap (λ (t : List ℕ). set t count (word prepared k)) far
+        ∙ ap (set (take 256 (drop 256 prepared)) count) (sym (getD-take 256 prepared k 0 small))
       where
-        far : take 256 (drop 256 (set table (768 + count) i)) ≡ take 256 (drop 256 table)
+        far : take 256 (drop 256 (set prepared (768 + count) i)) ≡ take 256 (drop 256 prepared)
         far =
             let e : 768 + count ≡ 256 + (512 + count) = omega arith in
-            rw e (part-before 256 256 (512 + count) i table (omega arith))
+            rw e (part-before 256 256 (512 + count) i prepared (omega arith))
 
     -- a key does not depend on which names there are
     one-key : (names′ : List ℕ) → length names′ ≡ nodeCount nodes → Themselves names′ → keyOf nodes arguments heads names′ i ≡ k
@@ -344,30 +344,30 @@ module _ (nodes arguments counts heads table₀ table : List ℕ) (count i : ℕ
     unfolding keyAt
     chained-put c names′ m t =
         rw (noted-buckets, noted-earlier)
-        (chained-add (Representative nodes before names′) (Representative nodes after names′) (keyAt nodes arguments heads before names′) (keyAt nodes arguments heads after names′) (take 256 table) (take 256 (drop 256 table)) count (λ q b. representative-same nodes before after names′ q (list-kept q b)) (λ q b. representative-same nodes after before names′ q (sym (list-kept q b))) (λ q b. key-at-same nodes arguments heads before after names′ q (list-kept q b)) (o .chained names′ m t) k (record { application = rw list-here (c .marked .applied); itself = rw list-here (t .itself i (omega (arith, m, h))) }) (ap (keyOf nodes arguments heads names′) list-here ∙ one-key names′ m t) small (length-take-le 256 table (omega (arith, size))) (let z : length (take 256 (drop 256 table)) ≡ 256 = part-long 256 256 table (omega (arith, size)) in omega (arith, z, few)))
+        (chained-add (Representative nodes before names′) (Representative nodes after names′) (keyAt nodes arguments heads before names′) (keyAt nodes arguments heads after names′) (take 256 prepared) (take 256 (drop 256 prepared)) count (λ q b. representative-same nodes before after names′ q (list-kept q b)) (λ q b. representative-same nodes after before names′ q (sym (list-kept q b))) (λ q b. key-at-same nodes arguments heads before after names′ q (list-kept q b)) (o .chained names′ m t) k (record { application = rw list-here (c .marked .applied); itself = rw list-here (t .itself i (omega (arith, m, h))) }) (ap (keyOf nodes arguments heads names′) list-here ∙ one-key names′ m t) small (length-take-le 256 prepared (omega (arith, size))) (let z : length (take 256 (drop 256 prepared)) ≡ 256 = part-long 256 256 prepared (omega (arith, size)) in omega (arith, z, few)))
       where
         before : List ℕ
-        before = take count (drop 768 table)
+        before = take count (drop 768 prepared)
 
         after : List ℕ
         after = take (count + 1) (drop 768 noted)
 
     -- one that is
-    pub closed-list-put : (v : Bool) → v ≡ closedHeadTest nodes counts heads i → v ≡ true → (after : List ℕ) → after ≡ closedNoted nodes arguments heads names table count i → {table′ : List ℕ} {count′ : ℕ} → table′ ≡ after → count′ ≡ count + 1 → ClosedBefore nodes arguments counts heads table₀ table′ count′ (i + 1)
+    pub closed-list-put : (v : Bool) → v ≡ closedHeadTest nodes counts heads i → v ≡ true → (after : List ℕ) → after ≡ closedNoted nodes arguments heads names prepared count i → {prepared′ : List ℕ} {count′ : ℕ} → prepared′ ≡ after → count′ ≡ count + 1 → ClosedBefore nodes arguments counts heads prepared₀ prepared′ count′ (i + 1)
     unfolding closedNoted
     closed-list-put v e f after d x y =
         let c = head-true nodes counts heads i h (sym e ∙ f) in
         rw (x, y, d)
         (record {
-          size = length-set (set (set table (768 + count) i) (256 + count) (word table k)) k (count + 1) ∙ length-set (set table (768 + count) i) (256 + count) (word table k) ∙ length-set table (768 + count) i ∙ o .size;
-          gathered = gathered-put (IsClosedHead nodes counts heads) 768 table count i (o .gathered) noted c noted-list noted-here;
+          size = length-set (set (set prepared (768 + count) i) (256 + count) (word prepared k)) k (count + 1) ∙ length-set (set prepared (768 + count) i) (256 + count) (word prepared k) ∙ length-set prepared (768 + count) i ∙ o .size;
+          gathered = gathered-put (IsClosedHead nodes counts heads) 768 prepared count i (o .gathered) noted c noted-list noted-here;
           chained = chained-put c;
           open-kept = λ m a b. noted-other m (λ z. omega (arith, z, b)) (λ z. omega (arith, z, a, few)) (λ z. omega (arith, z, a, small)) ∙ o .open-kept m a b;
         })
 
 -- the closed applications of all nodes
-pub closed-list-all : (nodes arguments counts heads table₀ table : List ℕ) (count i n : ℕ) → length table₀ ≡ preparedWords → n ≡ nodeCount nodes → n ≤ maxNodes → i ≤ n → n ≤ i → ClosedBefore nodes arguments counts heads table₀ table count i → ListsClosed nodes arguments counts heads table₀ count table
-closed-list-all nodes arguments counts heads table₀ table count i n l e m a b o =
+pub closed-list-all : (nodes arguments counts heads prepared₀ prepared : List ℕ) (count i n : ℕ) → length prepared₀ ≡ preparedWords → n ≡ nodeCount nodes → n ≤ maxNodes → i ≤ n → n ≤ i → ClosedBefore nodes arguments counts heads prepared₀ prepared count i → ListsClosed nodes arguments counts heads prepared₀ count prepared
+closed-list-all nodes arguments counts heads prepared₀ prepared count i n l e m a b o =
     record {
       size = o .size;
       few = few;
@@ -377,112 +377,112 @@ closed-list-all nodes arguments counts heads table₀ table count i n l e m a b 
         own = λ p h. rw (at p h) (o .gathered .has p (rw long at h) .own);
         rising = λ p q g h.
             let u : q < count = rw long at h in
-            let x = part-at 768 count p table (omega (arith, g, u)) in
-            let y = part-at 768 count q table u in
+            let x = part-at 768 count p prepared (omega (arith, g, u)) in
+            let y = part-at 768 count q prepared u in
             let r = o .gathered .rising p q g u in
             omega (arith, x, y, r);
         whole = λ k c f d.
             let v = c .node in
             let w = o .gathered .whole k (omega (arith, v)) (record { marked = c; compound = f; own = d }) in
-            (w .0, rw long (w .1), part-at 768 count (w .0) table (w .1) ∙ w .2);
+            (w .0, rw long (w .1), part-at 768 count (w .0) prepared (w .1) ∙ w .2);
       };
       chained = record {
-        buckets-long = length-take-le 256 table (omega (arith, size));
-        earlier-long = part-long 256 256 table (omega (arith, size));
+        buckets-long = length-take-le 256 prepared (omega (arith, size));
+        earlier-long = part-long 256 256 prepared (omega (arith, size));
         chained = λ names h t. rw long (o .chained names h t);
       };
       open-kept = o .open-kept;
     }
   where
-    size : length table ≡ 1026
+    size : length prepared ≡ 1026
     size = o .size ∙ l
 
     few : count ≤ maxNodes
     few = let f = o .gathered .few in omega (arith, f)
 
-    long : length (take count (drop 768 table)) ≡ count
-    long = part-long 768 count table (omega (arith, size, few))
+    long : length (take count (drop 768 prepared)) ≡ count
+    long = part-long 768 count prepared (omega (arith, size, few))
 
-    at : (p : ℕ) → p < length (take count (drop 768 table)) → word (take count (drop 768 table)) p ≡ word table (768 + p)
-    at p h = part-at 768 count p table (rw long at h)
+    at : (p : ℕ) → p < length (take count (drop 768 prepared)) → word (take count (drop 768 prepared)) p ≡ word prepared (768 + p)
+    at p h = part-at 768 count p prepared (rw long at h)
 
 -- as many words as there are to be
-pub zeros-long : (table : List ℕ) → table ≡ replicate preparedWords 0 → length table ≡ preparedWords
-zeros-long table e = ap length e ∙ length-replicate {A = ℕ} preparedWords 0
+pub zeros-long : (prepared : List ℕ) → prepared ≡ replicate preparedWords 0 → length prepared ≡ preparedWords
+zeros-long prepared e = ap length e ∙ length-replicate {A = ℕ} preparedWords 0
 
 -- before anything is listed the words are all 0
-pub prepared-zero : (table₀ nodes counts table : List ℕ) (r : ℕ) → table₀ ≡ replicate preparedWords 0 → ListsOpen nodes counts table₀ r table → (length table ≡ preparedWords) × ((k : ℕ) → k < 256 → word table k ≡ 0)
-prepared-zero table₀ nodes counts table r e o =
-    (o .size ∙ zeros-long table₀ e, λ k h. o .before k (omega arith) ∙ ap (λ (t : List ℕ). word t k) e ∙ getD-replicate {A = ℕ} preparedWords k 0 0 (omega arith))
+pub prepared-zero : (prepared₀ nodes counts prepared : List ℕ) (r : ℕ) → prepared₀ ≡ replicate preparedWords 0 → ListsOpen nodes counts prepared₀ r prepared → (length prepared ≡ preparedWords) × ((k : ℕ) → k < 256 → word prepared k ≡ 0)
+prepared-zero prepared₀ nodes counts prepared r e o =
+    (o .size ∙ zeros-long prepared₀ e, λ k h. o .before k (omega arith) ∙ ap (λ (t : List ℕ). word t k) e ∙ getD-replicate {A = ℕ} preparedWords k 0 0 (omega arith))
 
 -- the places of the two counts
-pub count-places : (nodes arguments counts heads table₀ opened table : List ℕ) (r c : ℕ) → table₀ ≡ replicate preparedWords 0 → ListsOpen nodes counts table₀ r opened → ListsClosed nodes arguments counts heads opened c table → (1024 < length table) × (1025 < length (set table 1024 r))
-count-places nodes arguments counts heads table₀ opened table r c e o d =
-    let z : length table ≡ preparedWords = d .size ∙ o .size ∙ zeros-long table₀ e in
-    let y = length-set table 1024 r in
+pub count-places : (nodes arguments counts heads prepared₀ opened prepared : List ℕ) (r c : ℕ) → prepared₀ ≡ replicate preparedWords 0 → ListsOpen nodes counts prepared₀ r opened → ListsClosed nodes arguments counts heads opened c prepared → (1024 < length prepared) × (1025 < length (set prepared 1024 r))
+count-places nodes arguments counts heads prepared₀ opened prepared r c e o d =
+    let z : length prepared ≡ preparedWords = d .size ∙ o .size ∙ zeros-long prepared₀ e in
+    let y = length-set prepared 1024 r in
     (omega (arith, z), omega (arith, z, y))
 
-module _ (nodes arguments counts heads table₀ opened table : List ℕ) (r c : ℕ) (l : length table₀ ≡ preparedWords) (o : ListsOpen nodes counts table₀ r opened) (d : ListsClosed nodes arguments counts heads opened c table) where
+module _ (nodes arguments counts heads prepared₀ opened prepared : List ℕ) (r c : ℕ) (l : length prepared₀ ≡ preparedWords) (o : ListsOpen nodes counts prepared₀ r opened) (d : ListsClosed nodes arguments counts heads opened c prepared) where
   abbrev full : List ℕ
-  full = set (set table 1024 r) 1025 c
+  full = set (set prepared 1024 r) 1025 c
 
-  table-size : length table ≡ 1026
+  table-size : length prepared ≡ 1026
   table-size = d .size ∙ o .size ∙ l
 
   at-open : word full 1024 ≡ r
   at-open =
-      getD-set-other (set table 1024 r) 1025 1024 c 0 (λ z. omega (arith, z)) ∙ getD-set-same table 1024 r 0 (omega (arith, table-size))
+      getD-set-other (set prepared 1024 r) 1025 1024 c 0 (λ z. omega (arith, z)) ∙ getD-set-same prepared 1024 r 0 (omega (arith, table-size))
 
   at-closed : word full 1025 ≡ c
   at-closed =
-      let z = length-set table 1024 r in
-      getD-set-same (set table 1024 r) 1025 c 0 (omega (arith, z, table-size))
+      let z = length-set prepared 1024 r in
+      getD-set-same (set prepared 1024 r) 1025 c 0 (omega (arith, z, table-size))
 
   -- a part before the two counts
-  part-full : (start n : ℕ) → start + n ≤ 1024 → take n (drop start full) ≡ take n (drop start table)
+  part-full : (start n : ℕ) → start + n ≤ 1024 → take n (drop start full) ≡ take n (drop start prepared)
   part-full start n h =
       let e : 1025 ≡ start + (1025 - start) = omega arith in
       let f : 1024 ≡ start + (1024 - start) = omega arith in
-      ap (λ (i : ℕ). take n (drop start (set (set table 1024 r) i c))) e ∙ part-before start n (1025 - start) c (set table 1024 r) (omega arith) ∙ ap (λ (i : ℕ). take n (drop start (set table i r))) f ∙ part-before start n (1024 - start) r table (omega arith)
+      ap (λ (i : ℕ). take n (drop start (set (set prepared 1024 r) i c))) e ∙ part-before start n (1025 - start) c (set prepared 1024 r) (omega arith) ∙ ap (λ (i : ℕ). take n (drop start (set prepared i r))) f ∙ part-before start n (1024 - start) r prepared (omega arith)
 
   -- the open ones stay listed
-  opens-kept : take r (drop 512 table) ≡ take r (drop 512 opened)
+  opens-kept : take r (drop 512 prepared) ≡ take r (drop 512 opened)
   opens-kept =
-      ext-getD 0 (take r (drop 512 table)) (take r (drop 512 opened)) (long ∙ sym (part-long 512 r opened (omega (arith, z, f, l))))
+      ext-getD 0 (take r (drop 512 prepared)) (take r (drop 512 opened)) (long ∙ sym (part-long 512 r opened (omega (arith, z, f, l))))
       (λ p h.
       let q : p < r = rw long at h in
-      part-at 512 r p table q ∙ d .open-kept (512 + p) (omega arith) (omega (arith, q, f)) ∙ sym (part-at 512 r p opened q))
+      part-at 512 r p prepared q ∙ d .open-kept (512 + p) (omega arith) (omega (arith, q, f)) ∙ sym (part-at 512 r p opened q))
     where
       f : r ≤ maxNodes
       f = o .few
 
-      z : length opened ≡ length table₀
+      z : length opened ≡ length prepared₀
       z = o .size
 
-      long : length (take r (drop 512 table)) ≡ r
-      long = part-long 512 r table (omega (arith, table-size, f))
+      long : length (take r (drop 512 prepared)) ≡ r
+      long = part-long 512 r prepared (omega (arith, table-size, f))
 
   open-part : openIn full ≡ take r (drop 512 opened)
   unfolding openIn
   open-part = let f = o .few in rw at-open (part-full 512 r (omega (arith, f)) ∙ opens-kept)
 
-  closed-part : closedIn full ≡ take c (drop 768 table)
+  closed-part : closedIn full ≡ take c (drop 768 prepared)
   unfolding closedIn
   closed-part = let f = d .few in rw at-closed (part-full 768 c (omega (arith, f)))
 
-  bucket-part : bucketsIn full ≡ take 256 table
+  bucket-part : bucketsIn full ≡ take 256 prepared
   unfolding bucketsIn
-  bucket-part = take-set-le 256 (set table 1024 r) 1025 c (omega arith) ∙ take-set-le 256 table 1024 r (omega arith)
+  bucket-part = take-set-le 256 (set prepared 1024 r) 1025 c (omega arith) ∙ take-set-le 256 prepared 1024 r (omega arith)
 
-  earlier-part : earlierIn full ≡ take 256 (drop 256 table)
+  earlier-part : earlierIn full ≡ take 256 (drop 256 prepared)
   unfolding earlierIn
   earlier-part = part-full 256 256 (omega arith)
 
   -- all is prepared
-  pub prepared-whole : PreparedOpen nodes arguments counts heads (set (set table 1024 r) 1025 c)
+  pub prepared-whole : PreparedOpen nodes arguments counts heads (set (set prepared 1024 r) 1025 c)
   prepared-whole =
       record {
-        size = length-set (set table 1024 r) 1025 c ∙ length-set table 1024 r ∙ table-size;
+        size = length-set (set prepared 1024 r) 1025 c ∙ length-set prepared 1024 r ∙ table-size;
         open-few = rw at-open (o .few);
         closed-few = rw at-closed (d .few);
         open-listed = rw open-part (o .listed);
@@ -512,9 +512,9 @@ kept-key nodes arguments counts heads heads′ l c k names q m =
     key-same nodes arguments heads heads′ names names (word l q) (λ j b. ap (word names) (k (argumentOf nodes arguments (word l q) j) (c .below (word l q) (m .node) m j b)))
 
 -- what is prepared stays right where closed applications keep their heads
-pub prepared-kept : (nodes arguments counts heads heads′ table : List ℕ) → Sections nodes arguments → Counts nodes arguments counts (nodeCount nodes) → KeepsClosed nodes counts heads heads′ → Prepared nodes arguments counts heads table → Prepared nodes arguments counts heads′ table
-prepared-kept nodes arguments counts heads heads′ table s c k (nothing e n) = nothing e n
-prepared-kept nodes arguments counts heads heads′ table s c k (with-open f) =
+pub prepared-kept : (nodes arguments counts heads heads′ prepared : List ℕ) → Sections nodes arguments → Counts nodes arguments counts (nodeCount nodes) → KeepsClosed nodes counts heads heads′ → Prepared nodes arguments counts heads prepared → Prepared nodes arguments counts heads′ prepared
+prepared-kept nodes arguments counts heads heads′ prepared s c k (nothing e n) = nothing e n
+prepared-kept nodes arguments counts heads heads′ prepared s c k (with-open f) =
     with-open
     (record {
       size = f .size;
@@ -524,19 +524,19 @@ prepared-kept nodes arguments counts heads heads′ table s c k (with-open f) =
       closed-listed = record {
         marked = l .marked;
         compound = l .compound;
-        own = λ p h. k (word (closedIn table) p) (l .marked p h) ∙ l .own p h;
+        own = λ p h. k (word (closedIn prepared) p) (l .marked p h) ∙ l .own p h;
         rising = l .rising;
         whole = λ i m d e. l .whole i m d (sym (k i m) ∙ e);
       };
       closed-table = record {
         buckets-long = t .buckets-long;
         earlier-long = t .earlier-long;
-        chained = λ names a b. chained-kept (Representative nodes (closedIn table) names) (keyAt nodes arguments heads (closedIn table) names) (keyAt nodes arguments heads′ (closedIn table) names) (bucketsIn table) (earlierIn table) (length (closedIn table)) (λ q h. kept-key nodes arguments counts heads heads′ (closedIn table) c k names q (l .marked q h)) (t .chained names a b);
+        chained = λ names a b. chained-kept (Representative nodes (closedIn prepared) names) (keyAt nodes arguments heads (closedIn prepared) names) (keyAt nodes arguments heads′ (closedIn prepared) names) (bucketsIn prepared) (earlierIn prepared) (length (closedIn prepared)) (λ q h. kept-key nodes arguments counts heads heads′ (closedIn prepared) c k names q (l .marked q h)) (t .chained names a b);
       };
     })
   where
-    l : ClosedListed nodes counts heads (closedIn table)
+    l : ClosedListed nodes counts heads (closedIn prepared)
     l = f .closed-listed
 
-    t : ClosedTable nodes arguments heads (closedIn table) (bucketsIn table) (earlierIn table)
+    t : ClosedTable nodes arguments heads (closedIn prepared) (bucketsIn prepared) (earlierIn prepared)
     t = f .closed-table

@@ -37,20 +37,20 @@ pub record Pairable (nodes left right entry : List ℕ) (i : ℕ) : Type 0 where
   pub right-nodes : (j : ℕ) → j < length right → word right j < nodeCount nodes
 
 -- In the lent words before `at`, an entry lies at a place that has the binding words of pairs with this key, which have a unifier.
-pub record Lies (nodes arguments left right : List ℕ) (key place : ℕ) (lent : List ℕ) (at : ℕ) : Type 0 where
+pub record Lies (nodes arguments left right : List ℕ) (key place : ℕ) (out : List ℕ) (at : ℕ) : Type 0 where
   pub digits : List ℕ
   pub long : length digits ≡ length left
   pub positive : (j : ℕ) → j < length digits → 0 < word digits j
   pub keyed : key ≡ suc (keyOfDigits (length right) digits)
   pub room : place + widthOf nodes arguments left right ≤ at
   pub unifiable : outcome (nodesFrom nodes arguments) (pairedBy left right digits []) ≡ unified
-  pub bound : take (length (variablesOf (nodesFrom nodes arguments))) (drop (place + (length left + length right)) lent) ≡ wordsOf (nodesFrom nodes arguments) (pairedBy left right digits [])
+  pub bound : take (length (variablesOf (nodesFrom nodes arguments))) (drop (place + (length left + length right)) out) ≡ wordsOf (nodesFrom nodes arguments) (pairedBy left right digits [])
 
 -- What is remembered: in each slot nothing, or one more than a key, and a place.
-pub record Remembers (nodes arguments left right memory lent : List ℕ) (at : ℕ) : Type 0 where
+pub record Remembers (nodes arguments left right memory out : List ℕ) (at : ℕ) : Type 0 where
   pub size : length memory ≡ slots + slots
-  pub room : at ≤ length lent
-  pub lies : (s : ℕ) → s < slots → (word memory s ≡ 0 → ⊥) → Lies nodes arguments left right (word memory s) (word memory (slots + s)) lent at
+  pub room : at ≤ length out
+  pub lies : (s : ℕ) → s < slots → (word memory s ≡ 0 → ⊥) → Lies nodes arguments left right (word memory s) (word memory (slots + s)) out at
 
 -- The binding words of the pairs of the first i left digits stand behind the digits of an entry.
 pub record Bound (nodes arguments left right entry : List ℕ) (i : ℕ) (entry′ : List ℕ) : Type 0 where

@@ -68,7 +68,7 @@ pub record Branching (nodes arguments left right entry : List ℕ) (key weight u
   pub weighed : weight ≡ 16 ^ i
 
 -- What the walk needs to know at depth i: of the sections and the labels, of what is known and prepared, of the classes and the branch, of what is remembered, and of the lent words.
-pub record Walking (nodes arguments left right : List ℕ) (labels : Labels) (known prepared heads next : List ℕ) (key weight unpaired i : ℕ) (entry memory lent : List ℕ) (at : ℕ) : Type 0 where
+pub record Walking (nodes arguments left right : List ℕ) (labels : Labels) (known prepared heads next : List ℕ) (key weight unpaired i : ℕ) (entry memory out : List ℕ) (at : ℕ) : Type 0 where
   pub listable : Listable nodes arguments left right labels
   pub known-right : KnownOf nodes arguments known
   pub partners : MayPair nodes arguments left right (mayIn known)
@@ -77,17 +77,17 @@ pub record Walking (nodes arguments left right : List ℕ) (labels : Labels) (kn
   pub ready : Prepared nodes arguments known heads prepared
   pub standing : Standing nodes arguments left right heads entry i
   pub branching : Branching nodes arguments left right entry key weight unpaired i
-  pub remembers : Remembers nodes arguments left right memory lent at
-  pub room : at ≤ length lent
+  pub remembers : Remembers nodes arguments left right memory out at
+  pub room : at ≤ length out
 
 -- What writing the entries of a branch needs to know: its pairs have a unifier, and their binding words stand behind the digits.
-pub record Ending (nodes arguments left right : List ℕ) (labels : Labels) (key weight unpaired i : ℕ) (entry memory lent : List ℕ) (at : ℕ) : Type 0 where
+pub record Ending (nodes arguments left right : List ℕ) (labels : Labels) (key weight unpaired i : ℕ) (entry memory out : List ℕ) (at : ℕ) : Type 0 where
   pub listable : Listable nodes arguments left right labels
   pub branching : Branching nodes arguments left right entry key weight unpaired i
   pub unifiable : outcome (nodesFrom nodes arguments) (pairsIn left right entry i) ≡ unified
   pub bound : drop (length left + length right) entry ≡ wordsOf (nodesFrom nodes arguments) (pairsIn left right entry i)
-  pub remembers : Remembers nodes arguments left right memory lent at
-  pub room : at ≤ length lent
+  pub remembers : Remembers nodes arguments left right memory out at
+  pub room : at ≤ length out
 
 -- The entries below the branch that stands in an entry at depth i.
 abbrev pub branchEntries : List ℕ → List ℕ → List ℕ → List ℕ → Labels → List ℕ → ℕ → List (List ℕ)
@@ -105,24 +105,24 @@ pub record KeepsBranch (left right : List ℕ) (i : ℕ) (entry entry′ : List 
   pub marks : marksIn left right entry′ ≡ marksIn left right entry
 
 -- Entries es are written; the branch at depth i is as before, and what is remembered is right, unless an entry did not fit.
-pub record WritesBelow (es : List (List ℕ)) (nodes arguments left right : List ℕ) (i : ℕ) (entry memory lent : List ℕ) (at : ℕ) (entry′ memory′ lent′ : List ℕ) (w : Written) : Type 0 where
-  pub writes : Writes es lent at lent′ w
+pub record WritesBelow (es : List (List ℕ)) (nodes arguments left right : List ℕ) (i : ℕ) (entry memory out : List ℕ) (at : ℕ) (entry′ memory′ out′ : List ℕ) (w : Written) : Type 0 where
+  pub writes : Writes es out at out′ w
   pub size : length entry′ ≡ length entry
   pub keeps : w .missed ≡ 0 → KeepsBranch left right i entry entry′
-  pub remembers : w .missed ≡ 0 → Remembers nodes arguments left right memory′ lent′ (w .used)
+  pub remembers : w .missed ≡ 0 → Remembers nodes arguments left right memory′ out′ (w .used)
 
 -- The entries below the branch are written.
 abbrev pub Walked : List ℕ → List ℕ → List ℕ → List ℕ → Labels → ℕ → List ℕ → List ℕ → List ℕ → ℕ → List ℕ → List ℕ → List ℕ → Written → Type 0
-Walked nodes arguments left right labels i entry memory lent at entry′ memory′ lent′ w =
-    WritesBelow (branchEntries nodes arguments left right labels entry i) nodes arguments left right i entry memory lent at entry′ memory′ lent′ w
+Walked nodes arguments left right labels i entry memory out at entry′ memory′ out′ w =
+    WritesBelow (branchEntries nodes arguments left right labels entry i) nodes arguments left right i entry memory out at entry′ memory′ out′ w
 
 -- The same for those of one digit.
 abbrev pub Stepped : List ℕ → List ℕ → List ℕ → List ℕ → Labels → ℕ → ℕ → List ℕ → List ℕ → List ℕ → ℕ → List ℕ → List ℕ → List ℕ → Written → Type 0
-Stepped nodes arguments left right labels i d entry memory lent at entry′ memory′ lent′ w =
-    WritesBelow (digitEntries nodes arguments left right labels entry i d) nodes arguments left right i entry memory lent at entry′ memory′ lent′ w
+Stepped nodes arguments left right labels i d entry memory out at entry′ memory′ out′ w =
+    WritesBelow (digitEntries nodes arguments left right labels entry i d) nodes arguments left right i entry memory out at entry′ memory′ out′ w
 
 -- What is needed where left term i has its digit in the entry, and is paired by it: the pair of a and b is still to be joined to the classes.
-pub record Joining (nodes arguments left right : List ℕ) (labels : Labels) (known prepared heads next : List ℕ) (key weight unpaired i a b : ℕ) (entry memory lent : List ℕ) (at : ℕ) : Type 0 where
+pub record Joining (nodes arguments left right : List ℕ) (labels : Labels) (known prepared heads next : List ℕ) (key weight unpaired i a b : ℕ) (entry memory out : List ℕ) (at : ℕ) : Type 0 where
   pub listable : Listable nodes arguments left right labels
   pub known-right : KnownOf nodes arguments known
   pub partners : MayPair nodes arguments left right (mayIn known)
@@ -134,22 +134,22 @@ pub record Joining (nodes arguments left right : List ℕ) (labels : Labels) (kn
   pub pair : pairsIn left right entry (i + 1) ≡ (a, b) ∷ pairsIn left right entry i
   pub first : a < nodeCount nodes
   pub second : b < nodeCount nodes
-  pub remembers : Remembers nodes arguments left right memory lent at
-  pub room : at ≤ length lent
+  pub remembers : Remembers nodes arguments left right memory out at
+  pub room : at ≤ length out
 
 -- The entries below the branch are written, if the pair of a and b can be joined to those before it.
 abbrev pub WalkedJoined : List ℕ → List ℕ → List ℕ → List ℕ → Labels → ℕ → ℕ → ℕ → List ℕ → List ℕ → List ℕ → ℕ → List ℕ → List ℕ → List ℕ → Written → Type 0
-WalkedJoined nodes arguments left right labels i a b entry memory lent at entry′ memory′ lent′ w =
-    WritesBelow (ifUnified (outcome (nodesFrom nodes arguments) ((a, b) ∷ pairsIn left right entry i)) (branchEntries nodes arguments left right labels entry (i + 1))) nodes arguments left right (i + 1) entry memory lent at entry′ memory′ lent′ w
+WalkedJoined nodes arguments left right labels i a b entry memory out at entry′ memory′ out′ w =
+    WritesBelow (ifUnified (outcome (nodesFrom nodes arguments) ((a, b) ∷ pairsIn left right entry i)) (branchEntries nodes arguments left right labels entry (i + 1))) nodes arguments left right (i + 1) entry memory out at entry′ memory′ out′ w
 
 -- What the loop over digits keeps: those from d on are still to be written, and the branch is as it was.
-pub record Turning (nodes arguments left right : List ℕ) (labels : Labels) (i : ℕ) (entry₀ lent₀ : List ℕ) (at₀ d : ℕ) (entry memory lent : List ℕ) (at : ℕ) : Type 0 where
+pub record Turning (nodes arguments left right : List ℕ) (labels : Labels) (i : ℕ) (entry₀ out₀ : List ℕ) (at₀ d : ℕ) (entry memory out : List ℕ) (at : ℕ) : Type 0 where
   pub first : 0 < d
   pub last : d ≤ suc (length right + labels .right)
   pub size : length entry ≡ length entry₀
   pub keeps : KeepsBranch left right i entry₀ entry
-  pub remembers : Remembers nodes arguments left right memory lent at
-  pub remains : Remains (branchEntries nodes arguments left right labels entry₀ i) lent₀ at₀ (over d (suc (length right + labels .right) - d) (λ e. digitEntries nodes arguments left right labels entry₀ i e)) lent at
+  pub remembers : Remembers nodes arguments left right memory out at
+  pub remains : Remains (branchEntries nodes arguments left right labels entry₀ i) out₀ at₀ (over d (suc (length right + labels .right) - d) (λ e. digitEntries nodes arguments left right labels entry₀ i e)) out at
 
 -- The entries below the branch without digits.
 abbrev pub allEntries : List ℕ → List ℕ → List ℕ → List ℕ → Labels → List (List ℕ)

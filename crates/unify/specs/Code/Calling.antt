@@ -18,6 +18,6 @@ called ns a b lent =
     (cond (ltb lent (length (variablesOf ns))) (refused 9) (ended (outcome ns ((a, b) ∷ []))))
 
 -- The answer r and the lent words after a call are what they should be.
-pub record AnswersByNodes (ns : List Node) (a b : ℕ) (lent : List ℕ) (r : Unification) (lent′ : List ℕ) : Type 0 where
-  pub answer : told r ≡ called ns a b (length lent)
-  pub words : lent′ ≡ wordsAfter (called ns a b (length lent)) (wordsOf ns ((a, b) ∷ [])) lent
+pub record AnswersByNodes (ns : List Node) (a b : ℕ) (out : List ℕ) (r : Unification) (out′ : List ℕ) : Type 0 where
+  pub answer : told r ≡ called ns a b (length out)
+  pub words : out′ ≡ wordsAfter (called ns a b (length out)) (wordsOf ns ((a, b) ∷ [])) out

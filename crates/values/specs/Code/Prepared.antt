@@ -30,49 +30,49 @@ preparedWords = 1026
 
 -- The parts of these words.
 unfoldable pub bucketsIn : List ℕ → List ℕ
-bucketsIn table = take 256 table
+bucketsIn prepared = take 256 prepared
 
 unfoldable pub earlierIn : List ℕ → List ℕ
-earlierIn table = take 256 (drop 256 table)
+earlierIn prepared = take 256 (drop 256 prepared)
 
 unfoldable pub openIn : List ℕ → List ℕ
-openIn table = take (word table 1024) (drop 512 table)
+openIn prepared = take (word prepared 1024) (drop 512 prepared)
 
 unfoldable pub closedIn : List ℕ → List ℕ
-closedIn table = take (word table 1025) (drop 768 table)
+closedIn prepared = take (word prepared 1025) (drop 768 prepared)
 
 -- What is prepared where there are open applications.
-pub record PreparedOpen (nodes arguments counts heads table : List ℕ) : Type 0 where
-  pub size : length table ≡ preparedWords
-  pub open-few : word table 1024 ≤ maxNodes
-  pub closed-few : word table 1025 ≤ maxNodes
-  pub open-listed : OpenListed nodes counts (openIn table)
-  pub closed-listed : ClosedListed nodes counts heads (closedIn table)
-  pub closed-table : ClosedTable nodes arguments heads (closedIn table) (bucketsIn table) (earlierIn table)
+pub record PreparedOpen (nodes arguments counts heads prepared : List ℕ) : Type 0 where
+  pub size : length prepared ≡ preparedWords
+  pub open-few : word prepared 1024 ≤ maxNodes
+  pub closed-few : word prepared 1025 ≤ maxNodes
+  pub open-listed : OpenListed nodes counts (openIn prepared)
+  pub closed-listed : ClosedListed nodes counts heads (closedIn prepared)
+  pub closed-table : ClosedTable nodes arguments heads (closedIn prepared) (bucketsIn prepared) (earlierIn prepared)
 
 -- What is prepared: no words where there are no open applications.
-pub data Prepared (nodes arguments counts heads table : List ℕ) : Type 0 where
-  nothing : length table ≡ 0 → ((i : ℕ) → i < nodeCount nodes → word counts i ≡ 0) → Prepared nodes arguments counts heads table
-  with-open : PreparedOpen nodes arguments counts heads table → Prepared nodes arguments counts heads table
+pub data Prepared (nodes arguments counts heads prepared : List ℕ) : Type 0 where
+  nothing : length prepared ≡ 0 → ((i : ℕ) → i < nodeCount nodes → word counts i ≡ 0) → Prepared nodes arguments counts heads prepared
+  with-open : PreparedOpen nodes arguments counts heads prepared → Prepared nodes arguments counts heads prepared
 
 -- The open applications are listed, r of them; what is not in their part stays.
-pub record ListsOpen (nodes counts table : List ℕ) (r : ℕ) (table′ : List ℕ) : Type 0 where
-  pub size : length table′ ≡ length table
+pub record ListsOpen (nodes counts prepared : List ℕ) (r : ℕ) (prepared′ : List ℕ) : Type 0 where
+  pub size : length prepared′ ≡ length prepared
   pub few : r ≤ maxNodes
-  pub listed : OpenListed nodes counts (take r (drop 512 table′))
-  pub before : (k : ℕ) → k < 512 → word table′ k ≡ word table k
-  pub behind : (k : ℕ) → 768 ≤ k → word table′ k ≡ word table k
+  pub listed : OpenListed nodes counts (take r (drop 512 prepared′))
+  pub before : (k : ℕ) → k < 512 → word prepared′ k ≡ word prepared k
+  pub behind : (k : ℕ) → 768 ≤ k → word prepared′ k ≡ word prepared k
 
 -- The words after closed application i was noted at a place and put into the table.
 unfoldable pub closedNoted : List ℕ → List ℕ → List ℕ → List ℕ → List ℕ → ℕ → ℕ → List ℕ
-closedNoted nodes arguments heads names table place i =
+closedNoted nodes arguments heads names prepared place i =
     let k = keyOf nodes arguments heads names i in
-    set (set (set table (768 + place) i) (256 + place) (word table k)) k (place + 1)
+    set (set (set prepared (768 + place) i) (256 + place) (word prepared k)) k (place + 1)
 
 -- The closed applications are listed, r of them, with a table; the part of the open ones stays.
-pub record ListsClosed (nodes arguments counts heads table : List ℕ) (r : ℕ) (table′ : List ℕ) : Type 0 where
-  pub size : length table′ ≡ length table
+pub record ListsClosed (nodes arguments counts heads prepared : List ℕ) (r : ℕ) (prepared′ : List ℕ) : Type 0 where
+  pub size : length prepared′ ≡ length prepared
   pub few : r ≤ maxNodes
-  pub listed : ClosedListed nodes counts heads (take r (drop 768 table′))
-  pub chained : ClosedTable nodes arguments heads (take r (drop 768 table′)) (take 256 table′) (take 256 (drop 256 table′))
-  pub open-kept : (k : ℕ) → 512 ≤ k → k < 768 → word table′ k ≡ word table k
+  pub listed : ClosedListed nodes counts heads (take r (drop 768 prepared′))
+  pub chained : ClosedTable nodes arguments heads (take r (drop 768 prepared′)) (take 256 prepared′) (take 256 (drop 256 prepared′))
+  pub open-kept : (k : ℕ) → 512 ≤ k → k < 768 → word prepared′ k ≡ word prepared k
