@@ -49,7 +49,7 @@ module _ (nodes arguments list : List ℕ) (e : list ≡ leastNodes (nodesFrom n
 
   -- there is a place for each variable present
   list-long : length list ≡ length (variablesOf ns)
-  list-long = ap length e ∙ least-long nodes arguments
+  list-long = ap length e ∙ least-long (nodesFrom nodes arguments)
 
   -- with its least node
   list-at : (k : ℕ) → k < length (variablesOf ns) → word list k ≡ nodeOf ns (word (variablesOf ns) k)
@@ -193,7 +193,7 @@ found-leaves nodes arguments counts heads names opens list out out′ f m l k o 
     let c = t .closure in
     let a = noted-all nodes arguments heads names m opens counts (f .applications) o l (name-itself nodes arguments counts heads names m l ps c) (f .noted) in
     let d : wordsOf (nodesFrom nodes arguments) ps ≡ readAt heads names (f .all) list = names-decide (nodesFrom nodes arguments) (sections-well-formed nodes arguments s) ps h (classOf heads) (rank nodes counts (g .order)) (ordered-solved nodes arguments s counts k heads p (g .closed) ps h c (g .order) (g .ordered)) (suc (nodeCount nodes + suc (length (g .order)))) (ordered-enough nodes arguments s counts k heads p (g .closed) ps h c (g .order) (g .ordered)) (valueName heads names) (named-valued nodes arguments heads names s p (m .named)) (readAt heads names (f .all) list) (named-read nodes arguments list e heads names m ps c (f .applications) (f .all) a (f .free)) in
-    f .words-read ∙ ap (λ (n : List ℕ). n ++ drop (length list) out) (sym d) ∙ ap (λ (n : ℕ). wordsOf (nodesFrom nodes arguments) ps ++ drop n out) (ap length e ∙ least-long nodes arguments)
+    f .words-read ∙ ap (λ (n : List ℕ). n ++ drop (length list) out) (sym d) ∙ ap (λ (n : ℕ). wordsOf (nodesFrom nodes arguments) ps ++ drop n out) (ap length e ∙ least-long (nodesFrom nodes arguments))
 
 -- the search for an order starts with no node placed
 pub nothing-placed : (n m : ℕ) → n ≡ m → n ≤ maxNodes → Starting m (take (n - 0) (replicate maxNodes 0)) (take (n - 0) (replicate maxNodes 0))
@@ -212,7 +212,7 @@ ordered-part nodes arguments due heads xs ys k h o = rw (sub-zero k, take-append
 pub leaves-nothing : (nodes arguments heads list out : List ℕ) → list ≡ leastNodes (nodesFrom nodes arguments) → length list ≡ 0 → Leaves nodes arguments heads out out
 unfolding wordsOf bindingWords
 leaves-nothing nodes arguments heads list out e z ps s =
-    pick (variablesOf (nodesFrom nodes arguments)) (sym (ap length e ∙ least-long nodes arguments) ∙ z)
+    pick (variablesOf (nodesFrom nodes arguments)) (sym (ap length e ∙ least-long (nodesFrom nodes arguments)) ∙ z)
   where
     pick : (xs : List ℕ) → length xs ≡ 0 → out ≡ map (wordOf (nodesFrom nodes arguments) (unifier (nodesFrom nodes arguments) ps)) xs ++ drop (length xs) out
     pick [] e = refl

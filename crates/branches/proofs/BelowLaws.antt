@@ -26,6 +26,7 @@ use Rattle.unification.proofs.AnswerLaws.{words-counted}
 use Rattle.unification.proofs.OutcomeLaws.{outcome-unified}
 use Rattle.unification.proofs.PairLaws.{more-none, same-outcome, same-words}
 use Rattle.unification.proofs.TableLaws.{well-formed, left-node, right-node}
+use Rattle.unification.proofs.JoinedLaws.{inside-none, inside-more}
 use Rattle.multiset_unification.specs.Choice.{pairs}
 use Rattle.multiset_unification.specs.Entry.{pairsOf, entryOf}
 use Rattle.multiset_unification.specs.Computed.Choices.{among, branch, rights, lefts, choices}
@@ -123,12 +124,6 @@ Nodes ns ts = (i : ℕ) → i < length ts → word ts i < length ns
 -- What is kept of a string of digits, where the pairs are ps before it: an entry g of its digits and pairs.
 abbrev keptAfter : List Node → List ℕ → List ℕ → List (ℕ × ℕ) → (List ℕ → List (ℕ × ℕ) → List ℕ) → List ℕ → List (List ℕ)
 keptAfter ns rs ls ps g es = kept (outcome ns (pairedBy ls rs es ps)) (g es (pairedBy ls rs es ps))
-
--- a further pair of nodes
-pub inside-more : (ns : List Node) (a b : ℕ) (ps : List (ℕ × ℕ)) → a < length ns → b < length ns → Inside ns ps → Inside ns ((a, b) ∷ ps)
-inside-more ns a b ps p q h x y (List·Memᴰ·head e) =
-    (rw (ap (λ (z : ℕ × ℕ). z .0) e) p, rw (ap (λ (z : ℕ × ℕ). z .1) e) q)
-inside-more ns a b ps p q h x y (List·Memᴰ·tail m) = h x y m
 
 module _ (ns : List Node) (w : WellFormed ns) (rs : List ℕ) (right : Nodes ns rs) (k l : ℕ) where
   -- The pairs after digit d of a left term a.
@@ -282,19 +277,15 @@ module _ (t : List ℕ) (g : Accepted t) where
       (λ o. ap (λ (ws : List ℕ). es ++ ws) (same-words (nodesIn t) f (met es) (pairsOf t es) h i (met-from es) y (outcome-unified (nodesIn t) f (met es) h .0 o)))
       ∙ ap (λ (o : Outcome). kept o (es ++ wordsOf (nodesIn t) (pairsOf t es))) (same-outcome (nodesIn t) f (met es) (pairsOf t es) h i (met-from es) y)
 
-  -- of no pair both are nodes
-  none-inside : Inside (nodesIn t) []
-  none-inside a b m = absurd (List·Memᴰ·not-nil m)
-
   -- no pair fails
   none-unified : outcome (nodesIn t) [] ≡ unified
-  none-unified = outcome-unified (nodesIn t) (well-formed t g) [] none-inside .1 (var, λ a b m. absurd (List·Memᴰ·not-nil m))
+  none-unified = outcome-unified (nodesIn t) (well-formed t g) [] (inside-none (nodesIn t)) .1 (var, λ a b m. absurd (List·Memᴰ·not-nil m))
 
   -- what is below the branch without digits is the complete listing
   pub below-listing : below (nodesIn t) (rightTermsOf t) (length (leftLabelsOf t)) (length (rightLabelsOf t)) (leftTermsOf t) [] [] (replicate (length (rightTermsOf t)) 1) ≡ completeListing t
   unfolding completeListing choicesOf choices
   below-listing =
-      kept-below (nodesIn t) (well-formed t g) (rightTermsOf t) (right-node t g) (length (leftLabelsOf t)) (length (rightLabelsOf t)) (leftTermsOf t) (left-node t g) [] [] (replicate (length (rightTermsOf t)) 1) [] none-inside none-unified (marks-first (length (rightTermsOf t)))
+      kept-below (nodesIn t) (well-formed t g) (rightTermsOf t) (right-node t g) (length (leftLabelsOf t)) (length (rightLabelsOf t)) (leftTermsOf t) (left-node t g) [] [] (replicate (length (rightTermsOf t)) 1) [] inside-none (nodesIn t) none-unified (marks-first (length (rightTermsOf t)))
       ∙ flat-same _ (λ es. kept (outcome (nodesIn t) (pairsOf t es)) (entryOf t es)) (choicesOf t)
       (λ es m. choice-kept es (choices-are (length (leftTermsOf t)) (length (rightTermsOf t)) (length (leftLabelsOf t)) (length (rightLabelsOf t)) es .0 m))
 

@@ -17,10 +17,10 @@ use Rattle.table.specs.Layout.{word}
 use Rattle.unification.specs.Node.{Node}
 use Rattle.unification.specs.Computed.Unifying.{outcome}
 use Rattle.unification.specs.Code.Given.{Inside}
+use Rattle.unification.proofs.JoinedLaws.{inside-more}
 use Rattle.branches.specs.Code.Branch.{pairedBy, marksIn, FreeMark}
 use Rattle.branches.specs.Code.Memory.{keyOfDigits}
 use Rattle.branches.specs.Code.Walk.{ifUnified, onDigit, unpairedIn, Branching, KeepsBranch}
-use Rattle.branches.proofs.BelowLaws.{inside-more}
 
 -- a digit above the right terms puts the next left term in a right label
 pub digit-label : (ns : List Node) (rs : List ℕ) (f : List ℕ → List (ℕ × ℕ) → List ℕ → List (List ℕ)) (ds : List ℕ) (ps : List (ℕ × ℕ)) (marks : List ℕ) (a d : ℕ) → length rs < d → onDigit ns rs f ds ps marks a d ≡ f (ds ++ d ∷ []) ps marks

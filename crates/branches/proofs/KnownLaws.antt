@@ -5,13 +5,11 @@ use mathlib.Core.List.{List, _++_, append-assoc}
 use mathlib.Core.Logic.{_⊎_, inl, inr}
 use mathlib.Core.Path.{_≡_, refl, sym, ap, _∙_}
 use native.Mathlib.Omega.{arith}
-use lib.ListN.{length, take, drop, set, length-map, length-set, length-take, length-drop, length-append, List·getD-append}
+use lib.ListN.{length, take, drop, set, length-set, length-take, length-drop, length-append, List·getD-append}
 use lib.Seq.{length-take-le, take-at, drop-at, take-set-lt, drop-set-add, getD-take, getD-drop, getD-set-other}
 use Rattle.table.specs.Limits.{maxTerms}
 use Rattle.table.specs.Layout.{word, countOf, nodeCount}
-use Rattle.unification.specs.Node.{Node}
 use Rattle.unification.specs.Computed.Variables.{variablesOf}
-use Rattle.unification.specs.Computed.Solution.{nodeOf}
 use Rattle.unification.specs.Code.Sections.{nodesFrom, Sections}
 use Rattle.nodes.specs.Code.Open.{Marked, Counts}
 use Rattle.values.specs.Code.Present.{leastNodes}
@@ -21,6 +19,7 @@ use Rattle.entries.specs.Code.Writing.{put}
 use Rattle.branches.specs.Code.Branch.{Listable}
 use Rattle.branches.specs.Code.Partners.{MayPair}
 use Rattle.branches.specs.Code.Known.{mayIn, PairsKnown, KnownOf, KeepsCounts}
+use Rattle.values.proofs.LeastLaws.{least-long}
 use Rattle.entries.proofs.WritingLaws.{put-long}
 use Rattle.branches.proofs.MemoryLaws.{part-put}
 use Rattle.branches.proofs.PartnerLaws.{pair-marked}
@@ -28,11 +27,6 @@ use Rattle.branches.proofs.PartnerLaws.{pair-marked}
 -- the mark of a pair, where it stands among the bytes
 pub may-word : (known : List ℕ) (m : ℕ) → m < 64 → word (mayIn known) m ≡ word known (256 + m)
 may-word known m h = getD-take 64 (drop 256 known) m 0 h ∙ getD-drop 256 known m 0
-
--- there is a least node for each variable present
-pub least-long : (ns : List Node) → length (leastNodes ns) ≡ length (variablesOf ns)
-unfolding leastNodes
-least-long ns = length-map (variablesOf ns) (nodeOf ns)
 
 module _ {nodes arguments known : List ℕ} (k : KnownOf nodes arguments known) where
   -- there are not more variables than there is room for

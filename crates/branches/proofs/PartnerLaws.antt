@@ -21,6 +21,7 @@ use Rattle.unification.specs.Computed.Unifying.{outcome, wordsOf}
 use Rattle.unification.specs.Code.Given.{Inside}
 use Rattle.unification.specs.Code.Sections.{nodesFrom}
 use Rattle.unification.proofs.SectionLaws.{is-node}
+use Rattle.unification.proofs.JoinedLaws.{inside-more}
 use Rattle.nodes.specs.Code.Open.{Counts}
 use Rattle.classes.specs.Code.Stands.{Never}
 use Rattle.branches.specs.declared.Labels.{Labels}
@@ -28,7 +29,6 @@ use Rattle.branches.specs.Code.Branch.{Listable}
 use Rattle.branches.specs.Code.Partners.{Triable, Trying, MayPair, partnerAt, partnered, leftStuck, leftsStuck, leftAt, someLeft, rightStuck, rightsStuck, stuck}
 use Rattle.branches.specs.Code.Walk.{ifUnified, onDigit, below}
 use Rattle.branches.proofs.HopelessLaws.{unpaired-set, marked-none, over-none}
-use Rattle.branches.proofs.BelowLaws.{inside-more}
 
 -- pairs have no entries if they have none where they are unified
 if-empty : (o : Outcome) (es : List (List ℕ)) → (o ≡ unified → es ≡ []) → ifUnified o es ≡ []

@@ -17,7 +17,7 @@ use Rattle.unification.specs.Computed.Unifying.{outcome}
 use Rattle.unification.specs.Code.Given.{Inside}
 use Rattle.unification.specs.Code.Sections.{nodesFrom, Sections, differTest}
 use Rattle.unification.proofs.NodeLaws.{each-same, value-application}
-use Rattle.unification.proofs.JoinedLaws.{joined-equal}
+use Rattle.unification.proofs.JoinedLaws.{inside-more, joined-equal}
 use Rattle.unification.proofs.OutcomeLaws.{outcome-clash, outcome-unified}
 use Rattle.unification.proofs.SectionLaws.{run, is-node, application-from, argument-place, sections-well-formed}
 use Rattle.classes.specs.declared.Extended.{Extended}
@@ -26,7 +26,7 @@ use Rattle.nodes.specs.Code.Open.{Marked, markedTest, Counts}
 use Rattle.nodes.specs.Code.Formed.{Formed}
 use Rattle.classes.specs.Code.Stands.{StandsAlways, Never, Extends, extended}
 use Rattle.nodes.proofs.OpenLaws.{marked-true}
-use Rattle.classes.proofs.ExtensionLaws.{longer, inside-more}
+use Rattle.classes.proofs.ExtensionLaws.{longer}
 use Rattle.classes.proofs.AtOnceLaws.{differ-clash}
 
 -- a closed application has one value under every substitution, by induction on nodes before n
@@ -53,7 +53,7 @@ module _ (nodes arguments counts : List ℕ) (s : Sections nodes arguments) (hea
   -- a pair that does not unify with pairs that every substitution unifies unifies with none
   never-by : (outcome ns ((a, b) ∷ z .pairs) ≡ unified → ⊥) → Never ns a b
   never-by n ps h e =
-      let u = outcome-unified ns (sections-well-formed nodes arguments s) ((a, b) ∷ ps) (inside-more ns ps a b (is-node nodes arguments a p) (is-node nodes arguments b q) h) .0 e in
+      let u = outcome-unified ns (sections-well-formed nodes arguments s) ((a, b) ∷ ps) (inside-more ns a b ps (is-node nodes arguments a p) (is-node nodes arguments b q) h) .0 e in
       n (outcome-unified ns (sections-well-formed nodes arguments s) ((a, b) ∷ z .pairs) with-pair .1 (u .0, λ i j m. all (u .0) (u .1 a b (List·Memᴰ·head refl)) i j m))
     where
       all : (σ : Substitution) → value ns σ a ≡ value ns σ b → (i j : ℕ) → List·Memᴰ {A = ℕ × ℕ} (i, j) ((a, b) ∷ z .pairs) → value ns σ i ≡ value ns σ j

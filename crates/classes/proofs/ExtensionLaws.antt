@@ -2,13 +2,10 @@
 -- Assumes nothing.
 use Prim.Native.Nat.{ℕ, _<_}
 use mathlib.Core.Bool.{Bool, true, false}
-use mathlib.Core.List.{List, [], _∷_, List·Memᴰ, List·Memᴰ·cases-cons}
-use mathlib.Core.Logic.{_⊎_, inl, inr}
-use mathlib.Core.Path.{_≡_, refl, sym, ap, _∙_}
+use mathlib.Core.List.{List, [], _∷_}
+use mathlib.Core.Path.{_≡_, refl, sym, _∙_}
 use native.Mathlib.Omega.{arith}
-use lib.ListN.{length}
 use Rattle.table.specs.Layout.{word, nodeCount}
-use Rattle.unification.specs.Node.{Node}
 use Rattle.unification.specs.Computed.Classes.{classOf}
 use Rattle.unification.specs.Computed.Unifying.{outcome}
 use Rattle.unification.specs.Code.Given.{Inside}
@@ -16,6 +13,7 @@ use Rattle.unification.specs.Code.Sections.{nodesFrom, Sections}
 use Rattle.unification.specs.Code.Solved.{IsClosure}
 use Rattle.unification.proofs.OutcomeLaws.{outcome-clash, cycle-decides}
 use Rattle.unification.proofs.SectionLaws.{nodes-long, is-node, sections-well-formed}
+use Rattle.unification.proofs.JoinedLaws.{inside-more}
 use Rattle.classes.specs.declared.Extended.{Extended}
 use Rattle.classes.specs.declared.Extended.the-variants.{Unified, Clash, Occurs}
 use Rattle.nodes.specs.Code.Open.{Counts, ClosedHeads, KeepsClosed}
@@ -28,14 +26,6 @@ use Rattle.nodes.proofs.OpenLaws.{closed-kept}
 use Rattle.classes.proofs.ClosureLaws.{opened, closure-at-last}
 use Rattle.classes.proofs.OrderedLaws.{leads-reaches, ordered-unified}
 use Rattle.classes.proofs.MendLaws.{still-one, mended}
-
--- the longer list is of nodes
-pub inside-more : (ns : List Node) (ps : List (ℕ × ℕ)) (a b : ℕ) → a < length ns → b < length ns → Inside ns ps → Inside ns ((a, b) ∷ ps)
-inside-more ns ps a b p q h c d m = go (List·Memᴰ·cases-cons m)
-  where
-    go : (_≡_ {A = ℕ × ℕ} (c, d) (a, b)) ⊎ List·Memᴰ (c, d) ps → (c < length ns) × (d < length ns)
-    go (inl e) = (rw (ap (λ (x : ℕ × ℕ). x .0) e) p, rw (ap (λ (x : ℕ × ℕ). x .1) e) q)
-    go (inr k) = h c d k
 
 -- a failure: the classes are as before
 extends-failed : (nodes arguments counts heads next : List ℕ) (a b : ℕ) (heads′ next′ : List ℕ) (x : Extended) → (heads′ ≡ heads) × (next′ ≡ next) → (x ≡ Unified → ⊥) → ((ps : List (ℕ × ℕ)) → Stands nodes arguments heads ps → outcome (nodesFrom nodes arguments) ((a, b) ∷ ps) ≡ extended x) → Extends nodes arguments counts heads next a b x heads′ next′
@@ -61,7 +51,7 @@ module _ (nodes arguments counts : List ℕ) (s : Sections nodes arguments) (hea
   module _ (ps : List (ℕ × ℕ)) (d : Stands nodes arguments heads ps) where
     -- the pairs of the longer list are of nodes
     pub longer : Inside (nodesFrom nodes arguments) ((a, b) ∷ ps)
-    longer = inside-more (nodesFrom nodes arguments) ps a b (is-node nodes arguments a p) (is-node nodes arguments b q) (d .inside)
+    longer = inside-more (nodesFrom nodes arguments) a b ps (is-node nodes arguments a p) (is-node nodes arguments b q) (d .inside)
 
     -- the pair is still to be joined
     pub waiting : ClosureUpTo (nodesFrom nodes arguments) ((a, b) ∷ ps) heads ((a, b) ∷ [])

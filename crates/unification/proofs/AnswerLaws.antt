@@ -33,7 +33,7 @@ use Rattle.unification.specs.Answer.{told, variableCount, unifyCondition
 use Rattle.unification.specs.Decided.{Decided}
 use Rattle.unification.proofs.VariableLaws.{variables-few}
 use Rattle.unification.proofs.TableLaws.{variable-most, well-formed}
-use Rattle.unification.proofs.JoinedLaws.{clash-none, cycle-none}
+use Rattle.unification.proofs.JoinedLaws.{inside-none, inside-more, clash-none, cycle-none}
 use Rattle.unification.proofs.ReadingLaws.{reads-one}
 use Rattle.unification.proofs.OutcomeLaws.{outcome-unified, outcome-clash, outcome-occurs, words-readable, reading-most-general, words-least}
 
@@ -155,9 +155,7 @@ others-nothing t a b lent h = pick (unification t a b (length lent)) refl
 
 module _ (t : List ℕ) (a b : ℕ) (lent : List ℕ) where
   one-pair : Unrefused t a b (length lent) → Inside (nodesIn t) ((a, b) ∷ [])
-  one-pair u c d m =
-      let e = List·Memᴰ·eq-of-singleton m in
-      (rw (ap (λ (p : ℕ × ℕ). p .0) e) (u .left), rw (ap (λ (p : ℕ × ℕ). p .1) e) (u .right))
+  one-pair u = inside-more (nodesIn t) a b [] (u .left) (u .right) (inside-none (nodesIn t))
 
   unifies-pair : (σ : Substitution) → value (nodesIn t) σ a ≡ value (nodesIn t) σ b → Unifies (nodesIn t) ((a, b) ∷ []) σ
   unifies-pair σ e c d m =

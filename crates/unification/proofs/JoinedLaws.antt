@@ -1,6 +1,6 @@
 -- What unifies the given pairs makes joined nodes equal, by induction on how they are joined. Assumes nothing.
 use Prim.Native.Nat.{ℕ, suc, _<_, _≤_}
-use mathlib.Core.List.{List, List·Memᴰ, zip}
+use mathlib.Core.List.{List, [], _∷_, List·Memᴰ, List·Memᴰ·head, List·Memᴰ·tail, List·Memᴰ·not-nil, zip}
 use mathlib.Core.Path.{_≡_, refl, sym, ap, _∙_}
 use native.Mathlib.Omega.{arith}
 use native.Mathlib.Decide.{ℕ-discrete}
@@ -55,6 +55,16 @@ closure-rules ps qs h =
 -- with more pairs more is joined
 pub more-joined : {ns : List Node} {ps : List (ℕ × ℕ)} (qs : List (ℕ × ℕ)) → Among ps qs → {i j : ℕ} → Joined ns ps i j → Joined ns qs i j
 more-joined {ns} {ps} qs h = smallest (Joined ns qs) (closure-rules ps qs h)
+
+-- no pairs are of nodes
+pub inside-none : (ns : List Node) → Inside ns []
+inside-none ns a b m = absurd (List·Memᴰ·not-nil m)
+
+-- and so are pairs of nodes with a further one
+pub inside-more : (ns : List Node) (a b : ℕ) (ps : List (ℕ × ℕ)) → a < length ns → b < length ns → Inside ns ps → Inside ns ((a, b) ∷ ps)
+inside-more ns a b ps p q h x y (List·Memᴰ·head e) =
+    (rw (ap (λ (z : ℕ × ℕ). z .0) e) p, rw (ap (λ (z : ℕ × ℕ). z .1) e) q)
+inside-more ns a b ps p q h x y (List·Memᴰ·tail m) = h x y m
 
 module _ (ns : List Node) (w : WellFormed ns) (ps : List (ℕ × ℕ)) (h : Inside ns ps) where
   -- only nodes are joined

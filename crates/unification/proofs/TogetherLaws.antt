@@ -19,7 +19,7 @@ use Rattle.unification.specs.Computed.Unifying.{outcome}
 use Rattle.unification.specs.Code.Given.{WellFormed, Inside}
 use Rattle.unification.proofs.ListLaws.{zip-at, zip-left, zip-right, zip-through}
 use Rattle.unification.proofs.NodeLaws.{each-long, each-at, term-node}
-use Rattle.unification.proofs.JoinedLaws.{Rules, smallest, Among, joined-inside}
+use Rattle.unification.proofs.JoinedLaws.{inside-none, inside-more, Rules, smallest, Among, joined-inside}
 use Rattle.unification.proofs.OutcomeLaws.{outcome-unified, outcome-clash, outcome-occurs}
 use Rattle.unification.proofs.PairLaws.{more-clash, more-reaches}
 
@@ -205,12 +205,10 @@ pub outcome-together : (ns : List Node) → WellFormed ns → (a b : ℕ) → a 
 outcome-together ns w a b p q qs h u = pick (outcome ns ((a, b) ∷ [])) refl
   where
     one-inside : Inside ns ((a, b) ∷ [])
-    one-inside x y (List·Memᴰ·head e) = (rw (ap (λ (z : ℕ × ℕ). z .0) e) p, rw (ap (λ (z : ℕ × ℕ). z .1) e) q)
-    one-inside x y (List·Memᴰ·tail m) = absurd (List·Memᴰ·not-nil m)
+    one-inside = inside-more ns a b [] p q (inside-none ns)
 
     all-inside : Inside ns ((a, b) ∷ qs)
-    all-inside x y (List·Memᴰ·head e) = (rw (ap (λ (z : ℕ × ℕ). z .0) e) p, rw (ap (λ (z : ℕ × ℕ). z .1) e) q)
-    all-inside x y (List·Memᴰ·tail m) = h x y m
+    all-inside = inside-more ns a b qs p q h
 
     among : Among ((a, b) ∷ []) ((a, b) ∷ qs)
     among x (List·Memᴰ·head e) = List·Memᴰ·head e

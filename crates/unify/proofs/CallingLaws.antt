@@ -181,7 +181,7 @@ circles-ready n heads next b e d h = (d, rw e h, omega (arith, b, e))
 pub list-given : (nodes arguments : List ℕ) (v : Variables) (n : ℕ) → Lists nodes arguments v → v .count ≤ n → (take (v .count - 0) (v .nodes) ≡ leastNodes (nodesFrom nodes arguments)) × (length (take (v .count - 0) (v .nodes)) ≤ n)
 list-given nodes arguments v n l h =
     let e : take (v .count - 0) (v .nodes) ≡ leastNodes (nodesFrom nodes arguments) = ap (λ (k : ℕ). take k (v .nodes)) (sub-zero (v .count)) ∙ l .least in
-    let d = ap length e ∙ least-long nodes arguments in
+    let d = ap length e ∙ least-long (nodesFrom nodes arguments) in
     let c = l .counted in
     (e, omega (arith, d, c))
 

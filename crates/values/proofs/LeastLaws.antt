@@ -13,7 +13,7 @@ use lib.Dec.{eqb, ltb}
 use lib.ListN.{length, set, take, length-set, length-map}
 use lib.Seq.{take-suc-set, length-take-le}
 use Rattle.table.specs.Layout.{word, kindOf, nameOf, nodeCount}
-use Rattle.unification.specs.Node.{variable, nodeAt, Present}
+use Rattle.unification.specs.Node.{Node, variable, nodeAt, Present}
 use Rattle.unification.specs.Words.{Rising, end, before}
 use Rattle.unification.specs.Computed.Variables.{variablesOf}
 use Rattle.unification.specs.Computed.Classes.{gather}
@@ -327,6 +327,6 @@ module _ (nodes arguments : List ℕ) (s : Sections nodes arguments) (least : Li
       selected-map has (word least) variableNames ∙ map-same (word least) (nodeOf (nodesFrom nodes arguments)) (selected has variableNames) (λ x m. l .right x (selected-from has variableNames x m .0)) ∙ ap (map (nodeOf (nodesFrom nodes arguments))) present-names
 
 -- there is one for each variable present
-pub least-long : (nodes arguments : List ℕ) → length (leastNodes (nodesFrom nodes arguments)) ≡ length (variablesOf (nodesFrom nodes arguments))
+pub least-long : (ns : List Node) → length (leastNodes ns) ≡ length (variablesOf ns)
 unfolding leastNodes
-least-long nodes arguments = length-map (variablesOf (nodesFrom nodes arguments)) (nodeOf (nodesFrom nodes arguments))
+least-long ns = length-map (variablesOf ns) (nodeOf ns)

@@ -181,7 +181,7 @@ pub present-lists : {v : Variables} (nodes arguments least : List ℕ) (n : ℕ)
 present-lists nodes arguments least n s l e p =
     record {
       within = p .within;
-      counted = p .counted ∙ ap length present ∙ least-long nodes arguments;
+      counted = p .counted ∙ ap length present ∙ least-long (nodesFrom nodes arguments);
       least = p .listed ∙ present;
     }
   where

@@ -22,6 +22,7 @@ use Rattle.unification.specs.Computed.Unifying.{outcome}
 use Rattle.unification.specs.Code.Given.{Inside}
 use Rattle.unification.specs.Code.Sections.{nodesFrom}
 use Rattle.unification.proofs.SectionLaws.{is-node, sections-well-formed}
+use Rattle.unification.proofs.JoinedLaws.{inside-more}
 use Rattle.classes.specs.declared.Extended.{Extended}
 use Rattle.classes.specs.declared.Extended.the-variants.{Unified, Clash, Occurs}
 use Rattle.values.specs.Code.Prepared.{Prepared}
@@ -44,7 +45,7 @@ use Rattle.branches.proofs.MemoryLaws.{key-placed, key-paired, key-bound, paira
 use Rattle.branches.proofs.PartnerLaws.{below-stuck, may-none}
 use Rattle.entries.proofs.WritingLaws.{remains-whole, remains-next, remains-full, remains-done, writes-none}
 use Rattle.branches.proofs.HopelessLaws.{below-hopeless, unpaired-set}
-use Rattle.branches.proofs.BelowLaws.{inside-more, not-unified, same-more, same-unified}
+use Rattle.branches.proofs.BelowLaws.{not-unified, same-more, same-unified}
 use Rattle.branches.proofs.BranchLaws.{digit-label, digit-taken, digit-pair, paired-placed, paired-more, set-digits, set-marks, mark-digits, mark-marks, mark-word, keeps-again, branch-room, marks-long, branching-kept, branching-next}
 use Rattle.branches.proofs.StringLaws.{branch-pairable}
 

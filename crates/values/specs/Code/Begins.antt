@@ -14,7 +14,6 @@ use Rattle.unification.specs.Computed.Variables.{variablesOf}
 use Rattle.unification.specs.Code.Given.{Inside}
 use Rattle.unification.specs.Code.Sections.{nodesFrom}
 use Rattle.unification.specs.Code.Heads.{Partition}
-use Rattle.unification.specs.Code.Solved.{IsClosure}
 use Rattle.values.specs.declared.Variables.{Variables}
 use Rattle.nodes.specs.Code.Open.{Counts, ClosedHeads, KeepsClosed}
 use Rattle.nodes.specs.Code.Circle.{HeadsFirst}

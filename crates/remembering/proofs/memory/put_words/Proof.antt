@@ -8,7 +8,8 @@ use borrow.Author.Tests.{eqb-true}
 use lib.ListN.{length}
 use Rattle.unification.specs.Code.Sections.{nodesFrom}
 use Rattle.branches.specs.Code.Branch.{widthOf}
-use Rattle.branches.proofs.KnownLaws.{least-long, variables-few, listed-least}
+use Rattle.values.proofs.LeastLaws.{least-long}
+use Rattle.branches.proofs.KnownLaws.{variables-few, listed-least}
 use Rattle.branches.proofs.MemoryLaws.{key-fits, bound-none, bound-new}
 use Rattle.remembering.proofs.memory.put_words.Statement.{statement}
 use Rattle.remembering.proofs.memory.put_words.Tie as tie
