@@ -17,7 +17,7 @@ use Rattle.unification.specs.Computed.Classes.{classOf}
 use Rattle.unification.specs.Code.Sections.{nodesFrom, Sections}
 use Rattle.unification.proofs.NodeLaws.{each-equal, value-application}
 use Rattle.unification.proofs.SectionLaws.{run, is-node, application-from, run-long, counted-application, pair-place, sections-well-formed}
-use Rattle.nodes.specs.Code.Open.{Marked, Counts, OpenListed}
+use Rattle.nodes.specs.Code.Open.{IsClosed, Counts, OpenListed}
 use Rattle.nodes.specs.Code.Order.{Met, leaf, before, Ordered}
 use Rattle.nodes.specs.Code.Named.{valueName, Alike, Applied, Named, Themselves}
 use Rattle.values.specs.Code.Naming.{Nameable, IsPlaced, compounds, keyOf, keyAt, NamedBefore, Naming, NamedAlong}
@@ -39,7 +39,7 @@ module _ (nodes arguments : List ℕ) (s : Sections nodes arguments) (counts hea
   termAt = value (nodesFrom nodes arguments) var
 
   -- closed applications of one class have one term
-  one-term : (a b : ℕ) → Marked nodes counts a → Marked nodes counts b → classOf heads a ≡ classOf heads b → termAt a ≡ termAt b
+  one-term : (a b : ℕ) → IsClosed nodes counts a → IsClosed nodes counts b → classOf heads a ≡ classOf heads b → termAt a ≡ termAt b
   one-term a b p q e = sym (f .closed .valued a p) ∙ ap termAt e ∙ f .closed .valued b q
 
   module _ (names : List ℕ) (l : length names ≡ nodeCount nodes) (t : Themselves names) where
@@ -48,12 +48,12 @@ module _ (nodes arguments : List ℕ) (s : Sections nodes arguments) (counts hea
     own-name i h = let b = f .partition .below i h in t .itself (classOf heads i) (omega (arith, b, l))
 
     -- closed applications that are alike have one head
-    closed-alike : (g h : ℕ) → Marked nodes counts g → Marked nodes counts h → Alike nodes arguments heads names g h → classOf heads g ≡ classOf heads h
+    closed-alike : (g h : ℕ) → IsClosed nodes counts g → IsClosed nodes counts h → Alike nodes arguments heads names g h → classOf heads g ≡ classOf heads h
     closed-alike g h p q a =
         let e : each termAt (run nodes arguments g) ≡ each termAt (run nodes arguments h) = each-equal termAt termAt (run nodes arguments g) (run nodes arguments h) (run-long nodes arguments s g (p .node) ∙ a .count ∙ sym (run-long nodes arguments s h (q .node))) (λ x y m. at x y (pair-place nodes arguments s g h (p .node) (q .node) x y .0 m)) in
         f .closed .shared g h p q (spelt g p ∙ ap (λ (n : ℕ). app n (each termAt (run nodes arguments g))) (a .name) ∙ ap (app (nameOf nodes h)) e ∙ sym (spelt h q))
       where
-        spelt : (i : ℕ) → Marked nodes counts i → termAt i ≡ app (nameOf nodes i) (each termAt (run nodes arguments i))
+        spelt : (i : ℕ) → IsClosed nodes counts i → termAt i ≡ app (nameOf nodes i) (each termAt (run nodes arguments i))
         spelt i m =
             value-application (nodesFrom nodes arguments) (sections-well-formed nodes arguments s) var i (nameOf nodes i) (run nodes arguments i) (is-node nodes arguments i (m .node)) (application-from nodes arguments i (m .node) (m .applied))
 
@@ -66,7 +66,7 @@ module _ (nodes arguments : List ℕ) (s : Sections nodes arguments) (counts hea
     -- Where no argument of a head is looked at.
     module _ (z : (i : ℕ) → i < nodeCount nodes → word counts (classOf heads i) ≡ 0) where
       -- a head that is an application is closed
-      head-closed : (i : ℕ) → i < nodeCount nodes → Applied nodes heads i → Marked nodes counts (classOf heads i)
+      head-closed : (i : ℕ) → i < nodeCount nodes → Applied nodes heads i → IsClosed nodes counts (classOf heads i)
       head-closed i h n = record { node = f .partition .below i h; applied = n; none = z i h }
 
       -- classes are named by their heads
@@ -125,15 +125,15 @@ module _ (nodes arguments : List ℕ) (s : Sections nodes arguments) (counts hea
         go (inr e) = e
 
     -- the first are closed
-    front-marked : (p : ℕ) → p < length closed → word order p ≡ word closed p → Marked nodes counts (word order p)
-    front-marked p l e = rw e (c .marked p l)
+    front-closed : (p : ℕ) → p < length closed → word order p ≡ word closed p → IsClosed nodes counts (word order p)
+    front-closed p l e = rw e (c .is-closed p l)
 
     -- the second are open
     back-counts : (p q : ℕ) → q < length placed → word order p ≡ word placed q → 0 < word counts (word order p)
     back-counts p q l e = rw e (o .listed .compound q l)
 
     part-node : (p : ℕ) → Part p → word order p < nodeCount nodes
-    part-node p (front l e) = rw e (c .marked p l .node)
+    part-node p (front l e) = rw e (c .is-closed p l .node)
     part-node p (back q l d e) = rw e (o .listed .node q l)
 
     part-compound : (p : ℕ) → Part p → 0 < countOf nodes (word order p)
@@ -148,7 +148,7 @@ module _ (nodes arguments : List ℕ) (s : Sections nodes arguments) (counts hea
         let x = c .rising p q h m in
         omega (arith, x, e, d, z)
     part-once p q h (front l e) (back r m u d) z =
-        let x = front-marked p l e .none in
+        let x = front-closed p l e .none in
         let y = back-counts q r m d in
         let w = ap (word counts) z in
         omega (arith, x, y, w)
@@ -157,9 +157,9 @@ module _ (nodes arguments : List ℕ) (s : Sections nodes arguments) (counts hea
         o .listed .once r v (omega (arith, h, u, w)) m (sym e ∙ z ∙ d)
 
     -- the head of an argument of a closed application stands before it, if it stands there
-    closed-first : (q g j : ℕ) → q < length closed → word order q ≡ word closed q → j < countOf nodes (word order q) → classOf heads (argumentOf nodes arguments (word order q) j) ≡ g → Marked nodes counts g × (g < word order q)
+    closed-first : (q g j : ℕ) → q < length closed → word order q ≡ word closed q → j < countOf nodes (word order q) → classOf heads (argumentOf nodes arguments (word order q) j) ≡ g → IsClosed nodes counts g × (g < word order q)
     closed-first q g j l e h d =
-        let m = front-marked q l e in
+        let m = front-closed q l e in
         let a = k .below (word order q) (m .node) m j h in
         let x = f .closed .least (argumentOf nodes arguments (word order q) j) a in
         let y = s .smaller (word order q) j (m .node) h in
@@ -213,7 +213,7 @@ module _ (nodes arguments : List ℕ) (s : Sections nodes arguments) (counts hea
     closed-small =
         record {
           below = λ p h.
-              let x = c .marked p h .node in
+              let x = c .is-closed p h .node in
               let y = nodes-few nodes arguments s in
               omega (arith, x, y);
         }
@@ -254,7 +254,7 @@ module _ (nodes arguments : List ℕ) (s : Sections nodes arguments) (counts hea
       -- no two places of the first are alike
       closed-apart : (q r : ℕ) → q < length closed → r < length closed → Alike nodes arguments heads names (word order q) (word order r) → q ≡ r
       closed-apart q r h b a =
-          let e : word closed q ≡ word closed r = sym (c .own q h) ∙ closed-alike names l t (word closed q) (word closed r) (c .marked q h) (c .marked r b) (rw (same-node q h, same-node r b) at a) ∙ c .own r b in
+          let e : word closed q ≡ word closed r = sym (c .own q h) ∙ closed-alike names l t (word closed q) (word closed r) (c .is-closed q h) (c .is-closed r b) (rw (same-node q h, same-node r b) at a) ∙ c .own r b in
           go e (ℕ-discrete q r) (decLt q r)
         where
           go : word closed q ≡ word closed r → Dec (q ≡ r) → Dec (q < r) → q ≡ r
@@ -300,7 +300,7 @@ module _ (nodes arguments : List ℕ) (s : Sections nodes arguments) (counts hea
     named-least names m =
         record { alike = m .alike; least = λ i q. go i q (m .outside i (q .node)) }
       where
-        at : (i p : ℕ) → Marked nodes counts i → word order p ≡ classOf heads i → Part p → (r : ℕ) × (r ≤ p) × (word names (word order p) ≡ word order r) × (word names (word order r) ≡ word order r) → valueName heads names i ≤ i
+        at : (i p : ℕ) → IsClosed nodes counts i → word order p ≡ classOf heads i → Part p → (r : ℕ) × (r ≤ p) × (word names (word order p) ≡ word order r) × (word names (word order r) ≡ word order r) → valueName heads names i ≤ i
         at i p q e (back v b w d) x =
             let y = back-counts p v b d in
             let z = f .closed .closed i q .none in
@@ -322,7 +322,7 @@ module _ (nodes arguments : List ℕ) (s : Sections nodes arguments) (counts hea
                 let g = List·getD-append closed placed 0 r (omega (arith, v, b)) in
                 omega (arith, n, g, w, d, e, z)
 
-        go : (i : ℕ) → Marked nodes counts i → IsPlaced order (classOf heads i) ⊎ (valueName heads names i ≡ classOf heads i) → valueName heads names i ≤ i
+        go : (i : ℕ) → IsClosed nodes counts i → IsPlaced order (classOf heads i) ⊎ (valueName heads names i ≡ classOf heads i) → valueName heads names i ≤ i
         go i q (inr e) = let x = f .closed .least i q in omega (arith, e, x)
         go i q (inl (p, l, e)) = at i p q e (part p l) (m .along .earlier p l)
 

@@ -11,7 +11,7 @@ use Rattle.table.specs.Limits.{maxTerms}
 use Rattle.table.specs.Layout.{word, countOf, nodeCount}
 use Rattle.unification.specs.Computed.Variables.{variablesOf}
 use Rattle.unification.specs.Code.Sections.{nodesFrom, Sections}
-use Rattle.nodes.specs.Code.Open.{Marked, Counts}
+use Rattle.nodes.specs.Code.Open.{IsClosed, Counts}
 use Rattle.values.specs.Code.Present.{leastNodes}
 use Rattle.classes.specs.Code.Stands.{Never}
 use Rattle.branches.specs.declared.Labels.{Labels}
@@ -46,12 +46,12 @@ module _ {nodes arguments known : List ℕ} (k : KnownOf nodes arguments known) 
 -- counts that are the same at nodes
 module _ {nodes counts counts′ : List ℕ} (kept : (i : ℕ) → i < nodeCount nodes → word counts′ i ≡ word counts i) where
   -- a closed application stays one
-  marked-kept : (i : ℕ) → Marked nodes counts i → Marked nodes counts′ i
-  marked-kept i m = record { node = m .node; applied = m .applied; none = kept i (m .node) ∙ m .none }
+  still-closed : (i : ℕ) → IsClosed nodes counts i → IsClosed nodes counts′ i
+  still-closed i m = record { node = m .node; applied = m .applied; none = kept i (m .node) ∙ m .none }
 
   -- and was one before
-  marked-before : (i : ℕ) → Marked nodes counts′ i → Marked nodes counts i
-  marked-before i m = record { node = m .node; applied = m .applied; none = sym (kept i (m .node)) ∙ m .none }
+  was-closed : (i : ℕ) → IsClosed nodes counts′ i → IsClosed nodes counts i
+  was-closed i m = record { node = m .node; applied = m .applied; none = sym (kept i (m .node)) ∙ m .none }
 
   -- so they are right as well
   pub counts-kept : {arguments : List ℕ} → nodeCount nodes ≤ length counts′ → Counts nodes arguments counts (nodeCount nodes) → Counts nodes arguments counts′ (nodeCount nodes)
@@ -59,8 +59,8 @@ module _ {nodes counts counts′ : List ℕ} (kept : (i : ℕ) → i < nodeCount
       record {
         enough = l;
         some = λ i h. pick i h (c .some i h);
-        below = λ i h m j q. marked-kept _ (c .below i h (marked-before i m) j q);
-        above = λ i h f. kept i h ∙ c .above i h (λ j q. marked-before _ (f j q));
+        below = λ i h m j q. still-closed _ (c .below i h (was-closed i m) j q);
+        above = λ i h f. kept i h ∙ c .above i h (λ j q. was-closed _ (f j q));
       }
     where
       pick : (i : ℕ) → i < nodeCount nodes → (word counts i ≡ 0) ⊎ (word counts i ≡ countOf nodes i) → (word counts′ i ≡ 0) ⊎ (word counts′ i ≡ countOf nodes i)

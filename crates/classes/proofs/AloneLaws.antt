@@ -22,15 +22,15 @@ use Rattle.unification.proofs.OutcomeLaws.{outcome-clash, outcome-unified}
 use Rattle.unification.proofs.SectionLaws.{run, is-node, application-from, argument-place, sections-well-formed}
 use Rattle.classes.specs.declared.Extended.{Extended}
 use Rattle.classes.specs.declared.Extended.the-variants.{Clash, Occurs}
-use Rattle.nodes.specs.Code.Open.{Marked, markedTest, Counts}
+use Rattle.nodes.specs.Code.Open.{IsClosed, closedTest, Counts}
 use Rattle.nodes.specs.Code.Formed.{Formed}
 use Rattle.classes.specs.Code.Stands.{StandsAlways, Never, Extends, extended}
-use Rattle.nodes.proofs.OpenLaws.{marked-true}
+use Rattle.nodes.proofs.OpenLaws.{closed-true}
 use Rattle.classes.proofs.ExtensionLaws.{longer}
 use Rattle.classes.proofs.AtOnceLaws.{differ-clash}
 
 -- a closed application has one value under every substitution, by induction on nodes before n
-closed-value : (nodes arguments counts : List ℕ) → Sections nodes arguments → Counts nodes arguments counts (nodeCount nodes) → (n i : ℕ) → i < n → Marked nodes counts i → (σ τ : Substitution) → value (nodesFrom nodes arguments) σ i ≡ value (nodesFrom nodes arguments) τ i
+closed-value : (nodes arguments counts : List ℕ) → Sections nodes arguments → Counts nodes arguments counts (nodeCount nodes) → (n i : ℕ) → i < n → IsClosed nodes counts i → (σ τ : Substitution) → value (nodesFrom nodes arguments) σ i ≡ value (nodesFrom nodes arguments) τ i
 closed-value nodes arguments counts s k zero i l m σ τ = absurd (omega arith)
 closed-value nodes arguments counts s k (suc n) i l m σ τ =
     let w = sections-well-formed nodes arguments s in
@@ -75,19 +75,19 @@ module _ (nodes arguments counts : List ℕ) (s : Sections nodes arguments) (hea
       joined-equal ns (sections-well-formed nodes arguments s) (z .pairs) (z .stands .inside) σ (z .same σ) (z .stands .closure .joined i (is-node nodes arguments i h))
 
   -- closed applications of different terms
-  pub never-closed : Counts nodes arguments counts (nodeCount nodes) → (g h : ℕ) → g ≡ classOf heads a → h ≡ classOf heads b → (g ≡ h → ⊥) → (r : Bool) → r ≡ (markedTest nodes counts g && markedTest nodes counts h) → r ≡ true → Never ns a b
+  pub never-closed : Counts nodes arguments counts (nodeCount nodes) → (g h : ℕ) → g ≡ classOf heads a → h ≡ classOf heads b → (g ≡ h → ⊥) → (r : Bool) → r ≡ (closedTest nodes counts g && closedTest nodes counts h) → r ≡ true → Never ns a b
   never-closed k g h x y n r d t = never-by (λ e. n (x ∙ one (outcome-unified ns (sections-well-formed nodes arguments s) ((a, b) ∷ z .pairs) with-pair .0 e) ∙ sym y))
     where
-      both : (markedTest nodes counts (classOf heads a) && markedTest nodes counts (classOf heads b)) ≡ true
+      both : (closedTest nodes counts (classOf heads a) && closedTest nodes counts (classOf heads b)) ≡ true
       both = rw (x, y) at (sym d ∙ t)
 
-      first : Marked nodes counts (classOf heads a)
-      first = marked-true nodes counts (classOf heads a) (f .partition .below a p) (and-true-left _ (markedTest nodes counts (classOf heads b)) both)
+      first : IsClosed nodes counts (classOf heads a)
+      first = closed-true nodes counts (classOf heads a) (f .partition .below a p) (and-true-left _ (closedTest nodes counts (classOf heads b)) both)
 
-      second : Marked nodes counts (classOf heads b)
-      second = marked-true nodes counts (classOf heads b) (f .partition .below b q) (and-true-right (markedTest nodes counts (classOf heads a)) _ both)
+      second : IsClosed nodes counts (classOf heads b)
+      second = closed-true nodes counts (classOf heads b) (f .partition .below b q) (and-true-right (closedTest nodes counts (classOf heads a)) _ both)
 
-      always : (i : ℕ) → Marked nodes counts i → (σ τ : Substitution) → value ns σ i ≡ value ns τ i
+      always : (i : ℕ) → IsClosed nodes counts i → (σ τ : Substitution) → value ns σ i ≡ value ns τ i
       always i = closed-value nodes arguments counts s k (suc i) i (omega arith)
 
       one : Unifiable ns ((a, b) ∷ z .pairs) → classOf heads a ≡ classOf heads b

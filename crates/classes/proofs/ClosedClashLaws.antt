@@ -16,7 +16,7 @@ use Rattle.unification.specs.Closure.{Joined, arguments as by-arguments, Clash,
 use Rattle.unification.specs.Code.Sections.{Sections, nodesFrom, symbolTest}
 use Rattle.unification.proofs.NodeLaws.{each-equal, value-application}
 use Rattle.unification.proofs.SectionLaws.{run, run-long, is-node, application-from, symbol-test, symbols-differ, pair-place, sections-well-formed}
-use Rattle.nodes.specs.Code.Open.{Marked, Counts}
+use Rattle.nodes.specs.Code.Open.{IsClosed, Counts}
 
 -- Nodes i and j are of one term.
 abbrev pub Same : List ℕ → List ℕ → ℕ → ℕ → Type 0
@@ -27,7 +27,7 @@ module _ (nodes arguments counts : List ℕ) (s : Sections nodes arguments) (r :
   abbrev ns : List Node
   ns = nodesFrom nodes arguments
 
-  module _ (i j : ℕ) (m : Marked nodes counts i) (n : Marked nodes counts j) (q : Joined ns ps i j) where
+  module _ (i j : ℕ) (m : IsClosed nodes counts i) (n : IsClosed nodes counts j) (q : Joined ns ps i j) where
     -- the first is an application
     first-node : nodeAt ns i ≡ application (nameOf nodes i) (run nodes arguments i)
     first-node = application-from nodes arguments i (m .node) (m .applied)
@@ -64,7 +64,7 @@ module _ (nodes arguments counts : List ℕ) (s : Sections nodes arguments) (r :
           pairs a b k = let p = pair-place nodes arguments s i j (m .node) (n .node) a b .0 k in ap (value ns var) (p .3) ∙ f (p .0) (p .1) ∙ sym (ap (value ns var) (p .4))
 
       -- the first k pairs of arguments are of one term each, or some clash
-      firsts : ((a b : ℕ) → a < i → Marked nodes counts a → Marked nodes counts b → Joined ns ps a b → Clash ns ps ⊎ Same nodes arguments a b) → (k : ℕ) → ((p : ℕ) → p < k → p < countOf nodes i) → Clash ns ps ⊎ ((p : ℕ) → p < k → Same nodes arguments (argumentOf nodes arguments i p) (argumentOf nodes arguments j p))
+      firsts : ((a b : ℕ) → a < i → IsClosed nodes counts a → IsClosed nodes counts b → Joined ns ps a b → Clash ns ps ⊎ Same nodes arguments a b) → (k : ℕ) → ((p : ℕ) → p < k → p < countOf nodes i) → Clash ns ps ⊎ ((p : ℕ) → p < k → Same nodes arguments (argumentOf nodes arguments i p) (argumentOf nodes arguments j p))
       firsts f zero h = inr (λ p l. absurd (omega arith))
       firsts f (suc k) h =
           let l : k < countOf nodes i = h k (omega arith) in
@@ -81,7 +81,7 @@ module _ (nodes arguments counts : List ℕ) (s : Sections nodes arguments) (r :
           go (inr e) (inr d) = inr (λ p b. last e d p b (ℕ-discrete p k))
 
       -- all pairs are of one term each, or some clash
-      all : ((a b : ℕ) → a < i → Marked nodes counts a → Marked nodes counts b → Joined ns ps a b → Clash ns ps ⊎ Same nodes arguments a b) → Clash ns ps ⊎ Same nodes arguments i j
+      all : ((a b : ℕ) → a < i → IsClosed nodes counts a → IsClosed nodes counts b → Joined ns ps a b → Clash ns ps ⊎ Same nodes arguments a b) → Clash ns ps ⊎ Same nodes arguments i j
       all f = go (firsts f (countOf nodes i) (λ p l. l))
         where
           go : Clash ns ps ⊎ ((p : ℕ) → p < countOf nodes i → Same nodes arguments (argumentOf nodes arguments i p) (argumentOf nodes arguments j p)) → Clash ns ps ⊎ Same nodes arguments i j
@@ -89,7 +89,7 @@ module _ (nodes arguments counts : List ℕ) (s : Sections nodes arguments) (r :
           go (inr e) = inr (made e)
 
     -- the symbols are one or not
-    step : ((a b : ℕ) → a < i → Marked nodes counts a → Marked nodes counts b → Joined ns ps a b → Clash ns ps ⊎ Same nodes arguments a b) → Clash ns ps ⊎ Same nodes arguments i j
+    step : ((a b : ℕ) → a < i → IsClosed nodes counts a → IsClosed nodes counts b → Joined ns ps a b → Clash ns ps ⊎ Same nodes arguments a b) → Clash ns ps ⊎ Same nodes arguments i j
     step f = pick (symbolTest nodes i j) refl
       where
         pick : (b : Bool) → symbolTest nodes i j ≡ b → Clash ns ps ⊎ Same nodes arguments i j
@@ -97,10 +97,10 @@ module _ (nodes arguments counts : List ℕ) (s : Sections nodes arguments) (r :
         pick false e = inl (apart e)
 
   -- by induction on a bound of the first
-  within : (k i j : ℕ) → i < k → Marked nodes counts i → Marked nodes counts j → Joined ns ps i j → Clash ns ps ⊎ Same nodes arguments i j
+  within : (k i j : ℕ) → i < k → IsClosed nodes counts i → IsClosed nodes counts j → Joined ns ps i j → Clash ns ps ⊎ Same nodes arguments i j
   within zero i j h m n q = absurd (omega arith)
   within (suc k) i j h m n q = step i j m n q (λ a b l. within k a b (omega arith))
 
   -- closed applications that are joined are of one term, or there is a clash
-  pub closed-joined : (i j : ℕ) → Marked nodes counts i → Marked nodes counts j → Joined ns ps i j → Clash ns ps ⊎ Same nodes arguments i j
+  pub closed-joined : (i j : ℕ) → IsClosed nodes counts i → IsClosed nodes counts j → Joined ns ps i j → Clash ns ps ⊎ Same nodes arguments i j
   closed-joined i j m n q = within (suc i) i j (omega arith) m n q

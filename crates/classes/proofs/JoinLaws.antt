@@ -20,12 +20,12 @@ use Rattle.unification.specs.Code.Sections.{nodesFrom, Sections, symbolTest}
 use Rattle.unification.proofs.ListLaws.{tabulate-member, tabulate-from, zip-back}
 use Rattle.unification.proofs.CountLaws.{join-length, join-keeps, join-lowers, join-second, join-other, unites-front, in-list}
 use Rattle.unification.proofs.SectionLaws.{symbols-differ, run, run-long, nodes-long, variable-from, application-from, from-application, symbol-test, is-node, pair-place}
-use Rattle.nodes.specs.Code.Open.{Marked, markedTest, KeepsClosed}
+use Rattle.nodes.specs.Code.Open.{IsClosed, closedTest, KeepsClosed}
 use Rattle.nodes.specs.Code.Uniting.{TwoHeads}
 use Rattle.nodes.specs.Code.Trail.{Trailed, Merges, none, Goes}
 use Rattle.classes.specs.Code.Closure.{ClosureUpTo, argumentPair, argumentPairs, Joinable, Joins}
 use Rattle.classes.proofs.TrailLaws.{one-merged, merges-on, merges-trailed}
-use Rattle.nodes.proofs.OpenLaws.{marked-true, marked-false, weaker-variable, weaker-closed, closed-kept}
+use Rattle.nodes.proofs.OpenLaws.{closed-true, closed-false, weaker-variable, weaker-closed, closed-kept}
 use Rattle.classes.proofs.ClosedClashLaws.{Same, closed-joined}
 use Rattle.classes.proofs.ClosureLaws.{Wanted, HeadsMeet, retold, already, heads-clash, united, classes-joined, variable-meets}
 
@@ -44,26 +44,26 @@ module _ (nodes : List ℕ) (g h : ℕ) (r s : Bool) (p : r ≡ eqb (kindOf node
   applied-tested e =
       (eqb-false (kindOf nodes g) 0 (sym p ∙ or-false-left r s e), eqb-false (kindOf nodes h) 0 (sym q ∙ or-false-right r s e))
 
-module _ (nodes counts : List ℕ) (g h : ℕ) (hg : g < nodeCount nodes) (hh : h < nodeCount nodes) (r s : Bool) (p : r ≡ symbolTest nodes g h) (q : s ≡ (markedTest nodes counts g && markedTest nodes counts h)) where
+module _ (nodes counts : List ℕ) (g h : ℕ) (hg : g < nodeCount nodes) (hh : h < nodeCount nodes) (r s : Bool) (p : r ≡ symbolTest nodes g h) (q : s ≡ (closedTest nodes counts g && closedTest nodes counts h)) where
   -- what the test of two heads that are applications tells: of different symbols, or both closed
-  pub clash-tested : (not r || s) ≡ true → (symbolTest nodes g h ≡ false) ⊎ (Marked nodes counts g × Marked nodes counts h)
+  pub clash-tested : (not r || s) ≡ true → (symbolTest nodes g h ≡ false) ⊎ (IsClosed nodes counts g × IsClosed nodes counts h)
   clash-tested e = go r s refl refl e
     where
-      go : (x y : Bool) → r ≡ x → s ≡ y → (not x || y) ≡ true → (symbolTest nodes g h ≡ false) ⊎ (Marked nodes counts g × Marked nodes counts h)
+      go : (x y : Bool) → r ≡ x → s ≡ y → (not x || y) ≡ true → (symbolTest nodes g h ≡ false) ⊎ (IsClosed nodes counts g × IsClosed nodes counts h)
       go false y a b z = inl (sym p ∙ a)
       go true true a b z =
-          let k : (markedTest nodes counts g && markedTest nodes counts h) ≡ true = sym q ∙ b in
-          inr (marked-true nodes counts g hg (and-true-left (markedTest nodes counts g) (markedTest nodes counts h) k), marked-true nodes counts h hh (and-true-right (markedTest nodes counts g) (markedTest nodes counts h) k))
+          let k : (closedTest nodes counts g && closedTest nodes counts h) ≡ true = sym q ∙ b in
+          inr (closed-true nodes counts g hg (and-true-left (closedTest nodes counts g) (closedTest nodes counts h) k), closed-true nodes counts h hh (and-true-right (closedTest nodes counts g) (closedTest nodes counts h) k))
       go true false a b z = absurd (false≢true z)
 
   -- and where they are neither
-  pub alike-tested : (not r || s) ≡ false → (symbolTest nodes g h ≡ true) × (Marked nodes counts g → Marked nodes counts h → ⊥)
+  pub alike-tested : (not r || s) ≡ false → (symbolTest nodes g h ≡ true) × (IsClosed nodes counts g → IsClosed nodes counts h → ⊥)
   alike-tested e =
-      (sym p ∙ not-false r (or-false-left (not r) s e), λ m n. go (markedTest nodes counts g) (markedTest nodes counts h) refl refl (sym q ∙ or-false-right (not r) s e) m n)
+      (sym p ∙ not-false r (or-false-left (not r) s e), λ m n. go (closedTest nodes counts g) (closedTest nodes counts h) refl refl (sym q ∙ or-false-right (not r) s e) m n)
     where
-      go : (x y : Bool) → markedTest nodes counts g ≡ x → markedTest nodes counts h ≡ y → (x && y) ≡ false → Marked nodes counts g → Marked nodes counts h → ⊥
-      go false y a b z m n = marked-false nodes counts g a m
-      go true y a b z m n = marked-false nodes counts h (b ∙ z) n
+      go : (x y : Bool) → closedTest nodes counts g ≡ x → closedTest nodes counts h ≡ y → (x && y) ≡ false → IsClosed nodes counts g → IsClosed nodes counts h → ⊥
+      go false y a b z m n = closed-false nodes counts g a m
+      go true y a b z m n = closed-false nodes counts h (b ∙ z) n
 
 -- a test of two nodes, by their numbers
 pub tested-by : (f : ℕ → ℕ → Bool) (x y g h : ℕ) (r : Bool) → x ≡ g → y ≡ h → r ≡ f x y → r ≡ f g h
@@ -224,7 +224,7 @@ pub record OneSymbolHeads (nodes arguments counts heads : List ℕ) (a b : ℕ) 
   pub first-applied : kindOf nodes (classOf heads a) ≡ 0 → ⊥
   pub second-applied : kindOf nodes (classOf heads b) ≡ 0 → ⊥
   pub one-symbol : symbolTest nodes (classOf heads a) (classOf heads b) ≡ true
-  pub not-both : Marked nodes counts (classOf heads a) → Marked nodes counts (classOf heads b) → ⊥
+  pub not-both : IsClosed nodes counts (classOf heads a) → IsClosed nodes counts (classOf heads b) → ⊥
 
 -- the two nodes are of one class
 pub join-already : {nodes arguments counts heads next : List ℕ} (a b : ℕ) → Joinable nodes arguments counts heads next → a < nodeCount nodes → b < nodeCount nodes → classOf heads a ≡ classOf heads b → Joins nodes arguments counts heads next a b true heads next
@@ -306,7 +306,7 @@ module _ {nodes arguments counts heads next : List ℕ} {a b : ℕ} (m : Meeting
       c)
 
   -- heads that are closed applications: of one term they would be of one class
-  join-closed : Marked nodes counts (classOf heads a) → Marked nodes counts (classOf heads b) → Joins nodes arguments counts heads next a b false heads next
+  join-closed : IsClosed nodes counts (classOf heads a) → IsClosed nodes counts (classOf heads b) → Joins nodes arguments counts heads next a b false heads next
   join-closed p q =
       refused (λ ps todo c. go (closed-joined nodes arguments counts (m .joinable .sections) (m .joinable .counts-right) ps (classOf heads a) (classOf heads b) p q (heads-joined ps todo c)))
     where
@@ -316,7 +316,7 @@ module _ {nodes arguments counts heads next : List ℕ} {a b : ℕ} (m : Meeting
           absurd (m .apart (sym (partition .own a (m .first)) ∙ m .joinable .closed .shared (classOf heads a) (classOf heads b) p q e ∙ partition .own b (m .second)))
 
   -- heads that clash
-  pub join-clash : (kindOf nodes (classOf heads a) ≡ 0 → ⊥) × (kindOf nodes (classOf heads b) ≡ 0 → ⊥) → (symbolTest nodes (classOf heads a) (classOf heads b) ≡ false) ⊎ (Marked nodes counts (classOf heads a) × Marked nodes counts (classOf heads b)) → Joins nodes arguments counts heads next a b false heads next
+  pub join-clash : (kindOf nodes (classOf heads a) ≡ 0 → ⊥) × (kindOf nodes (classOf heads b) ≡ 0 → ⊥) → (symbolTest nodes (classOf heads a) (classOf heads b) ≡ false) ⊎ (IsClosed nodes counts (classOf heads a) × IsClosed nodes counts (classOf heads b)) → Joins nodes arguments counts heads next a b false heads next
   join-clash k (inl e) = join-differ (k .0) (k .1) e
   join-clash k (inr r) = join-closed (r .0) (r .1)
 
@@ -340,12 +340,12 @@ module _ {nodes arguments counts heads next : List ℕ} {a b : ℕ} (m : Meeting
     joined-so = z .merged .renames
 
     -- closed applications keep their heads, where the two heads are not both closed
-    keeps : (Marked nodes counts (classOf heads y) → Marked nodes counts (classOf heads x) → ⊥) → KeepsClosed nodes counts heads ds
+    keeps : (IsClosed nodes counts (classOf heads y) → IsClosed nodes counts (classOf heads x) → ⊥) → KeepsClosed nodes counts heads ds
     keeps f i k = go (ℕ-discrete (classOf heads i) (classOf heads y))
       where
         go : Dec (classOf heads i ≡ classOf heads y) → classOf ds i ≡ classOf heads i
         go (yes e) =
-            let r : Marked nodes counts (classOf heads y) = rw (← e) (m .joinable .closed .closed i k) in
+            let r : IsClosed nodes counts (classOf heads y) = rw (← e) (m .joinable .closed .closed i k) in
             absurd (f r (weaker-closed nodes counts (classOf heads y) (classOf heads x) (partition .below x hx) (z .weaker) r))
         go (no e) = rw joined-so (join-other heads x y i (in-list partition i (k .node)) e)
 
@@ -375,7 +375,7 @@ module _ {nodes arguments counts heads next : List ℕ} {a b : ℕ} (m : Meeting
           c
 
       -- the classes are made one
-      made-one : (Marked nodes counts (classOf heads y) → Marked nodes counts (classOf heads x) → ⊥) → Trades nodes arguments counts heads next a b new ds next′
+      made-one : (IsClosed nodes counts (classOf heads y) → IsClosed nodes counts (classOf heads x) → ⊥) → Trades nodes arguments counts heads next a b new ds next′
       made-one f =
           record {
             partition = rw joined-so (join-keeps (nodeCount nodes) heads x y hx hy partition);
@@ -482,7 +482,7 @@ module _ {nodes arguments counts heads next : List ℕ} {a b : ℕ} (m : Meeting
       applications-made-one : Trades nodes arguments counts heads next a b (argumentPairs nodes arguments g h) ds next′
       applications-made-one =
           made-one x y o ds next′ z (argumentPairs nodes arguments g h) heads-meet arguments-wanted
-          (λ p q. either-between (λ i j. Marked nodes counts (classOf heads i) → Marked nodes counts (classOf heads j) → ⊥) (λ i j f k l. f l k) o (s .not-both) q p)
+          (λ p q. either-between (λ i j. IsClosed nodes counts (classOf heads i) → IsClosed nodes counts (classOf heads j) → ⊥) (λ i j f k l. f l k) o (s .not-both) q p)
 
     -- their classes are made one
     pub applications-united : (ds next′ : List ℕ) → Goes nodes counts heads next g h ds next′ ⊎ Goes nodes counts heads next h g ds next′ → Trades nodes arguments counts heads next a b (argumentPairs nodes arguments g h) ds next′

@@ -22,7 +22,7 @@ use Rattle.unification.specs.Code.Sections.{nodesFrom, Sections}
 use Rattle.unification.specs.Code.Solved.{IsClosure, Solved}
 use Rattle.unification.proofs.OutcomeLaws.{solved-decides}
 use Rattle.unification.proofs.SectionLaws.{nodes-long, counted, application-from, argument-place, place-argument, counted-application, sections-well-formed}
-use Rattle.nodes.specs.Code.Open.{Marked, Counts, ClosedHeads}
+use Rattle.nodes.specs.Code.Open.{IsClosed, Counts, ClosedHeads}
 use Rattle.nodes.specs.Code.Order.{Leads, next, further, Looped, Met, leaf, before, Listed, Ordered}
 use Rattle.nodes.proofs.OpenLaws.{looked-at}
 
@@ -89,7 +89,7 @@ module _ (nodes arguments : List ℕ) (s : Sections nodes arguments) (counts : L
   looked-node i j b l = omega (arith, s .smaller i j b (looked-at k i j b l))
 
   -- an argument of a node none of whose arguments is looked at is a closed application
-  pub closed-argument : (i j : ℕ) → i < nodeCount nodes → j < countOf nodes i → word counts i ≡ 0 → Marked nodes counts (argumentOf nodes arguments i j)
+  pub closed-argument : (i j : ℕ) → i < nodeCount nodes → j < countOf nodes i → word counts i ≡ 0 → IsClosed nodes counts (argumentOf nodes arguments i j)
   closed-argument i j b l e =
       k .below i b (record { node = b; applied = counted-application nodes arguments s i j b l; none = e }) j l
 

@@ -10,14 +10,14 @@ use borrow.Author.Tests.{eqb-true, eqb-false, eq-eqb, ne-eqb, not-true}
 use lib.Dec.{eqb}
 use Rattle.table.specs.Layout.{word, kindOf, countOf, nodeCount}
 use Rattle.table.proofs.BoolLaws.{and-true-left, and-true-right}
-use Rattle.nodes.specs.Code.Open.{Marked, markedTest, Counts, ClosedHeads, KeepsClosed}
+use Rattle.nodes.specs.Code.Open.{IsClosed, closedTest, Counts, ClosedHeads, KeepsClosed}
 use Rattle.nodes.specs.Code.Uniting.{strengthOf}
 
 module _ (nodes counts : List ℕ) (i : ℕ) where
   -- the test tells that the node is one
-  pub marked-true : i < nodeCount nodes → markedTest nodes counts i ≡ true → Marked nodes counts i
-  unfolding markedTest
-  marked-true h e =
+  pub closed-true : i < nodeCount nodes → closedTest nodes counts i ≡ true → IsClosed nodes counts i
+  unfolding closedTest
+  closed-true h e =
       record {
         node = h;
         applied = eqb-false (kindOf nodes i) 0 (not-true _ (and-true-left (not (eqb (kindOf nodes i) 0)) (eqb (word counts i) 0) e));
@@ -25,13 +25,13 @@ module _ (nodes counts : List ℕ) (i : ℕ) where
       }
 
   -- a closed application passes it
-  pub marked-test : Marked nodes counts i → markedTest nodes counts i ≡ true
-  unfolding markedTest
-  marked-test m = rw (ne-eqb (kindOf nodes i) 0 (m .applied), eq-eqb (word counts i) 0 (m .none))
+  pub closed-test : IsClosed nodes counts i → closedTest nodes counts i ≡ true
+  unfolding closedTest
+  closed-test m = rw (ne-eqb (kindOf nodes i) 0 (m .applied), eq-eqb (word counts i) 0 (m .none))
 
   -- so a node that does not is none
-  pub marked-false : markedTest nodes counts i ≡ false → Marked nodes counts i → ⊥
-  marked-false e m = false≢true (sym e ∙ marked-test m)
+  pub closed-false : closedTest nodes counts i ≡ false → IsClosed nodes counts i → ⊥
+  closed-false e m = false≢true (sym e ∙ closed-test m)
 
   -- a variable has no strength
   pub strength-variable : kindOf nodes i ≡ 0 → strengthOf nodes counts i ≡ 0
@@ -76,12 +76,12 @@ weaker-variable nodes counts g h l e = go (ℕ-discrete (kindOf nodes g) 0)
         absurd (omega (arith, l, x, y))
 
 -- where a closed application goes, another stays
-pub weaker-closed : (nodes counts : List ℕ) (g h : ℕ) → h < nodeCount nodes → strengthOf nodes counts g ≤ strengthOf nodes counts h → Marked nodes counts g → Marked nodes counts h
+pub weaker-closed : (nodes counts : List ℕ) (g h : ℕ) → h < nodeCount nodes → strengthOf nodes counts g ≤ strengthOf nodes counts h → IsClosed nodes counts g → IsClosed nodes counts h
 weaker-closed nodes counts g h p l m =
     let x = strength-closed nodes counts g (m .applied) (m .none) in
     go x (ℕ-discrete (kindOf nodes h) 0) (ℕ-discrete (word counts h) 0)
   where
-    go : strengthOf nodes counts g ≡ 2 → Dec (kindOf nodes h ≡ 0) → Dec (word counts h ≡ 0) → Marked nodes counts h
+    go : strengthOf nodes counts g ≡ 2 → Dec (kindOf nodes h ≡ 0) → Dec (word counts h ≡ 0) → IsClosed nodes counts h
     go x (yes k) d = let y = strength-variable nodes counts h k in absurd (omega (arith, l, x, y))
     go x (no k) (yes d) = record { node = p; applied = k; none = d }
     go x (no k) (no d) = let y = strength-open nodes counts h k d in absurd (omega (arith, l, x, y))

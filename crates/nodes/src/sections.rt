@@ -7,7 +7,7 @@ ghost use Rattle.table.specs.Limits.{maxNodes, maxCount};
 ghost use Rattle.table.specs.Layout.{kindOf, nameOf, countOf, nodeCount, argumentOf};
 ghost use Rattle.unification.specs.Code.Sections.{Sections, symbolTest, differTest};
 ghost use mathlib.Core.Bool.{_&&_};
-ghost use Rattle.nodes.specs.Code.Open.{markedTest};
+ghost use Rattle.nodes.specs.Code.Open.{closedTest};
 use table::Node;
 use table::Variable;
 use table::layout;
@@ -76,7 +76,7 @@ pub fn differ(nodes: &[u32], g: Node, h: Node) -> bool
 // Whether a node is a closed application: no variable is below it.
 pub fn is_closed(nodes: &[u32], counts: &[u8], node: Node) -> bool
     requires { ⌜ (node .0 < nodeCount (now nodes)) × (nodeCount (now nodes) ≤ length (now counts)) ⌝ }
-    ensures { λ r. ⌜ r ≡ markedTest (now (nodes .entry)) (now (counts .entry)) (node .0) ⌝ }
+    ensures { λ r. ⌜ r ≡ closedTest (now (nodes .entry)) (now (counts .entry)) (node .0) ⌝ }
 {
     let i = node.0 as usize;
     !is_variable(nodes, node) & (counts[i] == 0)
@@ -85,7 +85,7 @@ pub fn is_closed(nodes: &[u32], counts: &[u8], node: Node) -> bool
 // Whether two nodes are closed applications.
 pub fn both_closed(nodes: &[u32], counts: &[u8], g: Node, h: Node) -> bool
     requires { ⌜ (g .0 < nodeCount (now nodes)) × (h .0 < nodeCount (now nodes)) × (nodeCount (now nodes) ≤ length (now counts)) ⌝ }
-    ensures { λ r. ⌜ r ≡ markedTest (now (nodes .entry)) (now (counts .entry)) (g .0) && markedTest (now (nodes .entry)) (now (counts .entry)) (h .0) ⌝ }
+    ensures { λ r. ⌜ r ≡ closedTest (now (nodes .entry)) (now (counts .entry)) (g .0) && closedTest (now (nodes .entry)) (now (counts .entry)) (h .0) ⌝ }
 {
     is_closed(nodes, counts, g) & is_closed(nodes, counts, h)
 }

@@ -14,7 +14,7 @@ use Rattle.unification.specs.Code.Sections.{Sections, nodesFrom}
 use Rattle.unification.specs.Code.Heads.{Partition}
 use Rattle.unification.proofs.NodeLaws.{each-long, each-at, value-variable, value-application}
 use Rattle.unification.proofs.SectionLaws.{run, run-long, pair-place, is-node, variable-from, application-from, sections-well-formed}
-use Rattle.nodes.specs.Code.Open.{Marked, Counts, ClosedHeads}
+use Rattle.nodes.specs.Code.Open.{IsClosed, Counts, ClosedHeads}
 
 module _ (nodes arguments : List ℕ) (s : Sections nodes arguments) (counts : List ℕ) (c : Counts nodes arguments counts (nodeCount nodes)) where
   abbrev ns : List Node
@@ -52,7 +52,7 @@ module _ (nodes arguments : List ℕ) (s : Sections nodes arguments) (counts : L
       }
 
   -- a node of the term of a closed application is one
-  closed-same : (n i j : ℕ) → i < n → Marked nodes counts i → j < nodeCount nodes → value ns var i ≡ value ns var j → Marked nodes counts j
+  closed-same : (n i j : ℕ) → i < n → IsClosed nodes counts i → j < nodeCount nodes → value ns var i ≡ value ns var j → IsClosed nodes counts j
   closed-same zero i j b m l e = absurd (omega arith)
   closed-same (suc n) i j b m l e =
       record { node = l; applied = k; none = c .above j l (argument (λ g h. closed-same n g h)) }
@@ -63,7 +63,7 @@ module _ (nodes arguments : List ℕ) (s : Sections nodes arguments) (counts : L
       a : SameArguments i j
       a = same-arguments i j (m .node) l (m .applied) k e
 
-      argument : ((g h : ℕ) → g < n → Marked nodes counts g → h < nodeCount nodes → value ns var g ≡ value ns var h → Marked nodes counts h) → (q : ℕ) → q < countOf nodes j → Marked nodes counts (argumentOf nodes arguments j q)
+      argument : ((g h : ℕ) → g < n → IsClosed nodes counts g → h < nodeCount nodes → value ns var g ≡ value ns var h → IsClosed nodes counts h) → (q : ℕ) → q < countOf nodes j → IsClosed nodes counts (argumentOf nodes arguments j q)
       argument below q t =
           let u : q < countOf nodes i = rw (a .count) t in
           let x = s .smaller i q (m .node) u in

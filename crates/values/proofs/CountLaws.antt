@@ -14,23 +14,23 @@ use lib.Seq.{getD-set-same, getD-set-other}
 use Rattle.table.specs.Layout.{word, kindOf, countOf, nodeCount, argumentOf}
 use Rattle.table.proofs.BoolLaws.{and-true-left, and-true-right, or-false-left, or-false-right}
 use Rattle.unification.specs.Code.Sections.{Sections}
-use Rattle.nodes.specs.Code.Open.{Marked, markedTest, Counts, CountedAt}
-use Rattle.nodes.proofs.OpenLaws.{marked-true, marked-false}
+use Rattle.nodes.specs.Code.Open.{IsClosed, closedTest, Counts, CountedAt}
+use Rattle.nodes.proofs.OpenLaws.{closed-true, closed-false}
 
 -- The first j arguments of node i are closed applications.
 pub record ClosedUpTo (nodes arguments counts : List ℕ) (i j : ℕ) : Type 0 where
-  pub closed : (q : ℕ) → q < j → Marked nodes counts (argumentOf nodes arguments i q)
+  pub closed : (q : ℕ) → q < j → IsClosed nodes counts (argumentOf nodes arguments i q)
 
 -- at first none is asked for
 pub closed-none : (nodes arguments counts : List ℕ) (i : ℕ) → ClosedUpTo nodes arguments counts i 0
 closed-none nodes arguments counts i = record { closed = λ q h. absurd (omega arith) }
 
-module _ (nodes arguments counts : List ℕ) (i j a : ℕ) (v : Bool) (small : a < nodeCount nodes) (is : a ≡ argumentOf nodes arguments i j) (e : v ≡ markedTest nodes counts a) where
+module _ (nodes arguments counts : List ℕ) (i j a : ℕ) (v : Bool) (small : a < nodeCount nodes) (is : a ≡ argumentOf nodes arguments i j) (e : v ≡ closedTest nodes counts a) where
   -- one argument more is closed
   pub closed-next : v ≡ true → ClosedUpTo nodes arguments counts i j → ClosedUpTo nodes arguments counts i (j + 1)
   closed-next t b =
       record {
-        closed = below-more (λ q. Marked nodes counts (argumentOf nodes arguments i q)) j (b .closed) (rw is at (marked-true nodes counts a small (sym e ∙ t)));
+        closed = below-more (λ q. IsClosed nodes counts (argumentOf nodes arguments i q)) j (b .closed) (rw is at (closed-true nodes counts a small (sym e ∙ t)));
       }
 
   -- one is not, so all are looked at
@@ -39,7 +39,7 @@ module _ (nodes arguments counts : List ℕ) (i j a : ℕ) (v : Bool) (small : a
       record {
         some = inr c;
         below = λ z. absurd (omega arith);
-        above = λ b. absurd (marked-false nodes counts a (sym e ∙ f) (rw is (b j (omega arith))));
+        above = λ b. absurd (closed-false nodes counts a (sym e ∙ f) (rw is (b j (omega arith))));
       }
 
 -- all are closed, so none is looked at
@@ -68,11 +68,11 @@ module _ (nodes arguments counts : List ℕ) (s : Sections nodes arguments) (i r
   other k l = getD-set-other counts i k r 0 (λ z. omega (arith, l, z))
 
   -- closed applications below node i stay so
-  stays : (k : ℕ) → k < i → Marked nodes counts k → Marked nodes after k
+  stays : (k : ℕ) → k < i → IsClosed nodes counts k → IsClosed nodes after k
   stays k l m = record { node = m .node; applied = m .applied; none = other k l ∙ m .none }
 
   -- and were so
-  was : (k : ℕ) → k < i → Marked nodes after k → Marked nodes counts k
+  was : (k : ℕ) → k < i → IsClosed nodes after k → IsClosed nodes counts k
   was k l m = record { node = m .node; applied = m .applied; none = sym (other k l) ∙ m .none }
 
   argument-below : (k j : ℕ) → k < i + 1 → j < countOf nodes k → argumentOf nodes arguments k j < i
@@ -90,14 +90,14 @@ module _ (nodes arguments counts : List ℕ) (s : Sections nodes arguments) (i r
         above = λ k l. above-at k l (ℕ-discrete k i);
       }
     where
-      below-at : (k : ℕ) → k < i + 1 → Dec (k ≡ i) → Marked nodes after k → (j : ℕ) → j < countOf nodes k → Marked nodes after (argumentOf nodes arguments k j)
+      below-at : (k : ℕ) → k < i + 1 → Dec (k ≡ i) → IsClosed nodes after k → (j : ℕ) → j < countOf nodes k → IsClosed nodes after (argumentOf nodes arguments k j)
       below-at k l (yes e) m j q =
           stays (argumentOf nodes arguments k j) (argument-below k j l q) (rw e (d .below (sym here ∙ ap (word after) (sym e) ∙ m .none) j (rw e at q)))
       below-at k l (no n) m j q =
           let b : k < i = omega (arith, n) in
           stays (argumentOf nodes arguments k j) (argument-below k j l q) (c .below k b (was k b m) j q)
 
-      above-at : (k : ℕ) → k < i + 1 → Dec (k ≡ i) → ((j : ℕ) → j < countOf nodes k → Marked nodes after (argumentOf nodes arguments k j)) → word after k ≡ 0
+      above-at : (k : ℕ) → k < i + 1 → Dec (k ≡ i) → ((j : ℕ) → j < countOf nodes k → IsClosed nodes after (argumentOf nodes arguments k j)) → word after k ≡ 0
       above-at k l (yes e) m =
           ap (word after) e ∙ here ∙ d .above (λ j q. was (argumentOf nodes arguments i j) (argument-below i j (omega arith) q) ((rw e at m) j q))
       above-at k l (no n) m =

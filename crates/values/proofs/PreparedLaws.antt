@@ -19,11 +19,11 @@ use Rattle.unification.specs.Computed.Classes.{classOf}
 use Rattle.unification.specs.Code.Heads.{Partition}
 use Rattle.unification.specs.Code.Sections.{Sections}
 use Rattle.unification.proofs.SectionLaws.{counted-application}
-use Rattle.nodes.specs.Code.Open.{Marked, markedTest, Counts, closedHeadTest, KeepsClosed}
+use Rattle.nodes.specs.Code.Open.{IsClosed, closedTest, Counts, closedHeadTest, KeepsClosed}
 use Rattle.nodes.specs.Code.Named.{valueName, Themselves}
 use Rattle.values.specs.Code.Naming.{keys, keyUpTo, keyOf, keyAt, Representative, Chained}
 use Rattle.values.specs.Code.Prepared.{preparedWords, ClosedListed, ClosedTable, bucketsIn, earlierIn, openIn, closedIn, PreparedOpen, Prepared, nothing, with-open, ListsOpen, closedNoted, ListsClosed}
-use Rattle.nodes.proofs.OpenLaws.{marked-true, marked-test, looked-at}
+use Rattle.nodes.proofs.OpenLaws.{closed-true, closed-test, looked-at}
 use Rattle.values.proofs.ChainLaws.{chained-add}
 
 -- how long a part of a list is
@@ -201,7 +201,7 @@ key-small nodes arguments heads names h = key-up-to-small nodes arguments heads 
 
 -- A closed application with arguments that is the head of its class.
 pub record IsClosedHead (nodes counts heads : List ℕ) (i : ℕ) : Type 0 where
-  pub marked : Marked nodes counts i
+  pub is-closed : IsClosed nodes counts i
   pub compound : 0 < countOf nodes i
   pub own : classOf heads i ≡ i
 
@@ -209,12 +209,12 @@ pub record IsClosedHead (nodes counts heads : List ℕ) (i : ℕ) : Type 0 where
 head-true : (nodes counts heads : List ℕ) (i : ℕ) → i < nodeCount nodes → closedHeadTest nodes counts heads i ≡ true → IsClosedHead nodes counts heads i
 unfolding closedHeadTest
 head-true nodes counts heads i h e =
-    let a = and-true-left (markedTest nodes counts i && not (eqb (countOf nodes i) 0)) (eqb (classOf heads i) i) e in
-    let b = eqb-false (countOf nodes i) 0 (not-true _ (and-true-right (markedTest nodes counts i) (not (eqb (countOf nodes i) 0)) a)) in
+    let a = and-true-left (closedTest nodes counts i && not (eqb (countOf nodes i) 0)) (eqb (classOf heads i) i) e in
+    let b = eqb-false (countOf nodes i) 0 (not-true _ (and-true-right (closedTest nodes counts i) (not (eqb (countOf nodes i) 0)) a)) in
     record {
-      marked = marked-true nodes counts i h (and-true-left (markedTest nodes counts i) (not (eqb (countOf nodes i) 0)) a);
+      is-closed = closed-true nodes counts i h (and-true-left (closedTest nodes counts i) (not (eqb (countOf nodes i) 0)) a);
       compound = omega (arith, b);
-      own = eqb-true (classOf heads i) i (and-true-right (markedTest nodes counts i && not (eqb (countOf nodes i) 0)) (eqb (classOf heads i) i) e);
+      own = eqb-true (classOf heads i) i (and-true-right (closedTest nodes counts i && not (eqb (countOf nodes i) 0)) (eqb (classOf heads i) i) e);
     }
 
 -- and only of these
@@ -222,7 +222,7 @@ head-false : (nodes counts heads : List ℕ) (i : ℕ) → closedHeadTest nodes 
 unfolding closedHeadTest
 head-false nodes counts heads i e m =
     let c = m .compound in
-    false≢true (sym e ∙ rw (marked-test nodes counts i (m .marked), ne-eqb (countOf nodes i) 0 (λ z. omega (arith, z, c)), eq-eqb (classOf heads i) i (m .own)))
+    false≢true (sym e ∙ rw (closed-test nodes counts i (m .is-closed), ne-eqb (countOf nodes i) 0 (λ z. omega (arith, z, c)), eq-eqb (classOf heads i) i (m .own)))
 
 -- what the words are after a closed application was noted: the key is below the place that is written first
 pub noted-read : (nodes arguments heads names prepared : List ℕ) (place i k : ℕ) → k ≡ keyOf nodes arguments heads names i → k < keys → set (set (set prepared (768 + place) i) (256 + place) (word (set prepared (768 + place) i) k)) k (place + 1) ≡ closedNoted nodes arguments heads names prepared place i
@@ -344,7 +344,7 @@ module _ (nodes arguments counts heads prepared₀ prepared : List ℕ) (count i
     unfolding keyAt
     chained-put c names′ m t =
         rw (noted-buckets, noted-earlier)
-        (chained-add (Representative nodes before names′) (Representative nodes after names′) (keyAt nodes arguments heads before names′) (keyAt nodes arguments heads after names′) (take 256 prepared) (take 256 (drop 256 prepared)) count (λ q b. representative-same nodes before after names′ q (list-kept q b)) (λ q b. representative-same nodes after before names′ q (sym (list-kept q b))) (λ q b. key-at-same nodes arguments heads before after names′ q (list-kept q b)) (o .chained names′ m t) k (record { application = rw list-here (c .marked .applied); itself = rw list-here (t .itself i (omega (arith, m, h))) }) (ap (keyOf nodes arguments heads names′) list-here ∙ one-key names′ m t) small (length-take-le 256 prepared (omega (arith, size))) (let z : length (take 256 (drop 256 prepared)) ≡ 256 = part-long 256 256 prepared (omega (arith, size)) in omega (arith, z, few)))
+        (chained-add (Representative nodes before names′) (Representative nodes after names′) (keyAt nodes arguments heads before names′) (keyAt nodes arguments heads after names′) (take 256 prepared) (take 256 (drop 256 prepared)) count (λ q b. representative-same nodes before after names′ q (list-kept q b)) (λ q b. representative-same nodes after before names′ q (sym (list-kept q b))) (λ q b. key-at-same nodes arguments heads before after names′ q (list-kept q b)) (o .chained names′ m t) k (record { application = rw list-here (c .is-closed .applied); itself = rw list-here (t .itself i (omega (arith, m, h))) }) (ap (keyOf nodes arguments heads names′) list-here ∙ one-key names′ m t) small (length-take-le 256 prepared (omega (arith, size))) (let z : length (take 256 (drop 256 prepared)) ≡ 256 = part-long 256 256 prepared (omega (arith, size)) in omega (arith, z, few)))
       where
         before : List ℕ
         before = take count (drop 768 prepared)
@@ -372,7 +372,7 @@ closed-list-all nodes arguments counts heads prepared₀ prepared count i n l e 
       size = o .size;
       few = few;
       listed = record {
-        marked = λ p h. rw (at p h) (o .gathered .has p (rw long at h) .marked);
+        is-closed = λ p h. rw (at p h) (o .gathered .has p (rw long at h) .is-closed);
         compound = λ p h. rw (at p h) (o .gathered .has p (rw long at h) .compound);
         own = λ p h. rw (at p h) (o .gathered .has p (rw long at h) .own);
         rising = λ p q g h.
@@ -383,7 +383,7 @@ closed-list-all nodes arguments counts heads prepared₀ prepared count i n l e 
             omega (arith, x, y, r);
         whole = λ k c f d.
             let v = c .node in
-            let w = o .gathered .whole k (omega (arith, v)) (record { marked = c; compound = f; own = d }) in
+            let w = o .gathered .whole k (omega (arith, v)) (record { is-closed = c; compound = f; own = d }) in
             (w .0, rw long (w .1), part-at 768 count (w .0) prepared (w .1) ∙ w .2);
       };
       chained = record {
@@ -506,7 +506,7 @@ chained-kept rep old new buckets earlier p e s =
     }
 
 -- so do the keys of closed applications that keep their heads
-kept-key : (nodes arguments counts heads heads′ l : List ℕ) → Counts nodes arguments counts (nodeCount nodes) → KeepsClosed nodes counts heads heads′ → (names : List ℕ) (q : ℕ) → Marked nodes counts (word l q) → keyAt nodes arguments heads′ l names q ≡ keyAt nodes arguments heads l names q
+kept-key : (nodes arguments counts heads heads′ l : List ℕ) → Counts nodes arguments counts (nodeCount nodes) → KeepsClosed nodes counts heads heads′ → (names : List ℕ) (q : ℕ) → IsClosed nodes counts (word l q) → keyAt nodes arguments heads′ l names q ≡ keyAt nodes arguments heads l names q
 unfolding keyAt
 kept-key nodes arguments counts heads heads′ l c k names q m =
     key-same nodes arguments heads heads′ names names (word l q) (λ j b. ap (word names) (k (argumentOf nodes arguments (word l q) j) (c .below (word l q) (m .node) m j b)))
@@ -522,16 +522,16 @@ prepared-kept nodes arguments counts heads heads′ prepared s c k (with-open f)
       closed-few = f .closed-few;
       open-listed = f .open-listed;
       closed-listed = record {
-        marked = l .marked;
+        is-closed = l .is-closed;
         compound = l .compound;
-        own = λ p h. k (word (closedIn prepared) p) (l .marked p h) ∙ l .own p h;
+        own = λ p h. k (word (closedIn prepared) p) (l .is-closed p h) ∙ l .own p h;
         rising = l .rising;
         whole = λ i m d e. l .whole i m d (sym (k i m) ∙ e);
       };
       closed-table = record {
         buckets-long = t .buckets-long;
         earlier-long = t .earlier-long;
-        chained = λ names a b. chained-kept (Representative nodes (closedIn prepared) names) (keyAt nodes arguments heads (closedIn prepared) names) (keyAt nodes arguments heads′ (closedIn prepared) names) (bucketsIn prepared) (earlierIn prepared) (length (closedIn prepared)) (λ q h. kept-key nodes arguments counts heads heads′ (closedIn prepared) c k names q (l .marked q h)) (t .chained names a b);
+        chained = λ names a b. chained-kept (Representative nodes (closedIn prepared) names) (keyAt nodes arguments heads (closedIn prepared) names) (keyAt nodes arguments heads′ (closedIn prepared) names) (bucketsIn prepared) (earlierIn prepared) (length (closedIn prepared)) (λ q h. kept-key nodes arguments counts heads heads′ (closedIn prepared) c k names q (l .is-closed q h)) (t .chained names a b);
       };
     })
   where

@@ -9,7 +9,7 @@ use Rattle.table.specs.Layout.{word, kindOf, nodeCount}
 use Rattle.unification.specs.Words.{Least}
 use Rattle.unification.specs.Computed.Classes.{classOf}
 use Rattle.values.specs.Code.Kept.{Kept}
-use Rattle.nodes.specs.Code.Open.{Marked}
+use Rattle.nodes.specs.Code.Open.{IsClosed}
 use Rattle.nodes.specs.Code.Named.{valueName, Readable, Alike, Applied, Named}
 
 -- The sections, the heads of the nodes, and the names of the heads.
@@ -48,7 +48,7 @@ pub record AreApplied (nodes list : List ℕ) : Type 0 where
 -- The name of an application is alike its head, and a closed application's is not after it.
 pub record NamesLeast (nodes arguments counts heads names : List ℕ) : Type 0 where
   pub alike : (i : ℕ) → i < nodeCount nodes → Applied nodes heads i → Alike nodes arguments heads names (valueName heads names i) (classOf heads i)
-  pub least : (i : ℕ) → Marked nodes counts i → valueName heads names i ≤ i
+  pub least : (i : ℕ) → IsClosed nodes counts i → valueName heads names i ≤ i
 
 -- At an application that names itself stands one of its name, not after it, nor after the first k of a list of open applications where
 -- they have that name.

@@ -6,17 +6,17 @@ use lib.ListN.{length, take, drop, set}
 use Rattle.table.specs.Limits.{maxNodes}
 use Rattle.table.specs.Layout.{word, countOf, nodeCount}
 use Rattle.unification.specs.Computed.Classes.{classOf}
-use Rattle.nodes.specs.Code.Open.{Marked, OpenListed}
+use Rattle.nodes.specs.Code.Open.{IsClosed, OpenListed}
 use Rattle.nodes.specs.Code.Named.{Themselves}
 use Rattle.values.specs.Code.Naming.{keys, keyOf, keyAt, Representative, Chained}
 
 -- The heads of closed applications with arguments, in rising order.
 pub record ClosedListed (nodes counts heads closed : List ℕ) : Type 0 where
-  pub marked : (p : ℕ) → p < length closed → Marked nodes counts (word closed p)
+  pub is-closed : (p : ℕ) → p < length closed → IsClosed nodes counts (word closed p)
   pub compound : (p : ℕ) → p < length closed → 0 < countOf nodes (word closed p)
   pub own : (p : ℕ) → p < length closed → classOf heads (word closed p) ≡ word closed p
   pub rising : (p q : ℕ) → p < q → q < length closed → word closed p < word closed q
-  pub whole : (i : ℕ) → Marked nodes counts i → 0 < countOf nodes i → classOf heads i ≡ i → (p : ℕ) × (p < length closed) × (word closed p ≡ i)
+  pub whole : (i : ℕ) → IsClosed nodes counts i → 0 < countOf nodes i → classOf heads i ≡ i → (p : ℕ) × (p < length closed) × (word closed p ≡ i)
 
 -- A table of these, by the heads of their arguments, as each names itself.
 pub record ClosedTable (nodes arguments heads closed buckets earlier : List ℕ) : Type 0 where

@@ -14,7 +14,7 @@ use Rattle.table.specs.Layout.{kindOf, countOf, nodeCount}
 use Rattle.unification.specs.Computed.Classes.{classOf}
 use Rattle.unification.specs.Code.Heads.{roots}
 use Rattle.unification.specs.Code.Sections.{symbolTest}
-use Rattle.nodes.specs.Code.Open.{markedTest}
+use Rattle.nodes.specs.Code.Open.{closedTest}
 use Rattle.classes.proofs.JoinLaws.{variable-tested, applied-tested, clash-tested, alike-tested, tested-by, argument-of, Advances, firstPairs, arguments-none, arguments-next, Meeting, OneSymbolHeads, join-already, meeting-inside, meeting-heads, meeting-trailed, join-clash, join-variable, one-count, applications-united, joinable-on, join-applications, join-stopped}
 use Rattle.classes.proofs.closure.join.Reads as join
 use Rattle.classes.proofs.closure.join.Kinds as join-kinds
@@ -102,11 +102,11 @@ symbols t c =
     tested-by (symbolTest ns) _ _ _ _ _ (c .before .before .before .before .before .before .node .ensures .0) (c .before .before .before .before .before .node2 .ensures .0) (c .before .one-symbol .ensures)
 
 -- their test for closed applications
-closed : (t : ℕ) (c : Tested t) → c .both-closed .result ≡ (markedTest (start t (c .before .before .before .before .before .before .before) .args .nodes .now) (start t (c .before .before .before .before .before .before .before) .args .counts .now) (first-head t (c .before .before .before .before .before .before .before)) && markedTest (start t (c .before .before .before .before .before .before .before) .args .nodes .now) (start t (c .before .before .before .before .before .before .before) .args .counts .now) (second-head t (c .before .before .before .before .before .before .before)))
+closed : (t : ℕ) (c : Tested t) → c .both-closed .result ≡ (closedTest (start t (c .before .before .before .before .before .before .before) .args .nodes .now) (start t (c .before .before .before .before .before .before .before) .args .counts .now) (first-head t (c .before .before .before .before .before .before .before)) && closedTest (start t (c .before .before .before .before .before .before .before) .args .nodes .now) (start t (c .before .before .before .before .before .before .before) .args .counts .now) (second-head t (c .before .before .before .before .before .before .before)))
 closed t c =
     let ns = start t (c .before .before .before .before .before .before .before) .args .nodes .now in
     let ks = start t (c .before .before .before .before .before .before .before) .args .counts .now in
-    tested-by (λ i j. markedTest ns ks i && markedTest ns ks j) _ _ _ _ _ (c .before .before .before .before .before .before .node .ensures .0) (c .before .before .before .before .before .node2 .ensures .0) (c .both-closed .ensures)
+    tested-by (λ i j. closedTest ns ks i && closedTest ns ks j) _ _ _ _ _ (c .before .before .before .before .before .before .node .ensures .0) (c .before .before .before .before .before .node2 .ensures .0) (c .both-closed .ensures)
 
 -- they have one symbol and are not both closed
 alike : (t : ℕ) (c : Alike t) → let s = start t (c .before .before .before .before .before .before .before .before) in OneSymbolHeads (s .args .nodes .now) (s .args .arguments .now) (s .args .counts .now) (s .args .heads .now) (s .args .a .0) (s .args .b .0)

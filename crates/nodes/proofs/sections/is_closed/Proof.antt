@@ -1,6 +1,6 @@
 -- `nodes::sections::is_closed` meets its contract. Assumes nothing.
 use borrow.Author.Needs.{needs}
-use Rattle.nodes.specs.Code.Open.{markedTest}
+use Rattle.nodes.specs.Code.Open.{closedTest}
 use Rattle.nodes.proofs.sections.is_closed.Statement.{statement}
 use Rattle.nodes.proofs.sections.is_closed.Tie as tie
 
@@ -14,7 +14,7 @@ shared-slice-read-result : tie.Need-shared-slice-read-result
 shared-slice-read-result c = search needs
 
 returns : tie.Need-returns
-unfolding markedTest
+unfolding closedTest
 returns c = rw (c .before .is-variable .ensures)
 
 pub is-closed-spec : {M : Type 1} → statement M
