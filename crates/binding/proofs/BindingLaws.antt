@@ -32,7 +32,7 @@ use Rattle.values.specs.Code.Begins.{Leaves}
 use Rattle.nodes.specs.Code.Open.{Counts, OpenListed}
 use Rattle.nodes.specs.Code.Order.{Ordered}
 use Rattle.classes.specs.Code.Ordering.{Starting}
-use Rattle.values.specs.Code.Kept.{Writes}
+use Rattle.values.specs.Code.Kept.{WrittenAt}
 use Rattle.values.specs.Code.Present.{leastNodes}
 use Rattle.nodes.specs.Code.Named.{valueName, Applied, Named}
 use Rattle.binding.specs.Code.Binding.{HeadNames, NamesLeast, IsFree, nameAt, ApplicationsNoted, FreeFrom, readAt, AreNodes, WordsFound}
@@ -125,7 +125,7 @@ module _ (nodes arguments list : List ℕ) (e : list ≡ leastNodes (nodesFrom n
           (r .0, r .1, r .2, ap (valueName heads names) (r .3) ∙ ap (word names) g ∙ n)
 
       -- so the variable at the least such place is the lowest with its name
-      named-lowest : (k : ℕ) → Least (Writes (IsFree nodes heads list) (nameAt heads names list) 0 (length list) (valueName heads names (nodeOf ns x))) k → word all (valueName heads names (nodeOf ns x)) ≡ word list k → IsFound x
+      named-lowest : (k : ℕ) → Least (WrittenAt (IsFree nodes heads list) (nameAt heads names list) 0 (length list) (valueName heads names (nodeOf ns x))) k → word all (valueName heads names (nodeOf ns x)) ≡ word list k → IsFound x
       named-lowest k r q =
           let h : k < length list = r .holds .1 in
           let w : word list k ≡ nodeOf ns (word (variablesOf ns) k) = list-at k (rw list-long at h) in

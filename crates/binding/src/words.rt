@@ -112,7 +112,7 @@ fn note_free_variables(
 }
 
 // The word at the name of the node at place k of a list.
-fn word_at(
+fn binding_word(
     nodes: &[u32],
     arguments: &[u32],
     heads: &[u8],
@@ -146,7 +146,7 @@ fn write_words(
 {
     let mut k: usize = 0;
     while k < list.len() {
-        out[k] = word_at(nodes, arguments, heads, names, by, list, k);
+        out[k] = binding_word(nodes, arguments, heads, names, by, list, k);
         k += 1;
     }
 }

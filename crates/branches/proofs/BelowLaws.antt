@@ -118,7 +118,7 @@ marked-rights k m marks used s =
     ∙ ap (rights k used 0) (s .size)
 
 -- The terms are nodes.
-abbrev Nodes : List Node → List ℕ → Type 0
+abbrev pub Nodes : List Node → List ℕ → Type 0
 Nodes ns ts = (i : ℕ) → i < length ts → word ts i < length ns
 
 -- What is kept of a string of digits, where the pairs are ps before it: an entry g of its digits and pairs.
@@ -341,8 +341,8 @@ not-unified occurs es h = refl
 
 module _ (ns : List Node) where
   -- Two lists of pairs have the same unifiers.
-  abbrev Same : List (ℕ × ℕ) → List (ℕ × ℕ) → Type 0
-  Same ps qs = (σ : Substitution) → Unifies ns ps σ ↔ Unifies ns qs σ
+  abbrev SameUnifiers : List (ℕ × ℕ) → List (ℕ × ℕ) → Type 0
+  SameUnifiers ps qs = (σ : Substitution) → Unifies ns ps σ ↔ Unifies ns qs σ
 
   -- what unifies one unifies the other, with one pair more
   one-more : (p : ℕ × ℕ) (ps qs : List (ℕ × ℕ)) (σ : Substitution) → (Unifies ns ps σ → Unifies ns qs σ) → Unifies ns (p ∷ ps) σ → Unifies ns (p ∷ qs) σ
@@ -350,11 +350,11 @@ module _ (ns : List Node) where
   one-more p ps qs σ f u x y (List·Memᴰ·tail m) = f (λ a b n. u a b (List·Memᴰ·tail n)) x y m
 
   -- so they have with one pair more
-  pub same-more : (p : ℕ × ℕ) (ps qs : List (ℕ × ℕ)) → Same ps qs → Same (p ∷ ps) (p ∷ qs)
+  pub same-more : (p : ℕ × ℕ) (ps qs : List (ℕ × ℕ)) → SameUnifiers ps qs → SameUnifiers (p ∷ ps) (p ∷ qs)
   same-more p ps qs e σ = (one-more p ps qs σ (e σ .0), one-more p qs ps σ (e σ .1))
 
   -- both are unified or neither is
-  pub same-unified : WellFormed ns → (ps qs : List (ℕ × ℕ)) → Inside ns ps → Inside ns qs → Same ps qs → outcome ns ps ≡ unified ↔ (outcome ns qs ≡ unified)
+  pub same-unified : WellFormed ns → (ps qs : List (ℕ × ℕ)) → Inside ns ps → Inside ns qs → SameUnifiers ps qs → outcome ns ps ≡ unified ↔ (outcome ns qs ≡ unified)
   same-unified w ps qs h i e =
       let a = outcome-unified ns w ps h in
       let b = outcome-unified ns w qs i in

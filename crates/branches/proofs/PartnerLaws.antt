@@ -28,6 +28,7 @@ use Rattle.branches.specs.declared.Labels.{Labels}
 use Rattle.branches.specs.Code.Branch.{Listable}
 use Rattle.branches.specs.Code.Partners.{Triable, Trying, MayPair, partnerAt, partnered, leftStuck, leftsStuck, leftAt, someLeft, rightStuck, rightsStuck, stuck}
 use Rattle.branches.specs.Code.Walk.{ifUnified, onDigit, below}
+use Rattle.branches.proofs.BelowLaws.{Nodes}
 use Rattle.branches.proofs.HopelessLaws.{unpaired-set, marked-none, over-none}
 
 -- pairs have no entries if they have none where they are unified
@@ -56,13 +57,9 @@ stays-nought (z ∷ zs) zero (suc j) h = h
 stays-nought (z ∷ zs) (suc i) zero h = h
 stays-nought (z ∷ zs) (suc i) (suc j) h = stays-nought zs i j h
 
-module _ (ns : List Node) (rs : List ℕ) (right : (j : ℕ) → j < length rs → word rs j < length ns) where
-  -- The terms are nodes.
-  abbrev Nodes : List ℕ → Type 0
-  Nodes ls = (q : ℕ) → q < length ls → word ls q < length ns
-
+module _ (ns : List Node) (rs : List ℕ) (right : Nodes ns rs) where
   -- without right labels, a left term without a partner stops every string
-  left-alone : (k : ℕ) (ls : List ℕ) → Nodes ls → (q : ℕ) → q < length ls → (ds : List ℕ) (ps : List (ℕ × ℕ)) (marks : List ℕ) → Inside ns ps → ((j : ℕ) → j < length rs → (word marks j ≡ 0 → ⊥) → Never ns (word ls q) (word rs j)) → below ns rs k 0 ls ds ps marks ≡ []
+  left-alone : (k : ℕ) (ls : List ℕ) → Nodes ns ls → (q : ℕ) → q < length ls → (ds : List ℕ) (ps : List (ℕ × ℕ)) (marks : List ℕ) → Inside ns ps → ((j : ℕ) → j < length rs → (word marks j ≡ 0 → ⊥) → Never ns (word ls q) (word rs j)) → below ns rs k 0 ls ds ps marks ≡ []
   unfolding below
   left-alone k [] left q p ds ps marks h n = absurd (omega arith)
   left-alone k (a ∷ ls) left zero p ds ps marks h n =
@@ -72,7 +69,7 @@ module _ (ns : List Node) (rs : List ℕ) (right : (j : ℕ) → j < length rs �
       (λ t z u. absurd (n (d - 1) (omega arith) z ps h u))
       (λ t. absurd (omega arith)))
   left-alone k (a ∷ ls) left (suc q) p ds ps marks h n =
-      let rest : Nodes ls = λ j r. left (suc j) (omega arith) in
+      let rest : Nodes ns ls = λ j r. left (suc j) (omega arith) in
       over-none 1 (length rs + 0) (λ d. onDigit ns rs (below ns rs k 0 ls) ds ps marks a d)
       (λ d r s.
       digit-empty ns rs (below ns rs k 0 ls) ds ps marks a d
@@ -80,7 +77,7 @@ module _ (ns : List Node) (rs : List ℕ) (right : (j : ℕ) → j < length rs �
       (λ t. absurd (omega arith)))
 
   -- without left labels, an unpaired right term without a partner stops every string
-  right-alone : (l : ℕ) (ls : List ℕ) → Nodes ls → (j : ℕ) → j < length rs → (ds : List ℕ) (ps : List (ℕ × ℕ)) (marks : List ℕ) → Inside ns ps → (word marks j ≡ 0 → ⊥) → ((q : ℕ) → q < length ls → Never ns (word ls q) (word rs j)) → below ns rs 0 l ls ds ps marks ≡ []
+  right-alone : (l : ℕ) (ls : List ℕ) → Nodes ns ls → (j : ℕ) → j < length rs → (ds : List ℕ) (ps : List (ℕ × ℕ)) (marks : List ℕ) → Inside ns ps → (word marks j ≡ 0 → ⊥) → ((q : ℕ) → q < length ls → Never ns (word ls q) (word rs j)) → below ns rs 0 l ls ds ps marks ≡ []
   unfolding below
   right-alone l [] left j p ds ps marks h m n =
       let u = unpaired-set marks j m in

@@ -26,7 +26,7 @@ use Rattle.nodes.specs.Code.Trail.{Trailed, Merges, none, Goes}
 use Rattle.classes.specs.Code.Closure.{ClosureUpTo, argumentPair, argumentPairs, Joinable, Joins}
 use Rattle.classes.proofs.TrailLaws.{one-merged, merges-on, merges-trailed}
 use Rattle.nodes.proofs.OpenLaws.{closed-true, closed-false, weaker-variable, weaker-closed, closed-kept}
-use Rattle.classes.proofs.ClosedClashLaws.{Same, closed-joined}
+use Rattle.classes.proofs.ClosedClashLaws.{SameTerm, closed-joined}
 use Rattle.classes.proofs.ClosureLaws.{Wanted, HeadsMeet, retold, already, heads-clash, united, classes-joined, variable-meets}
 
 module _ (nodes : List ℕ) (g h : ℕ) (r s : Bool) (p : r ≡ eqb (kindOf nodes g) 0) (q : s ≡ eqb (kindOf nodes h) 0) where
@@ -310,7 +310,7 @@ module _ {nodes arguments counts heads next : List ℕ} {a b : ℕ} (m : Meeting
   join-closed p q =
       refused (λ ps todo c. go (closed-joined nodes arguments counts (m .joinable .sections) (m .joinable .counts-right) ps (classOf heads a) (classOf heads b) p q (heads-joined ps todo c)))
     where
-      go : {ps : List (ℕ × ℕ)} → Clash ns ps ⊎ Same nodes arguments (classOf heads a) (classOf heads b) → Clash ns ps
+      go : {ps : List (ℕ × ℕ)} → Clash ns ps ⊎ SameTerm nodes arguments (classOf heads a) (classOf heads b) → Clash ns ps
       go (inl c) = c
       go (inr e) =
           absurd (m .apart (sym (partition .own a (m .first)) ∙ m .joinable .closed .shared (classOf heads a) (classOf heads b) p q e ∙ partition .own b (m .second)))

@@ -123,13 +123,13 @@ module _ (nodes arguments : List ℕ) (s : Sections nodes arguments) (ps : List 
         go (inr e) = looked-reached g m j (omega (arith, e, l))
 
     -- Nodes i and j had one head, or have one that is reached.
-    abbrev Together : ℕ → ℕ → Type 0
-    Together i j = (classOf old i ≡ classOf old j) ⊎ (Reached i × Reached j × (classOf heads i ≡ classOf heads j))
+    abbrev OneHead : ℕ → ℕ → Type 0
+    OneHead i j = (classOf old i ≡ classOf old j) ⊎ (Reached i × Reached j × (classOf heads i ≡ classOf heads j))
 
     reached-same : (i j : ℕ) → classOf heads i ≡ classOf heads j → Reached i → Reached j
     reached-same i j e r = rw e at r
 
-    together-on : (i j k : ℕ) → i < length ns → j < length ns → k < length ns → Together i j → Together j k → Together i k
+    together-on : (i j k : ℕ) → i < length ns → j < length ns → k < length ns → OneHead i j → OneHead j k → OneHead i k
     together-on i j k p q r (inl d) (inl e) = inl (d ∙ e)
     together-on i j k p q r (inl d) (inr (x, y, e)) =
         let z = still-one i j p q d in
@@ -140,7 +140,7 @@ module _ (nodes arguments : List ℕ) (s : Sections nodes arguments) (ps : List 
     together-on i j k p q r (inr (x, y, d)) (inr (v, w, e)) = inr (x, w, d ∙ e)
 
     -- the pair, or a pair before it
-    given-together : (i j : ℕ) → List·Memᴰ {A = ℕ × ℕ} (i, j) ((a, b) ∷ ps) → Together i j
+    given-together : (i j : ℕ) → List·Memᴰ {A = ℕ × ℕ} (i, j) ((a, b) ∷ ps) → OneHead i j
     given-together i j (List·Memᴰ·head e) =
         let d : classOf heads a ≡ classOf heads b = c′ .given a b (List·Memᴰ·head refl) in
         let x : a ≡ i = sym (ap (λ (r : ℕ × ℕ). r .0) e) in
@@ -160,13 +160,13 @@ module _ (nodes arguments : List ℕ) (s : Sections nodes arguments) (ps : List 
             reached-same (argumentOf nodes arguments (classOf heads i) (q .0)) x (ap (classOf heads) (sym (q .2)) ∙ sym (h .one-head x (t .0) (t .1))) (reached-argument (classOf heads i) g r (q .0) (q .1))
 
     -- joined nodes are
-    joined-together : {i j : ℕ} → Joined ns ((a, b) ∷ ps) i j → Together i j
+    joined-together : {i j : ℕ} → Joined ns ((a, b) ∷ ps) i j → OneHead i j
     joined-together (given {a = i} {b = j} m) = given-together i j m
     joined-together (one-variable {i} {j} {x} p q d e) = inl (c .one-variable i j x p q d e)
     joined-together (by-arguments {i} {j} {f} {g} {a = x} {b = y} {us} {vs} d e l q m) =
         go (joined-inside ns (sections-well-formed nodes arguments s) ((a, b) ∷ ps) inside′ q) (joined-together q)
       where
-        go : (i < length ns) × (j < length ns) → Together i j → Together x y
+        go : (i < length ns) × (j < length ns) → OneHead i j → OneHead x y
         go (p, r) (inl z) =
             inl
             (joined-head ns (sections-well-formed nodes arguments s) ps inside (classOf old) c (by-arguments d e l (on (rw z at (c .joined i p)) (back (c .joined j r))) m))
@@ -177,7 +177,7 @@ module _ (nodes arguments : List ℕ) (s : Sections nodes arguments) (ps : List 
     joined-together (same p) = inl refl
     joined-together (back {i} {j} q) = turn (joined-together q)
       where
-        turn : Together i j → Together j i
+        turn : OneHead i j → OneHead j i
         turn (inl e) = inl (sym e)
         turn (inr (x, y, e)) = inr (y, x, sym e)
     joined-together (on {i} {j} {k} p q) =
@@ -190,7 +190,7 @@ module _ (nodes arguments : List ℕ) (s : Sections nodes arguments) (ps : List 
       kept-or-reached : (i : ℕ) → i < nodeCount nodes → (classOf old i ≡ classOf heads i) ⊎ Reached i
       kept-or-reached i p = go (joined-together (c′ .joined i (is-node nodes arguments i p)))
         where
-          go : Together i (classOf heads i) → (classOf old i ≡ classOf heads i) ⊎ Reached i
+          go : OneHead i (classOf heads i) → (classOf old i ≡ classOf heads i) ⊎ Reached i
           go (inl e) = inl (e ∙ were-heads i p)
           go (inr (x, y, e)) = inr x
 

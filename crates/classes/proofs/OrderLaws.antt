@@ -21,7 +21,7 @@ use Rattle.unification.proofs.ListLaws.{first-long}
 use Rattle.classes.specs.declared.order.Placed.the-variants.{Cycle, Count}
 use Rattle.nodes.specs.Code.Open.{Counts, OpenListed}
 use Rattle.nodes.specs.Code.Order.{Leads, next, further, Looped, Met, leaf, before, Listed, Ordered, OrderedBelow, Searched}
-use Rattle.classes.specs.Code.Ordering.{isNew, isDone, Ordering, Visiting, Later, Passed, Settled, Turn, Visited, Starting, Sweep}
+use Rattle.classes.specs.Code.Ordering.{isNew, isDone, Ordering, Visiting, Later, VisitDone, Settled, Turn, Visited, Starting, Sweep}
 use Rattle.classes.proofs.OrderedLaws.{looked-node}
 
 -- A place of a list in which place i is written.
@@ -50,7 +50,7 @@ pub visited-cycle : {nodes arguments heads marks later order : List ℕ} {due : 
 visited-cycle l = record { cycle = λ e. l; counted = λ c e. absurd (let z : _≡_ {A = ℕ} 0 1 = cc in omega arith) }
 
 -- a visit that passes
-pub visited-count : {nodes arguments heads marks later order : List ℕ} {due : ℕ → ℕ} {h c : ℕ} → Passed nodes arguments due heads marks h later order c → Visited nodes arguments due heads marks h (Count c) later order
+pub visited-count : {nodes arguments heads marks later order : List ℕ} {due : ℕ → ℕ} {h c : ℕ} → VisitDone nodes arguments due heads marks h later order c → Visited nodes arguments due heads marks h (Count c) later order
 visited-count {c = c} p =
     record {
       cycle = λ e. absurd (let z : _≡_ {A = ℕ} 0 1 = cc in omega arith);
@@ -340,7 +340,7 @@ module _ {nodes arguments counts heads marks order : List ℕ} {count h : ℕ} (
   turned-over g b e s x y z = rw (x, y, z) (turn-on g b e after then now (t .ordering) (later-same _ _) s)
 
   -- it is visited
-  pub turned : (g : ℕ) → j < word counts h → g ≡ classOf heads (argumentOf nodes arguments h j) → (passed placed : List ℕ) (n : ℕ) → Passed nodes arguments (word counts) heads after g passed placed n → {later order′ : List ℕ} {c : ℕ} → later ≡ passed → order′ ≡ placed → c ≡ n → Turn nodes arguments (word counts) heads (set marks h 1) h later order′ c (j + 1)
+  pub turned : (g : ℕ) → j < word counts h → g ≡ classOf heads (argumentOf nodes arguments h j) → (passed placed : List ℕ) (n : ℕ) → VisitDone nodes arguments (word counts) heads after g passed placed n → {later order′ : List ℕ} {c : ℕ} → later ≡ passed → order′ ≡ placed → c ≡ n → Turn nodes arguments (word counts) heads (set marks h 1) h later order′ c (j + 1)
   turned g b e passed placed n p x y z = rw (x, y, z) (turn-on g b e passed placed n (p .ordering) (p .later) (λ a. p .passed))
 
   -- Every argument is visited: the node is put into the order.
@@ -370,7 +370,7 @@ module _ {nodes arguments counts heads marks order : List ℕ} {count h : ℕ} (
         go (other d w) = sym (getD-set-other marks h k 1 0 d) ∙ t .later .none-opened k l (sym w ∙ e)
 
     -- the node is done
-    pub finished : Passed nodes arguments (word counts) heads marks h (set after h 2) (set then now h) (now + 1)
+    pub finished : VisitDone nodes arguments (word counts) heads marks h (set after h 2) (set then now h) (now + 1)
     finished =
         record {
           ordering = put-behind o (v .node) not-done (v .compound) head-node (λ i l. t .settled i (omega arith));
@@ -381,7 +381,7 @@ module _ {nodes arguments counts heads marks order : List ℕ} {count h : ℕ} (
 -- What the mark of a node says before its visit.
 module _ {nodes arguments counts heads marks order : List ℕ} {count h : ℕ} (v : Visiting nodes arguments counts heads marks order count h) where
   -- it stands in the order
-  pub met-done : word marks h ≡ 2 → Passed nodes arguments (word counts) heads marks h marks order count
+  pub met-done : word marks h ≡ 2 → VisitDone nodes arguments (word counts) heads marks h marks order count
   met-done e = record { ordering = v .ordering; passed = e; later = later-same _ _ }
 
   -- it leads to itself
@@ -502,7 +502,7 @@ module _ {nodes arguments counts heads list marks order : List ℕ} {count i : �
   swept-over h e s x y z = rw (x, y, z) (sweep-on h e marks order count (w .ordering) (later-same _ _) s)
 
   -- it is visited
-  pub swept : (h : ℕ) → h ≡ classOf heads g → (passed placed : List ℕ) (n : ℕ) → Passed nodes arguments (word counts) heads marks h passed placed n → {later order′ : List ℕ} {c : ℕ} → later ≡ passed → order′ ≡ placed → c ≡ n → Sweep nodes arguments (word counts) heads list later order′ c (i + 1)
+  pub swept : (h : ℕ) → h ≡ classOf heads g → (passed placed : List ℕ) (n : ℕ) → VisitDone nodes arguments (word counts) heads marks h passed placed n → {later order′ : List ℕ} {c : ℕ} → later ≡ passed → order′ ≡ placed → c ≡ n → Sweep nodes arguments (word counts) heads list later order′ c (i + 1)
   swept h e passed placed n q x y z = rw (x, y, z) (sweep-on h e passed placed n (q .ordering) (q .later) (λ a. q .passed))
 
 -- with new marks no head is visited
@@ -550,7 +550,7 @@ searched-leaf nodes arguments due heads a h e z =
     })
 
 -- the head of node a is visited
-pub searched-passed : {nodes arguments heads marks later order : List ℕ} {due : ℕ → ℕ} {a h c : ℕ} → h ≡ classOf heads a → h < nodeCount nodes → Passed nodes arguments due heads marks h later order c → Searched nodes arguments due heads a false
+pub searched-passed : {nodes arguments heads marks later order : List ℕ} {due : ℕ → ℕ} {a h c : ℕ} → h ≡ classOf heads a → h < nodeCount nodes → VisitDone nodes arguments due heads marks h later order c → Searched nodes arguments due heads a false
 searched-passed {order = order} {h = h} {c} e l p =
     searched-order
     (record { order = take c order; listed = placed-listed (p .ordering); from = rw (← e) (placed-settled (p .ordering) h l (λ a. p .passed)) })

@@ -13,7 +13,7 @@ use Rattle.unification.proofs.ListLaws.{map-at}
 use Rattle.unification.proofs.CountLaws.{renamed-here, renamed-other, in-list, join-keeps, join-lowers, roots-some}
 use Rattle.nodes.specs.Code.Circle.{Follows, here, onward, Circles}
 use Rattle.nodes.specs.Code.Uniting.{Circling, Relabels, TwoHeads, exchanged}
-use Rattle.nodes.specs.Code.Trail.{links, gone, notedGone, Trailed, Merged, OneMerged, Merges, none, more, Last, Before, Since}
+use Rattle.nodes.specs.Code.Trail.{links, gone, notedGone, Trailed, Merged, OneMerged, Merges, none, more, Last, ComesFrom, Since}
 use Rattle.nodes.proofs.CircleLaws.{step-on, circling, exchange, exchanged-long, circles-linked}
 
 -- a note leaves as many words
@@ -362,7 +362,7 @@ ways-back {n = n} {heads₁ = heads₁} {next₁ = next₁} e (more l o) (more m
     ways-back e l (subst₂ (Merges n heads₁ next₁) (r .0) (r .1) m)
 
 -- what is undone is as it was
-pub undone-same : {n mark : ℕ} {heads next heads₁ next₁ heads′ next′ : List ℕ} → mark ≡ gone next → Merges n heads next heads′ next′ → Before n mark heads₁ next₁ heads′ next′ → (heads₁ ≡ heads) × (next₁ ≡ next)
+pub undone-same : {n mark : ℕ} {heads next heads₁ next₁ heads′ next′ : List ℕ} → mark ≡ gone next → Merges n heads next heads′ next′ → ComesFrom n mark heads₁ next₁ heads′ next′ → (heads₁ ≡ heads) × (next₁ ≡ next)
 undone-same e m b = ways-back (b .marked ∙ e) m (b .merges)
 
 -- what undoing joins asks
@@ -370,7 +370,7 @@ pub merges-since : {n : ℕ} {heads next heads′ next′ : List ℕ} → Traile
 merges-since t e m = (rw e (undoable refl m), merges-trailed t m .size)
 
 -- and what it comes to: the classes before them
-pub merges-back : {n : ℕ} {heads next heads₁ next₁ heads′ next′ : List ℕ} → length heads′ ≡ n → Merges n heads next heads′ next′ → Before (length heads′) (gone next) heads₁ next₁ heads′ next′ → (heads₁ ≡ heads) × (next₁ ≡ next)
+pub merges-back : {n : ℕ} {heads next heads₁ next₁ heads′ next′ : List ℕ} → length heads′ ≡ n → Merges n heads next heads′ next′ → ComesFrom (length heads′) (gone next) heads₁ next₁ heads′ next′ → (heads₁ ≡ heads) × (next₁ ≡ next)
 merges-back e m b = undone-same refl m (rw e at b)
 
 module _ (n : ℕ) (heads′ next′ : List ℕ) (l : Last n heads′ next′) (k : ℕ) (e : k ≡ gone next′) where
@@ -478,7 +478,7 @@ undoing-none mark heads next s = record { size = refl; long = refl; count = refl
 
 module _ {n mark k : ℕ} {heads next heads₀ next₀ : List ℕ} (u : Undoing n mark k heads next heads₀ next₀) where
   -- all are
-  pub undoing-done : k ≡ mark → Before n mark heads next heads₀ next₀
+  pub undoing-done : k ≡ mark → ComesFrom n mark heads next heads₀ next₀
   undoing-done e = record { merges = u .merges; marked = sym (u .count) ∙ e }
 
   module _ (d : k ≡ mark → ⊥) where

@@ -5,7 +5,7 @@ ghost use Prim.Native.Nat.{_<_};
 ghost use lib.ListN.{length};
 ghost use Rattle.table.specs.Layout.{word};
 ghost use Rattle.nodes.specs.Code.Uniting.{Circling, Relabels, TwoHeads, exchanged};
-ghost use Rattle.nodes.specs.Code.Trail.{links, gone, notedGone, Trailed, Merged, OneMerged, Last, Before, Since};
+ghost use Rattle.nodes.specs.Code.Trail.{links, gone, notedGone, Trailed, Merged, OneMerged, Last, ComesFrom, Since};
 
 // Where it stands how many heads have gone.
 pub const GONE: usize = 256;
@@ -83,7 +83,7 @@ fn unmerge(heads: &mut [u8], next: &mut [u8], k: u8)
 // Undoes joins until only so many heads have gone.
 pub fn undo(heads: &mut [u8], next: &mut [u8], mark: u8)
     requires { ⌜ Since (length (now heads)) mark (now heads) (now next) × (length (now next) ≡ links) ⌝ }
-    ensures { λ r. ⌜ Before (length (now (heads .entry))) mark (now (heads .exit)) (now (next .exit)) (now (heads .entry)) (now (next .entry)) ⌝ }
+    ensures { λ r. ⌜ ComesFrom (length (now (heads .entry))) mark (now (heads .exit)) (now (next .exit)) (now (heads .entry)) (now (next .entry)) ⌝ }
 {
     let mut k = next[GONE];
     while k != mark {

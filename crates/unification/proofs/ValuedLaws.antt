@@ -38,11 +38,11 @@ module _ (ns : List Node) (w : WellFormed ns) (ps : List (ℕ × ℕ)) (h : Insi
       own-head i p ∙ s .closure .one-variable (head i) (head j) x (inside i p) (inside j q) d e ∙ sym (own-head j q)
 
   -- what is said of i and j below a bound on the order of i
-  abbrev Same : ℕ → ℕ → Type 0
-  Same i j = resolved k ns head i ≡ resolved k ns head j ↔ (name i ≡ name j)
+  abbrev Said : ℕ → ℕ → Type 0
+  Said i j = resolved k ns head i ≡ resolved k ns head j ↔ (name i ≡ name j)
 
   -- applications, where it is said of their arguments
-  composed-same : (i j f g : ℕ) (us vs : List ℕ) → i < length ns → j < length ns → nodeAt ns (head i) ≡ application f us → nodeAt ns (head j) ≡ application g vs → ((a b : ℕ) → List·Memᴰ (a, b) (zip us vs) → Same a b) → Same i j
+  composed-same : (i j f g : ℕ) (us vs : List ℕ) → i < length ns → j < length ns → nodeAt ns (head i) ≡ application f us → nodeAt ns (head j) ≡ application g vs → ((a b : ℕ) → List·Memᴰ (a, b) (zip us vs) → Said a b) → Said i j
   unfolding spell
   composed-same i j f g us vs p q d e ih = (there, back-to)
     where
@@ -59,12 +59,12 @@ module _ (ns : List Node) (w : WellFormed ns) (ps : List (ℕ × ℕ)) (h : Insi
           let y : f ≡ g = t .0 .0 in
           spelt i p (application f us) d ∙ ap (app f) l ∙ ap (λ (z : ℕ). app z (each (resolved k ns head) vs)) y ∙ sym (spelt j q (application g vs) e)
 
-  same : (n i j : ℕ) → i < length ns → j < length ns → order (head i) < n → Same i j
+  same : (n i j : ℕ) → i < length ns → j < length ns → order (head i) < n → Said i j
   unfolding spell
   same zero i j p q b = absurd (omega arith)
   same (suc n) i j p q b = go (λ a c x y z. same n a c x y z) (nodeAt ns (head i)) refl (nodeAt ns (head j)) refl
     where
-      go : ((a c : ℕ) → a < length ns → c < length ns → order (head a) < n → Same a c) → (m : Node) → nodeAt ns (head i) ≡ m → (o : Node) → nodeAt ns (head j) ≡ o → Same i j
+      go : ((a c : ℕ) → a < length ns → c < length ns → order (head a) < n → Said a c) → (m : Node) → nodeAt ns (head i) ≡ m → (o : Node) → nodeAt ns (head j) ≡ o → Said i j
       go ih (variable x) d (variable y) e = (
         (λ c.
             let t : var x ≡ var y = sym (spelt i p (variable x) d) ∙ c ∙ spelt j q (variable y) e in

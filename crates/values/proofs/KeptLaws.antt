@@ -9,14 +9,14 @@ use lib.ListN.{length, set}
 use lib.Seq.{getD-set-same, getD-set-other}
 use Rattle.table.specs.Layout.{word}
 use Rattle.unification.specs.Words.{Least}
-use Rattle.values.specs.Code.Kept.{Writes, Kept, Touched}
+use Rattle.values.specs.Code.Kept.{WrittenAt, Kept, Touched}
 
 module _ (P : ℕ → Type 0) (slot value : ℕ → ℕ) (n : ℕ) where
   -- nothing is written yet
   pub kept-none : (i : ℕ) → n ≤ i → (by : List ℕ) → Kept P slot value i n by
   kept-none i h by = record { kept = λ j a b p. absurd (omega (arith, a, b)) }
 
-  wider : (i s k : ℕ) → Writes P slot (suc i) n s k → Writes P slot i n s k
+  wider : (i s k : ℕ) → WrittenAt P slot (suc i) n s k → WrittenAt P slot i n s k
   wider i s k (a, b, p, e) = (omega arith, b, p, e)
 
   -- place i is passed over
@@ -41,7 +41,7 @@ module _ (P : ℕ → Type 0) (slot value : ℕ → ℕ) (n : ℕ) where
       after : (j : ℕ) → i ≤ j → (slot j ≡ slot i → ⊥) → suc i ≤ j
       after j a d = let n : j ≡ i → ⊥ = λ e. d (ap slot e) in omega (arith, n)
 
-      go : (j : ℕ) → i ≤ j → j < n → P j → Dec (slot j ≡ slot i) → (k : ℕ) × Least (Writes P slot i n (slot j)) k × (word (set by (slot i) (value i)) (slot j) ≡ value k)
+      go : (j : ℕ) → i ≤ j → j < n → P j → Dec (slot j ≡ slot i) → (k : ℕ) × Least (WrittenAt P slot i n (slot j)) k × (word (set by (slot i) (value i)) (slot j) ≡ value k)
       go j a b q (yes e) =
           (i, record { holds = (omega arith, h, p, sym e); least = λ k w. w .0 }, here (slot j) e)
       go j a b q (no d) =

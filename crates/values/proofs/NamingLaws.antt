@@ -18,7 +18,7 @@ use Rattle.unification.specs.Computed.Classes.{classOf}
 use Rattle.unification.specs.Code.Sections.{Sections}
 use Rattle.unification.specs.Code.Heads.{Partition}
 use Rattle.nodes.specs.Code.Named.{valueName, Readable, Alike, Applied}
-use Rattle.values.specs.Code.Naming.{Nameable, IsPlaced, Compounds, Whole, all, compounds, keys, keyOf, keyAt, Representative, Represented, NamedBefore, Naming, NamedEarlier, NamedAlong, Found}
+use Rattle.values.specs.Code.Naming.{Nameable, IsPlaced, Compounds, WholeOrder, all, compounds, keys, keyOf, keyAt, Representative, Represented, NamedBefore, Naming, NamedEarlier, NamedAlong, Found}
 use Rattle.nodes.specs.Code.Formed.{IsConstant}
 use Rattle.values.proofs.AlikeLaws.{NamesKept, alike-same, alike-back, alike-on, alike-kept, alike-was, key-kept}
 use Rattle.values.proofs.ChainLaws.{chained-skip, chained-add}
@@ -38,7 +38,7 @@ module _ (nodes arguments heads order : List ℕ) (o : Nameable nodes arguments 
     same-names q l j m =
         getD-set-other names (word order p) (classOf heads (argumentOf nodes arguments (word order q) j)) v 0 (o .first p q j l inside m)
 
-    whole-kept : Whole nodes heads order names → Whole nodes heads order news
+    whole-kept : WholeOrder nodes heads order names → WholeOrder nodes heads order news
     whole-kept (all w) = all w
     whole-kept (compounds w) =
         compounds
@@ -238,7 +238,7 @@ module _ (nodes arguments heads order : List ℕ) (o : Nameable nodes arguments 
                 rw (x, y, w, e) (naming-new applied (rw z at t) k (a .1) (a .2))
 
 -- Before the first place nothing is named, and the table is empty.
-pub naming-start : (nodes arguments heads order names : List ℕ) → Sections nodes arguments → Partition (nodeCount nodes) heads → Nameable nodes arguments heads order → length names ≡ nodeCount nodes → Whole nodes heads order names → Naming nodes arguments heads order names (replicate keys 0) (replicate maxNodes 0) 0
+pub naming-start : (nodes arguments heads order names : List ℕ) → Sections nodes arguments → Partition (nodeCount nodes) heads → Nameable nodes arguments heads order → length names ≡ nodeCount nodes → WholeOrder nodes heads order names → Naming nodes arguments heads order names (replicate keys 0) (replicate maxNodes 0) 0
 naming-start nodes arguments heads order names s p o l w =
     record {
       readable = record { sections = s; partition = p; long = l };
@@ -260,7 +260,7 @@ naming-start nodes arguments heads order names s p o l w =
     }
 
 -- At the end every class is named.
-module _ (nodes arguments heads order names : List ℕ) (o : Nameable nodes arguments heads order) (t : Partition (nodeCount nodes) heads) (w : Whole nodes heads order names) (s : NamedBefore nodes arguments heads order names (length order)) where
+module _ (nodes arguments heads order names : List ℕ) (o : Nameable nodes arguments heads order) (t : Partition (nodeCount nodes) heads) (w : WholeOrder nodes heads order names) (s : NamedBefore nodes arguments heads order names (length order)) where
   -- The class of node i has the name of a representative that is alike.
   record ClassNamed (i : ℕ) : Type 0 where
     place : ℕ
@@ -276,19 +276,19 @@ module _ (nodes arguments heads order names : List ℕ) (o : Nameable nodes argu
     others : Compounds nodes heads order names
 
   -- A head stands in the order, or has no arguments.
-  data Standing (i : ℕ) : Type 0 where
-    at : IsPlaced order (classOf heads i) → Standing i
-    outside : Bare i → Standing i
+  data PlacedOrBare (i : ℕ) : Type 0 where
+    at : IsPlaced order (classOf heads i) → PlacedOrBare i
+    outside : Bare i → PlacedOrBare i
 
-  standing : (i : ℕ) → i < nodeCount nodes → Standing i
+  standing : (i : ℕ) → i < nodeCount nodes → PlacedOrBare i
   standing i h = go w
     where
-      pick : Compounds nodes heads order names → Dec (countOf nodes (classOf heads i) ≡ 0) → Standing i
+      pick : Compounds nodes heads order names → Dec (countOf nodes (classOf heads i) ≡ 0) → PlacedOrBare i
       pick x (yes z) =
           outside (record { bare = z; itself = x .itself (classOf heads i) (t .below i h) z; others = x })
       pick x (no n) = at (x .placed i h (omega (arith, n)))
 
-      go : Whole nodes heads order names → Standing i
+      go : WholeOrder nodes heads order names → PlacedOrBare i
       go (all x) = at (x i h)
       go (compounds x) = pick x (ℕ-discrete (countOf nodes (classOf heads i)) 0)
 
@@ -305,18 +305,18 @@ module _ (nodes arguments heads order names : List ℕ) (o : Nameable nodes argu
         alike = rw e at (r .alike);
       }
 
-  named-variable : (i : ℕ) → Standing i → kindOf nodes (classOf heads i) ≡ 0 → valueName heads names i ≡ classOf heads i
+  named-variable : (i : ℕ) → PlacedOrBare i → kindOf nodes (classOf heads i) ≡ 0 → valueName heads names i ≡ classOf heads i
   named-variable i (at (q, l, e)) k = ap (word names) (sym e) ∙ s .variable q l (rw e k) ∙ e
   named-variable i (outside b) k = b .itself
 
-  named-node : (i : ℕ) → i < nodeCount nodes → Standing i → Dec (kindOf nodes (classOf heads i) ≡ 0) → valueName heads names i < nodeCount nodes
+  named-node : (i : ℕ) → i < nodeCount nodes → PlacedOrBare i → Dec (kindOf nodes (classOf heads i) ≡ 0) → valueName heads names i < nodeCount nodes
   named-node i h x (yes k) = rw (named-variable i x k) (t .below i h)
   named-node i h (at p) (no n) =
       let t = class-named i p n in
       rw (t .named) (o .node (t .place) (t .inside))
   named-node i h (outside b) (no n) = rw (b .itself) (t .below i h)
 
-  named-application : (i : ℕ) → Standing i → Applied nodes heads i → kindOf nodes (valueName heads names i) ≡ 0 → ⊥
+  named-application : (i : ℕ) → PlacedOrBare i → Applied nodes heads i → kindOf nodes (valueName heads names i) ≡ 0 → ⊥
   named-application i (at p) n k =
       let t = class-named i p n in
       t .representative .application (rw (t .named) at k)
@@ -330,7 +330,7 @@ module _ (nodes arguments heads order names : List ℕ) (o : Nameable nodes argu
       let z = b .bare in
       omega (arith, c, d, z)
 
-  named-composed : (i j : ℕ) → i < nodeCount nodes → j < nodeCount nodes → Standing i → Standing j → Applied nodes heads i → Applied nodes heads j → Alike nodes arguments heads names (classOf heads i) (classOf heads j) → valueName heads names i ≡ valueName heads names j
+  named-composed : (i j : ℕ) → i < nodeCount nodes → j < nodeCount nodes → PlacedOrBare i → PlacedOrBare j → Applied nodes heads i → Applied nodes heads j → Alike nodes arguments heads names (classOf heads i) (classOf heads j) → valueName heads names i ≡ valueName heads names j
   named-composed i j h l (at p) (at q) n m a =
       let t = class-named i p n in
       let u = class-named j q m in
@@ -351,7 +351,7 @@ module _ (nodes arguments heads order names : List ℕ) (o : Nameable nodes argu
       let y : countOf nodes (word order (x .place)) ≡ 0 = rw d (b .bare) in
       omega (arith, c, y)
 
-  named-apart : (i j : ℕ) → Standing i → Standing j → Applied nodes heads i → Applied nodes heads j → valueName heads names i ≡ valueName heads names j → Alike nodes arguments heads names (classOf heads i) (classOf heads j)
+  named-apart : (i j : ℕ) → PlacedOrBare i → PlacedOrBare j → Applied nodes heads i → Applied nodes heads j → valueName heads names i ≡ valueName heads names j → Alike nodes arguments heads names (classOf heads i) (classOf heads j)
   named-apart i j (at p) (at q) n m e =
       let t = class-named i p n in
       let u = class-named j q m in
@@ -387,11 +387,11 @@ module _ (nodes arguments heads order names : List ℕ) (o : Nameable nodes argu
         alike = λ i h. like i (standing i h);
       }
     where
-      pick : (i : ℕ) → Standing i → IsPlaced order (classOf heads i) ⊎ (valueName heads names i ≡ classOf heads i)
+      pick : (i : ℕ) → PlacedOrBare i → IsPlaced order (classOf heads i) ⊎ (valueName heads names i ≡ classOf heads i)
       pick i (at p) = inl p
       pick i (outside b) = inr (b .itself)
 
-      like : (i : ℕ) → Standing i → Applied nodes heads i → Alike nodes arguments heads names (valueName heads names i) (classOf heads i)
+      like : (i : ℕ) → PlacedOrBare i → Applied nodes heads i → Alike nodes arguments heads names (valueName heads names i) (classOf heads i)
       like i (at p) n =
           let t = class-named i p n in
           rw (t .named) (t .alike)

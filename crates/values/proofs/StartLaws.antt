@@ -24,7 +24,7 @@ use Rattle.unification.proofs.ListLaws.{zip-at}
 use Rattle.unification.proofs.FirstLaws.{node-of}
 use Rattle.unification.proofs.SectionLaws.{nodes-long, section-variable, from-application, variable-from, sections-well-formed}
 use Rattle.values.specs.declared.Variables.{Variables}
-use Rattle.values.specs.Code.Naming.{Nameable, Whole, all}
+use Rattle.values.specs.Code.Naming.{Nameable, WholeOrder, all}
 use Rattle.values.specs.Code.Present.{variableNames, LeastByName, presentBelow, ListsPresent, leastNodes}
 use Rattle.values.specs.Code.Start.{startHead, Started}
 use Rattle.values.specs.Code.Begins.{Lists}
@@ -169,7 +169,7 @@ module _ (nodes arguments : List ℕ) (s : Sections nodes arguments) where
           }
 
       -- and every head stands in it
-      pub start-whole : (names : List ℕ) → Whole nodes heads order names
+      pub start-whole : (names : List ℕ) → WholeOrder nodes heads order names
       start-whole names =
           all
           (λ i h.

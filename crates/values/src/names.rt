@@ -7,7 +7,7 @@ ghost use Rattle.table.specs.Layout.{word, countOf, nodeCount, argumentOf};
 ghost use Rattle.unification.specs.Code.Sections.{Sections};
 ghost use Rattle.unification.specs.Code.Heads.{Partition};
 ghost use Rattle.nodes.specs.Code.Named.{valueName, Readable, Themselves};
-ghost use Rattle.values.specs.Code.Naming.{Nameable, Whole, keys, keyOf, Compared, Naming, NamedAlong, Found};
+ghost use Rattle.values.specs.Code.Naming.{Nameable, WholeOrder, keys, keyOf, Compared, Naming, NamedAlong, Found};
 use nodes::lists;
 use nodes::sections;
 use table::Node;
@@ -195,7 +195,7 @@ pub fn name_values(nodes: &[u32], arguments: &[u32], heads: &[u8], order: &[u8],
     requires { ⌜ Sections (now nodes) (now arguments) ⌝ }
     requires { ⌜ Partition (nodeCount (now nodes)) (now heads) ⌝ }
     requires { ⌜ Nameable (now nodes) (now arguments) (now heads) (now order) ⌝ }
-    requires { ⌜ (length (now names) ≡ nodeCount (now nodes)) × Whole (now nodes) (now heads) (now order) (now names) ⌝ }
+    requires { ⌜ (length (now names) ≡ nodeCount (now nodes)) × WholeOrder (now nodes) (now heads) (now order) (now names) ⌝ }
     ensures { λ r. ⌜ NamedAlong (now (nodes .entry)) (now (arguments .entry)) (now (heads .entry)) (now (order .entry)) (now (names .exit)) ⌝ }
 {
     let mut buckets = [0u16; KEYS];

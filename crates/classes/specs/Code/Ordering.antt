@@ -50,7 +50,7 @@ pub record Later (n : ℕ) (marks later : List ℕ) : Type 0 where
   pub none-opened : (k : ℕ) → k < n → word later k ≡ 1 → word marks k ≡ 1
 
 -- What a visit of node h leaves where it finds no cycle: h is done.
-pub record Passed (nodes arguments : List ℕ) (due : ℕ → ℕ) (heads marks : List ℕ) (h : ℕ) (after order : List ℕ) (count : ℕ) : Type 0 where
+pub record VisitDone (nodes arguments : List ℕ) (due : ℕ → ℕ) (heads marks : List ℕ) (h : ℕ) (after order : List ℕ) (count : ℕ) : Type 0 where
   pub ordering : Ordering nodes arguments due heads after order count
   pub passed : word after h ≡ 2
   pub later : Later (nodeCount nodes) marks after
@@ -68,7 +68,7 @@ pub record Turn (nodes arguments : List ℕ) (due : ℕ → ℕ) (heads marks : 
 -- What a visit of node h answers and leaves.
 pub record Visited (nodes arguments : List ℕ) (due : ℕ → ℕ) (heads marks : List ℕ) (h : ℕ) (r : Placed) (after order : List ℕ) : Type 0 where
   pub cycle : r ≡ Cycle → Looped nodes arguments due heads
-  pub counted : (c : ℕ) → r ≡ Count c → Passed nodes arguments due heads marks h after order c
+  pub counted : (c : ℕ) → r ≡ Count c → VisitDone nodes arguments due heads marks h after order c
 
 -- What the search starts with: every one of n nodes is new.
 pub record Starting (n : ℕ) (marks order : List ℕ) : Type 0 where

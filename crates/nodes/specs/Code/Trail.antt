@@ -58,7 +58,7 @@ pub record Last (n : ℕ) (heads′ next′ : List ℕ) : Type 0 where
   pub merged : OneMerged n heads next heads′ next′
 
 -- Classes from which others come, when only so many heads had gone.
-pub record Before (n mark : ℕ) (heads next heads′ next′ : List ℕ) : Type 0 where
+pub record ComesFrom (n mark : ℕ) (heads next heads′ next′ : List ℕ) : Type 0 where
   pub merges : Merges n heads next heads′ next′
   pub marked : gone next ≡ mark
 
@@ -66,4 +66,4 @@ pub record Before (n mark : ℕ) (heads next heads′ next′ : List ℕ) : Type
 pub record Since (n mark : ℕ) (heads′ next′ : List ℕ) : Type 0 where
   pub heads : List ℕ
   pub next : List ℕ
-  pub before : Before n mark heads next heads′ next′
+  pub before : ComesFrom n mark heads next heads′ next′

@@ -30,9 +30,9 @@ pub record Compounds (nodes heads order names : List ℕ) : Type 0 where
   pub constants : OneConstant nodes heads
 
 -- Which heads stand in the order: all, or those that have arguments.
-pub data Whole (nodes heads order names : List ℕ) : Type 0 where
-  all : ((i : ℕ) → i < nodeCount nodes → IsPlaced order (classOf heads i)) → Whole nodes heads order names
-  compounds : Compounds nodes heads order names → Whole nodes heads order names
+pub data WholeOrder (nodes heads order names : List ℕ) : Type 0 where
+  all : ((i : ℕ) → i < nodeCount nodes → IsPlaced order (classOf heads i)) → WholeOrder nodes heads order names
+  compounds : Compounds nodes heads order names → WholeOrder nodes heads order names
 
 -- How many keys the table has.
 abbrev pub keys : ℕ
@@ -88,7 +88,7 @@ pub record NamedBefore (nodes arguments heads order names : List ℕ) (p : ℕ) 
 pub record Naming (nodes arguments heads order names buckets earlier : List ℕ) (p : ℕ) : Type 0 where
   pub readable : Readable nodes arguments heads names
   pub ordered : Nameable nodes arguments heads order
-  pub whole : Whole nodes heads order names
+  pub whole : WholeOrder nodes heads order names
   pub buckets-long : length buckets ≡ keys
   pub earlier-long : length earlier ≡ maxNodes
   pub named : NamedBefore nodes arguments heads order names p

@@ -1,4 +1,4 @@
--- `unify::words::bind` meets its contract: where no variable is present there are no words. Assumes nothing.
+-- `binding::words::bind` meets its contract: where no variable is present there are no words. Assumes nothing.
 use mathlib.Core.Path.{_∙_}
 use borrow.Author.Needs.{needs}
 use Rattle.unification.proofs.ListLaws.{first-long}

@@ -1,4 +1,4 @@
--- `unify::words::bind_closed` meets its contract: each class is named by its head. Assumes nothing.
+-- `binding::words::bind_closed` meets its contract: each class is named by its head. Assumes nothing.
 use mathlib.Core.Path.{_∙_}
 use borrow.Author.Needs.{needs}
 use Rattle.binding.proofs.NotingLaws.{open-applied}

@@ -1,4 +1,4 @@
--- `unify::words::bind_open` meets its contract: where no open application is a head each class is named by its head, and otherwise they
+-- `binding::words::bind_open` meets its contract: where no open application is a head each class is named by its head, and otherwise they
 -- are named behind the closed ones. Assumes nothing.
 use Prim.Native.Nat.{_-_}
 use mathlib.Core.Path.{_≡_, _∙_}

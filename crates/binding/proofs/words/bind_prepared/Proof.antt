@@ -1,4 +1,4 @@
--- `unify::words::bind_prepared` meets its contract: there are no words where there are no open applications, and otherwise they have their
+-- `binding::words::bind_prepared` meets its contract: there are no words where there are no open applications, and otherwise they have their
 -- parts. Assumes nothing.
 use native.Mathlib.Omega.{arith}
 use borrow.Author.Needs.{needs}

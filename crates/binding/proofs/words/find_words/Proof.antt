@@ -1,4 +1,4 @@
--- `unify::words::find_words` meets its contract. Assumes nothing.
+-- `binding::words::find_words` meets its contract. Assumes nothing.
 use borrow.Author.Needs.{needs}
 use Rattle.binding.proofs.words.find_words.Statement.{statement}
 use Rattle.binding.proofs.words.find_words.Tie as tie

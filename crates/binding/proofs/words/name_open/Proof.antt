@@ -1,4 +1,4 @@
--- `unify::words::name_open` meets its contract: the order is the closed applications and the open ones behind them. Assumes nothing.
+-- `binding::words::name_open` meets its contract: the order is the closed applications and the open ones behind them. Assumes nothing.
 use mathlib.Core.Path.{refl}
 use native.Mathlib.Omega.{arith}
 use borrow.Author.Needs.{needs}

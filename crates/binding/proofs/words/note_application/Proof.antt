@@ -1,4 +1,4 @@
--- `unify::words::note_application` meets its contract. Assumes nothing.
+-- `binding::words::note_application` meets its contract. Assumes nothing.
 use native.Mathlib.Omega.{arith}
 use borrow.Author.Needs.{needs}
 use Rattle.values.proofs.NamedLaws.{name-inside}

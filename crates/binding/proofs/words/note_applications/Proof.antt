@@ -1,4 +1,4 @@
--- `unify::words::note_applications` meets its contract: the first p open applications are noted. Assumes nothing.
+-- `binding::words::note_applications` meets its contract: the first p open applications are noted. Assumes nothing.
 use Prim.Native.Nat.{_≤_, _-_}
 use mathlib.Core.Path.{_≡_}
 use native.Mathlib.Omega.{arith}

@@ -1,4 +1,4 @@
--- `unify::words::note_free_variable` meets its contract. Assumes nothing.
+-- `binding::words::note_free_variable` meets its contract. Assumes nothing.
 use mathlib.Core.Path.{sym, _∙_}
 use native.Mathlib.Omega.{arith}
 use borrow.Author.Needs.{needs}

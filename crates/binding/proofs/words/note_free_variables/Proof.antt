@@ -1,4 +1,4 @@
--- `unify::words::note_free_variables` meets its contract: the free variables from place k on are noted. Assumes nothing.
+-- `binding::words::note_free_variables` meets its contract: the free variables from place k on are noted. Assumes nothing.
 use Prim.Native.Nat.{_≤_}
 use mathlib.Core.Path.{refl}
 use borrow.Author.Needs.{needs}

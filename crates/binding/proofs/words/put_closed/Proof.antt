@@ -1,4 +1,4 @@
--- `unify::words::put_closed` meets its contract: the nodes so far are put. Assumes nothing.
+-- `binding::words::put_closed` meets its contract: the nodes so far are put. Assumes nothing.
 use Prim.Native.Nat.{_≤_, _-_}
 use mathlib.Core.Path.{_≡_, refl, _∙_}
 use native.Mathlib.Omega.{arith}

@@ -1,4 +1,4 @@
--- `unify::words::write_words` meets its contract: the words of the first k nodes are written. Assumes nothing.
+-- `binding::words::write_words` meets its contract: the words of the first k nodes are written. Assumes nothing.
 use Prim.Native.Nat.{_≤_, _-_}
 use mathlib.Core.Path.{_≡_, refl, _∙_}
 use native.Mathlib.Omega.{arith}
@@ -17,8 +17,8 @@ abbrev μ-loop : tie.MeasureT-loop
 loop-holds : tie.Need-loop-holds Inv-loop μ-loop
 loop-holds c = (search needs, refl, read-none _ _ _ _ _)
 
-word-at-requires : tie.Need-word-at-requires Inv-loop μ-loop
-word-at-requires c κs = search needs
+binding-word-requires : tie.Need-binding-word-requires Inv-loop μ-loop
+binding-word-requires c κs = search needs
 
 mul-out : tie.Need-mul-out Inv-loop μ-loop
 mul-out c = search needs
@@ -35,7 +35,7 @@ loop-less c = search needs
 loop-again : tie.Need-loop-again Inv-loop μ-loop
 loop-again c =
     let l = c .before .before .loop in
-    (search needs, simp length-set (l .inv .1), rw (l .inv .2) (read-next _ _ _ _ _ _ _ (c .before .loop-test .taken) (search needs) (c .word-at .ensures)))
+    (search needs, simp length-set (l .inv .1), rw (l .inv .2) (read-next _ _ _ _ _ _ _ (c .before .loop-test .taken) (search needs) (c .binding-word .ensures)))
 
 same-length : tie.Need-same-length Inv-loop μ-loop
 same-length c = search needs
@@ -54,7 +54,7 @@ write-words-spec =
     Inv-loop
     μ-loop
     loop-holds
-    word-at-requires
+    binding-word-requires
     mul-out
     slice-write-out
     add-k

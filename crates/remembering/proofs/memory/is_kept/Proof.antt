@@ -1,4 +1,4 @@
--- `branches::memory::is_kept` meets its contract: the word that it reads is that of the key's slot. Assumes nothing.
+-- `remembering::memory::is_kept` meets its contract: the word that it reads is that of the key's slot. Assumes nothing.
 use Prim.Native.Nat.{ℕ, _+_}
 use mathlib.Core.Path.{ap}
 use borrow.Author.Needs.{needs}

@@ -1,4 +1,4 @@
--- `branches::memory::put_kept` meets its contract: the words that are copied are those of the present pairs, since digits with one key pair
+-- `remembering::memory::put_kept` meets its contract: the words that are copied are those of the present pairs, since digits with one key pair
 -- the same terms. Assumes nothing.
 use Prim.Native.Nat.{ℕ, _+_, _≤_, _<_}
 use mathlib.Core.Path.{_≡_, refl, ap, _∙_}

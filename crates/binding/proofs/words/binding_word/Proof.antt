@@ -1,9 +1,9 @@
--- `unify::words::word_at` meets its contract. Assumes nothing.
+-- `binding::words::binding_word` meets its contract. Assumes nothing.
 use native.Mathlib.Omega.{arith}
 use borrow.Author.Needs.{needs}
 use Rattle.binding.proofs.NotingLaws.{listed, name-node}
-use Rattle.binding.proofs.words.word_at.Statement.{statement}
-use Rattle.binding.proofs.words.word_at.Tie as tie
+use Rattle.binding.proofs.words.binding_word.Statement.{statement}
+use Rattle.binding.proofs.words.binding_word.Tie as tie
 use Rattle.values.proofs.NamedLaws.{name-inside}
 
 node-in-requires : tie.Need-node-in-requires
@@ -27,7 +27,7 @@ returns : tie.Need-returns
 returns c =
     rw (c .before .before .value-name .ensures .0, c .before .before .before .node-in .ensures .0) at (c .node-in2 .ensures .0)
 
-pub word-at-spec : {M : Type 1} → statement M
-word-at-spec =
+pub binding-word-spec : {M : Type 1} → statement M
+binding-word-spec =
     tie.close
     (tie.spec node-in-requires value-name-requires cast-node-in node-in-requires-2 returns)
