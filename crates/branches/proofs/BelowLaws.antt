@@ -285,7 +285,7 @@ module _ (t : List ℕ) (g : Accepted t) where
   pub below-listing : below (nodesIn t) (rightTermsOf t) (length (leftLabelsOf t)) (length (rightLabelsOf t)) (leftTermsOf t) [] [] (replicate (length (rightTermsOf t)) 1) ≡ completeListing t
   unfolding completeListing choicesOf choices
   below-listing =
-      kept-below (nodesIn t) (well-formed t g) (rightTermsOf t) (right-node t g) (length (leftLabelsOf t)) (length (rightLabelsOf t)) (leftTermsOf t) (left-node t g) [] [] (replicate (length (rightTermsOf t)) 1) [] inside-none (nodesIn t) none-unified (marks-first (length (rightTermsOf t)))
+      kept-below (nodesIn t) (well-formed t g) (rightTermsOf t) (right-node t g) (length (leftLabelsOf t)) (length (rightLabelsOf t)) (leftTermsOf t) (left-node t g) [] [] (replicate (length (rightTermsOf t)) 1) [] (inside-none (nodesIn t)) none-unified (marks-first (length (rightTermsOf t)))
       ∙ flat-same _ (λ es. kept (outcome (nodesIn t) (pairsOf t es)) (entryOf t es)) (choicesOf t)
       (λ es m. choice-kept es (choices-are (length (leftTermsOf t)) (length (rightTermsOf t)) (length (leftLabelsOf t)) (length (rightLabelsOf t)) es .0 m))
 

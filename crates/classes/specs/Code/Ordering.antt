@@ -35,11 +35,11 @@ pub record Ordering (nodes arguments : List ℕ) (due : ℕ → ℕ) (heads mark
   pub room : count ≤ countBelow (nodeCount nodes) (isDone marks)
 
 -- What a visit of node h asks: it has arguments, and every open node leads to it.
-pub record Visiting (nodes arguments counts heads marks order : List ℕ) (count h : ℕ) : Type 0 where
+pub record Visiting (nodes arguments counts heads marks order : List ℕ) (placed h : ℕ) : Type 0 where
   pub sections : Sections nodes arguments
   pub counts-right : Counts nodes arguments counts (nodeCount nodes)
   pub partition : Partition (nodeCount nodes) heads
-  pub ordering : Ordering nodes arguments (word counts) heads marks order count
+  pub ordering : Ordering nodes arguments (word counts) heads marks order placed
   pub node : h < nodeCount nodes
   pub compound : 0 < word counts h
   pub leads : (k : ℕ) → k < nodeCount nodes → word marks k ≡ 1 → Leads nodes arguments (word counts) heads k h
@@ -50,25 +50,25 @@ pub record Later (n : ℕ) (marks later : List ℕ) : Type 0 where
   pub none-opened : (k : ℕ) → k < n → word later k ≡ 1 → word marks k ≡ 1
 
 -- What a visit of node h leaves where it finds no cycle: h is done.
-pub record VisitDone (nodes arguments : List ℕ) (due : ℕ → ℕ) (heads marks : List ℕ) (h : ℕ) (after order : List ℕ) (count : ℕ) : Type 0 where
-  pub ordering : Ordering nodes arguments due heads after order count
-  pub passed : word after h ≡ 2
-  pub later : Later (nodeCount nodes) marks after
+pub record VisitDone (nodes arguments : List ℕ) (due : ℕ → ℕ) (heads marks : List ℕ) (h : ℕ) (marks′ order : List ℕ) (count : ℕ) : Type 0 where
+  pub ordering : Ordering nodes arguments due heads marks′ order count
+  pub passed : word marks′ h ≡ 2
+  pub later : Later (nodeCount nodes) marks marks′
 
 -- Node g is done, if it has arguments.
 abbrev pub Settled : (ℕ → ℕ) → List ℕ → ℕ → Type 0
 Settled due marks g = 0 < due g → word marks g ≡ 2
 
 -- Before argument j of node h is visited, where h is open among these marks: the heads of the arguments before it are done, if they have arguments.
-pub record Turn (nodes arguments : List ℕ) (due : ℕ → ℕ) (heads marks : List ℕ) (h : ℕ) (after order : List ℕ) (count j : ℕ) : Type 0 where
-  pub ordering : Ordering nodes arguments due heads after order count
-  pub later : Later (nodeCount nodes) marks after
-  pub settled : (i : ℕ) → i < j → Settled due after (classOf heads (argumentOf nodes arguments h i))
+pub record Turn (nodes arguments : List ℕ) (due : ℕ → ℕ) (heads marks : List ℕ) (h : ℕ) (marks′ order : List ℕ) (count j : ℕ) : Type 0 where
+  pub ordering : Ordering nodes arguments due heads marks′ order count
+  pub later : Later (nodeCount nodes) marks marks′
+  pub settled : (i : ℕ) → i < j → Settled due marks′ (classOf heads (argumentOf nodes arguments h i))
 
 -- What a visit of node h answers and leaves.
-pub record Visited (nodes arguments : List ℕ) (due : ℕ → ℕ) (heads marks : List ℕ) (h : ℕ) (r : Placed) (after order : List ℕ) : Type 0 where
+pub record Visited (nodes arguments : List ℕ) (due : ℕ → ℕ) (heads marks : List ℕ) (h : ℕ) (r : Placed) (marks′ order : List ℕ) : Type 0 where
   pub cycle : r ≡ Cycle → Looped nodes arguments due heads
-  pub counted : (c : ℕ) → r ≡ Count c → VisitDone nodes arguments due heads marks h after order c
+  pub counted : (c : ℕ) → r ≡ Count c → VisitDone nodes arguments due heads marks h marks′ order c
 
 -- What the search starts with: every one of n nodes is new.
 pub record Starting (n : ℕ) (marks order : List ℕ) : Type 0 where

@@ -25,9 +25,9 @@ variableNames = maxVariable + 1
 unfoldable pub noted : List ℕ → List ℕ → ℕ → List ℕ
 noted nodes least i = cond (eqb (kindOf nodes i) 0) (set least (nameOf nodes i) i) least
 
--- A number r that is past the variable of node i, if it is one, and not below e.
-pub record Passes (nodes : List ℕ) (e i r : ℕ) : Type 0 where
-  pub more : e ≤ r
+-- A number r that is past the variable of node i, if it is one, and not below `end`.
+pub record Passes (nodes : List ℕ) (end i r : ℕ) : Type 0 where
+  pub more : end ≤ r
   pub within : r ≤ variableNames
   pub past : kindOf nodes i ≡ 0 → nameOf nodes i < r
 
@@ -37,10 +37,10 @@ pub record LeastByName (nodes arguments least : List ℕ) : Type 0 where
   pub within : (x : ℕ) → x < variableNames → word least x ≤ nodeCount nodes
   pub right : (x : ℕ) → x < variableNames → word least x ≡ nodeOf (nodesFrom nodes arguments) x
 
--- No variable from number e on has one of n nodes: n stands at its number.
-pub record NoneFrom (least : List ℕ) (n e : ℕ) : Type 0 where
-  pub within : e ≤ variableNames
-  pub none : (x : ℕ) → e ≤ x → x < variableNames → word least x ≡ n
+-- No variable from number `end` on has one of n nodes: n stands at its number.
+pub record NoneFrom (least : List ℕ) (n end : ℕ) : Type 0 where
+  pub within : end ≤ variableNames
+  pub none : (x : ℕ) → end ≤ x → x < variableNames → word least x ≡ n
 
 -- The least nodes of the variables below x that have one.
 unfoldable pub presentBelow : List ℕ → ℕ → ℕ → List ℕ
