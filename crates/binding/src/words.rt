@@ -320,7 +320,17 @@ fn bind_prepared(
     ensures { λ r. ⌜ Leaves (now (nodes .entry)) (now (arguments .entry)) (now (heads .entry)) (now (out .entry)) (now (out .exit)) ⌝ }
 {
     if prepared.len() == 0 {
-        bind_closed(nodes, arguments, counts, prepared, list, heads, names, by, out);
+        bind_closed(
+            nodes,
+            arguments,
+            counts,
+            prepared,
+            list,
+            heads,
+            names,
+            by,
+            out,
+        );
         return;
     }
     let open_end = OPEN + lists::entry(prepared, OPEN_COUNT);

@@ -159,7 +159,17 @@ fn name_node(
         return;
     }
     let k = key(nodes, arguments, heads, names, h);
-    let cursor = find(nodes, arguments, heads, order, names, buckets, earlier, p, k);
+    let cursor = find(
+        nodes,
+        arguments,
+        heads,
+        order,
+        names,
+        buckets,
+        earlier,
+        p,
+        k,
+    );
     if cursor != 0 {
         put(names, h, lists::node_in(order, cursor - 1));
         return;
