@@ -5,7 +5,7 @@ use mathlib.Core.Bool.{Bool, true, false, cond, _&&_, _||_, false≢true}
 use mathlib.Core.List.{List, [], _∷_, _++_, map}
 use mathlib.Core.Path.{_≡_, refl, ap}
 use native.Mathlib.Omega.{arith}
-use borrow.Author.Tests.{eqb-true, eqb-false, ne-eqb, ltb-true, leb-false}
+use borrow.Author.Tests.{eqb-true, eqb-false, ne-eqb, ltb-true, leb-false, leb-true}
 use lib.Dec.{eqb, leb, ltb}
 use lib.ListN.{length, set, replicate}
 use Rattle.table.specs.Layout.{word}
@@ -50,22 +50,22 @@ over-none d zero f h = refl
 over-none d (suc c) f h =
     rw (h d (omega arith) (omega arith), over-none (suc d) c f (λ e p q. h e (omega arith) (omega arith)))
 
--- nothing stays nothing, whatever the pairs come to
-if-none : (o : Outcome) → ifUnified o [] ≡ []
+-- pairs have no entries if they have none where they are unified
+if-empty : (o : Outcome) (es : List (List ℕ)) → (o ≡ unified → es ≡ []) → ifUnified o es ≡ []
 unfolding ifUnified
-if-none unified = refl
-if-none clash = refl
-if-none occurs = refl
+if-empty unified es h = h refl
+if-empty clash es h = refl
+if-empty occurs es h = refl
 
--- a digit has no entry if neither the pair nor the label that it may stand for has one
-digit-none : (ns : List Node) (rs : List ℕ) (f : List ℕ → List (ℕ × ℕ) → List ℕ → List (List ℕ)) (ds : List ℕ) (ps : List (ℕ × ℕ)) (marks : List ℕ) (a d : ℕ) → ((word marks (d - 1) ≡ 0 → ⊥) → f (ds ++ d ∷ []) ((a, word rs (d - 1)) ∷ ps) (set marks (d - 1) 0) ≡ []) → (length rs < d → f (ds ++ d ∷ []) ps marks ≡ []) → onDigit ns rs f ds ps marks a d ≡ []
+-- a digit has no entry if neither the label that it may stand for has one, nor its pair where that is unified
+pub digit-empty : (ns : List Node) (rs : List ℕ) (f : List ℕ → List (ℕ × ℕ) → List ℕ → List (List ℕ)) (ds : List ℕ) (ps : List (ℕ × ℕ)) (marks : List ℕ) (a d : ℕ) → (d ≤ length rs → (word marks (d - 1) ≡ 0 → ⊥) → outcome ns ((a, word rs (d - 1)) ∷ ps) ≡ unified → f (ds ++ d ∷ []) ((a, word rs (d - 1)) ∷ ps) (set marks (d - 1) 0) ≡ []) → (length rs < d → f (ds ++ d ∷ []) ps marks ≡ []) → onDigit ns rs f ds ps marks a d ≡ []
 unfolding onDigit
-digit-none ns rs f ds ps marks a d h k =
+digit-empty ns rs f ds ps marks a d h k =
     pick (leb d (length rs)) refl (eqb (word marks (d - 1)) 0) refl
   where
     pick : (b : Bool) → leb d (length rs) ≡ b → (c : Bool) → eqb (word marks (d - 1)) 0 ≡ c → cond b (cond c [] (ifUnified (outcome ns ((a, word rs (d - 1)) ∷ ps)) (f (ds ++ d ∷ []) ((a, word rs (d - 1)) ∷ ps) (set marks (d - 1) 0)))) (f (ds ++ d ∷ []) ps marks) ≡ []
     pick true p true q = refl
-    pick true p false q = rw (h (eqb-false (word marks (d - 1)) 0 q)) (if-none _)
+    pick true p false q = if-empty _ _ (h (leb-true d (length rs) p) (eqb-false (word marks (d - 1)) 0 q))
     pick false p c q = k (leb-false d (length rs) p)
 
 module _ (ns : List Node) (rs : List ℕ) where
@@ -76,8 +76,8 @@ module _ (ns : List Node) (rs : List ℕ) where
   many-unpaired l (a ∷ ls) ds ps marks h =
       over-none 1 (length rs + l) (λ d. onDigit ns rs (below ns rs 0 l ls) ds ps marks a d)
       (λ d p q.
-      digit-none ns rs (below ns rs 0 l ls) ds ps marks a d
-      (λ z. let u = unpaired-set marks (d - 1) z in many-unpaired l ls (ds ++ d ∷ []) ((a, word rs (d - 1)) ∷ ps) (set marks (d - 1) 0) (omega (arith, h, u)))
+      digit-empty ns rs (below ns rs 0 l ls) ds ps marks a d
+      (λ r z w. let u = unpaired-set marks (d - 1) z in many-unpaired l ls (ds ++ d ∷ []) ((a, word rs (d - 1)) ∷ ps) (set marks (d - 1) 0) (omega (arith, h, u)))
       (λ z. many-unpaired l ls (ds ++ d ∷ []) ps marks (omega arith)))
 
   -- without right labels, more left terms to go than unpaired right terms are too many
@@ -87,8 +87,8 @@ module _ (ns : List Node) (rs : List ℕ) where
   many-left k (a ∷ ls) ds ps marks h =
       over-none 1 (length rs + 0) (λ d. onDigit ns rs (below ns rs k 0 ls) ds ps marks a d)
       (λ d p q.
-      digit-none ns rs (below ns rs k 0 ls) ds ps marks a d
-      (λ z. let u = unpaired-set marks (d - 1) z in many-left k ls (ds ++ d ∷ []) ((a, word rs (d - 1)) ∷ ps) (set marks (d - 1) 0) (omega (arith, h, u)))
+      digit-empty ns rs (below ns rs k 0 ls) ds ps marks a d
+      (λ r z w. let u = unpaired-set marks (d - 1) z in many-left k ls (ds ++ d ∷ []) ((a, word rs (d - 1)) ∷ ps) (set marks (d - 1) 0) (omega (arith, h, u)))
       (λ z. absurd (omega arith)))
 
 -- nothing is below a hopeless branch

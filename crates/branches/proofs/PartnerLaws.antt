@@ -6,8 +6,8 @@ use mathlib.Core.List.{List, [], _∷_, _++_, map}
 use mathlib.Core.Path.{_≡_, refl, sym, ap, _∙_}
 use native.Mathlib.Decide.{ℕ-discrete}
 use native.Mathlib.Omega.{arith}
-use borrow.Author.Tests.{eqb-true, eqb-false, ne-eqb, leb-true, leb-false, not-true, not-false}
-use lib.Dec.{eqb, leb}
+use borrow.Author.Tests.{eqb-true, eqb-false, ne-eqb, not-true, not-false}
+use lib.Dec.{eqb}
 use lib.ListN.{length, drop, set, length-drop, length-set}
 use lib.Seq.{getD-drop, getD-set-same, getD-set-other}
 use Rattle.table.specs.Limits.{maxTerms}
@@ -16,8 +16,7 @@ use Rattle.table.specs.Some.{someBelow}
 use Rattle.table.proofs.BoolLaws.{and-true-left, and-true-right}
 use Rattle.table.proofs.SomeLaws.{some-here, some-next, some-means, none-some}
 use Rattle.unification.specs.Node.{Node}
-use Rattle.unification.specs.Outcome.{Outcome, unified, clash, occurs}
-use Rattle.unification.specs.Computed.Unifying.{outcome, wordsOf}
+use Rattle.unification.specs.Computed.Unifying.{wordsOf}
 use Rattle.unification.specs.Code.Given.{Inside}
 use Rattle.unification.specs.Code.Sections.{nodesFrom}
 use Rattle.unification.proofs.SectionLaws.{is-node}
@@ -27,27 +26,9 @@ use Rattle.classes.specs.Code.Stands.{Never}
 use Rattle.branches.specs.declared.Labels.{Labels}
 use Rattle.branches.specs.Code.Branch.{Listable}
 use Rattle.branches.specs.Code.Partners.{Triable, Trying, MayPair, partnerAt, partnered, leftStuck, leftsStuck, leftAt, someLeft, rightStuck, rightsStuck, stuck}
-use Rattle.branches.specs.Code.Walk.{ifUnified, onDigit, below}
+use Rattle.branches.specs.Code.Walk.{onDigit, below}
 use Rattle.branches.proofs.BelowLaws.{Nodes}
-use Rattle.branches.proofs.HopelessLaws.{unpaired-set, marked-none, over-none}
-
--- pairs have no entries if they have none where they are unified
-if-empty : (o : Outcome) (es : List (List ℕ)) → (o ≡ unified → es ≡ []) → ifUnified o es ≡ []
-unfolding ifUnified
-if-empty unified es h = h refl
-if-empty clash es h = refl
-if-empty occurs es h = refl
-
--- a digit has no entry if neither the label that it may stand for has one, nor its pair where that is unified
-digit-empty : (ns : List Node) (rs : List ℕ) (f : List ℕ → List (ℕ × ℕ) → List ℕ → List (List ℕ)) (ds : List ℕ) (ps : List (ℕ × ℕ)) (marks : List ℕ) (a d : ℕ) → (d ≤ length rs → (word marks (d - 1) ≡ 0 → ⊥) → outcome ns ((a, word rs (d - 1)) ∷ ps) ≡ unified → f (ds ++ d ∷ []) ((a, word rs (d - 1)) ∷ ps) (set marks (d - 1) 0) ≡ []) → (length rs < d → f (ds ++ d ∷ []) ps marks ≡ []) → onDigit ns rs f ds ps marks a d ≡ []
-unfolding onDigit
-digit-empty ns rs f ds ps marks a d h k =
-    pick (leb d (length rs)) refl (eqb (word marks (d - 1)) 0) refl
-  where
-    pick : (b : Bool) → leb d (length rs) ≡ b → (c : Bool) → eqb (word marks (d - 1)) 0 ≡ c → cond b (cond c [] (ifUnified (outcome ns ((a, word rs (d - 1)) ∷ ps)) (f (ds ++ d ∷ []) ((a, word rs (d - 1)) ∷ ps) (set marks (d - 1) 0)))) (f (ds ++ d ∷ []) ps marks) ≡ []
-    pick true p true q = refl
-    pick true p false q = if-empty _ _ (h (leb-true d (length rs) p) (eqb-false (word marks (d - 1)) 0 q))
-    pick false p c q = k (leb-false d (length rs) p)
+use Rattle.branches.proofs.HopelessLaws.{unpaired-set, marked-none, over-none, digit-empty}
 
 -- a mark that is 0 stays 0
 stays-nought : (marks : List ℕ) (i j : ℕ) → word marks j ≡ 0 → word (set marks i 0) j ≡ 0
