@@ -94,7 +94,7 @@ module _ (nodes arguments : List ℕ) (s : Sections nodes arguments) (g h : ℕ)
       pair-place nodes arguments s g h hg hh a b .1
       (r .0, r .1, l, ap (λ (p : ℕ × ℕ). p .0) (r .2), ap (λ (p : ℕ × ℕ). p .1) (r .2))
 
--- Classes cs′ come of classes cs when some pairs are joined, and whatever the closure then joins.
+-- Classes come of others when some pairs are joined, and whatever the closure then joins.
 pub record Advances (nodes arguments counts heads next : List ℕ) (new : List (ℕ × ℕ)) (heads′ next′ : List ℕ) : Type 0 where
   pub partition : Partition (nodeCount nodes) heads′
   pub merges : Merges (nodeCount nodes) heads next heads′ next′
@@ -103,7 +103,7 @@ pub record Advances (nodes arguments counts heads next : List ℕ) (new : List (
   pub kept : KeepsClosed nodes counts heads heads′
   pub done : (ps todo : List (ℕ × ℕ)) → ClosureUpTo (nodesFrom nodes arguments) ps heads (new ++ todo) → ClosureUpTo (nodesFrom nodes arguments) ps heads′ todo
 
--- Classes ds come of classes cs when those of nodes a and b are made one: the pair is traded for the pairs of new.
+-- Classes ds come of others when those of nodes a and b are made one: the pair is traded for the pairs of new.
 pub record Trades (nodes arguments counts heads next : List ℕ) (a b : ℕ) (new : List (ℕ × ℕ)) (ds next′ : List ℕ) : Type 0 where
   pub partition : Partition (nodeCount nodes) ds
   pub merges : Merges (nodeCount nodes) heads next ds next′

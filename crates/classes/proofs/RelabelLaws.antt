@@ -17,7 +17,7 @@ pub data Ahead (next : List ℕ) (g : ℕ) : ℕ → ℕ → Type 0 where
   this : {i : ℕ} → (i ≡ g → ⊥) → Ahead next g i i
   later : {i k : ℕ} → (i ≡ g → ⊥) → Ahead next g (word next i) k → Ahead next g i k
 
--- Heads ds come of heads cs when the circle of node g is gone around up to node i, and those passed get head h.
+-- Heads ds come of `heads` when the circle of node g is gone around up to node i, and those passed get head h.
 pub record Passing (next : List ℕ) (g h : ℕ) (heads : List ℕ) (i : ℕ) (ds : List ℕ) : Type 0 where
   pub circling : Circling (length heads) next g
   pub long : length ds ≡ length heads

@@ -35,7 +35,7 @@ pairedBy (a ∷ ls) rs (d ∷ ds) ps = pairedBy ls rs ds (cond (leb d (length rs
 abbrev pub pairsIn : List ℕ → List ℕ → List ℕ → ℕ → List (ℕ × ℕ)
 pairsIn left right entry i = pairedBy left right (take i entry) []
 
--- Classes cs stand for pairs with the same unifiers as those of the first i digits of an entry.
+-- The classes stand for pairs with the same unifiers as those of the first i digits of an entry.
 pub record Standing (nodes arguments left right heads entry : List ℕ) (i : ℕ) : Type 0 where
   pub pairs : List (ℕ × ℕ)
   pub stands : Stands nodes arguments heads pairs

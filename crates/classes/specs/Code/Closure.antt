@@ -13,11 +13,11 @@ use Rattle.unification.specs.Code.Sections.{Sections, nodesFrom}
 use Rattle.nodes.specs.Code.Open.{Counts, ClosedHeads, KeepsClosed}
 use Rattle.nodes.specs.Code.Trail.{Trailed, Merges}
 
--- Nodes of one class of cs are of one class of ds.
+-- Nodes of one class are of one class of ds.
 abbrev pub Coarser : List ℕ → List ℕ → Type 0
 Coarser heads ds = (i j : ℕ) → i < length heads → j < length heads → classOf heads i ≡ classOf heads j → classOf ds i ≡ classOf ds j
 
--- Nodes a and b are of one class of cs, or will be when the pairs of todo are joined.
+-- Nodes a and b are of one class, or will be when the pairs of todo are joined.
 abbrev pub Linked : List ℕ → List (ℕ × ℕ) → ℕ → ℕ → Type 0
 Linked heads todo a b = (ds : List ℕ) → Coarser heads ds → Unites ds todo → classOf ds a ≡ classOf ds b
 

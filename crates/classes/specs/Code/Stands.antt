@@ -22,8 +22,8 @@ extended Unified = unified
 extended Clash = clash
 extended Occurs = occurs
 
--- Classes cs are extended by the pair of a and b: the answer is what unifying the longer list comes to. Where that is unified, classes cs′
--- stand for it, closed applications keep their heads, and the joins can be undone; otherwise the classes are as before.
+-- Classes are extended by the pair of a and b: the answer is what unifying the longer list comes to. Where that is unified, the classes
+-- after it stand for the list, closed applications keep their heads, and the joins can be undone; otherwise the classes are as before.
 pub record Extends (nodes arguments counts heads next : List ℕ) (a b : ℕ) (r : Extended) (heads′ next′ : List ℕ) : Type 0 where
   pub answers : (ps : List (ℕ × ℕ)) → Stands nodes arguments heads ps → extended r ≡ outcome (nodesFrom nodes arguments) ((a, b) ∷ ps)
   pub formed : r ≡ Unified → (ps : List (ℕ × ℕ)) → Stands nodes arguments heads ps → Formed nodes arguments counts heads′
