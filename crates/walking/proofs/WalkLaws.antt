@@ -28,7 +28,7 @@ use Rattle.classes.specs.declared.Extended.the-variants.{Unified, Clash, Occurs
 use Rattle.values.specs.Code.Prepared.{Prepared}
 use Rattle.nodes.specs.Code.Formed.{Formed, Stands}
 use Rattle.classes.specs.Code.Stands.{Extends, extended}
-use Rattle.nodes.specs.Code.Trail.{links, gone, Trailed, Since, Before}
+use Rattle.nodes.specs.Code.Trail.{links, gone, Trailed, Since, ComesFrom}
 use Rattle.branches.specs.declared.Labels.{Labels}
 use Rattle.entries.specs.declared.Written.{Written}
 use Rattle.entries.specs.Code.Writing.{Writes, Remains}
@@ -507,5 +507,5 @@ module _ {nodes arguments left right : List ℕ} {labels : Labels} {known prepar
         joins-since = rw (s .0, s .1) (merges-since (g .trailed) (joined-next .formed .partition .size) (x .merges))
 
         -- these are the classes before the joins
-        pub joins-undone : {heads₁ next₁ : List ℕ} → Before (length heads″) (gone next) heads₁ next₁ heads″ next″ → (heads₁ ≡ heads) × (next₁ ≡ next)
+        pub joins-undone : {heads₁ next₁ : List ℕ} → ComesFrom (length heads″) (gone next) heads₁ next₁ heads″ next″ → (heads₁ ≡ heads) × (next₁ ≡ next)
         joins-undone o = merges-back (joined-next .formed .partition .size) (x .merges) (rw (s .0, s .1) at o)
