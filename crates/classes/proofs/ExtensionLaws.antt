@@ -16,7 +16,7 @@ use Rattle.unification.proofs.SectionLaws.{nodes-long, is-node, sections-well-f
 use Rattle.unification.proofs.JoinedLaws.{inside-more}
 use Rattle.classes.specs.declared.Extended.{Extended}
 use Rattle.classes.specs.declared.Extended.the-variants.{Unified, Clash, Occurs}
-use Rattle.nodes.specs.Code.Open.{Counts, ClosedHeads, KeepsClosed}
+use Rattle.nodes.specs.Code.Open.{Counts, ClosedHeads}
 use Rattle.nodes.specs.Code.Trail.{none}
 use Rattle.classes.specs.Code.Closure.{ClosureUpTo, Joins}
 use Rattle.nodes.specs.Code.Order.{Ordered, Searched}

@@ -1,13 +1,13 @@
 -- A refusal is given exactly if its condition holds and none before it: laws of any list of conditions, by induction on it, and
 -- then of those of a table. Assumes nothing.
-use Prim.Native.Nat.{ℕ, suc, _<_, _≤_}
+use Prim.Native.Nat.{ℕ, suc, _<_}
 use mathlib.Core.Bool.{Bool, true, false}
 use mathlib.Core.Path.{_≡_, refl, sym}
 use mathlib.Core.Logic.{_↔_}
 use mathlib.Core.List.{List, [], _∷_, _++_, map, List·Memᴰ, List·Memᴰ·head, List·Memᴰ·tail}
 use native.Mathlib.Omega.{arith}
-use borrow.Author.Tests.{ltb-true, leb-true}
-use lib.Dec.{ltb, leb}
+use borrow.Author.Tests.{ltb-true}
+use lib.Dec.{ltb}
 use lib.ListN.{drop}
 use Rattle.table.specs.Refusal.{conditions, firstHeld, refusal}
 use Rattle.table.proofs.BoolLaws.{and-true-left, and-true-right}
@@ -105,9 +105,9 @@ unfolding conditions
 conditions-numbered t = refl
 
 -- checking a table gives none of the refusals that other operations add
-pub refusal-most : (t : List ℕ) → refusal t ≤ 7
+pub refusal-among : (t : List ℕ) → List·Memᴰ (refusal t) (0 ∷ 1 ∷ 2 ∷ 3 ∷ 4 ∷ 5 ∷ 6 ∷ 7 ∷ [])
 unfolding refusal conditions
-refusal-most t = leb-true (refusal t) 7 (held-has (λ (n : ℕ). leb n 7) (conditions t) refl)
+refusal-among t = held-number (conditions t)
 
 -- the step from one condition to the next
 pub not-held : (c : ℕ × Bool) (cs : List (ℕ × Bool)) → c .1 ≡ false → firstHeld (c ∷ cs) ≡ firstHeld cs

@@ -1,18 +1,18 @@
 -- How many arguments of a node are looked at, counted node by node. Assumes nothing.
 use Prim.Native.Nat.{ℕ, _+_, _≤_, _<_}
-use mathlib.Core.Bool.{Bool, true, false, not, _||_, false≢true}
+use mathlib.Core.Bool.{Bool, true, false, not, _||_}
 use mathlib.Core.List.{List}
 use mathlib.Core.Logic.{_⊎_, inl, inr}
 use mathlib.Core.Path.{_≡_, refl, sym, ap, _∙_}
 use native.Mathlib.Decide.{ℕ-discrete}
 use native.Mathlib.Omega.{arith}
-use borrow.Author.Tests.{eq-eqb, ne-eqb, eqb-true, eqb-false, not-true, not-false}
+use borrow.Author.Tests.{eqb-true, not-false}
 use borrow.Author.Count.{below-more}
 use lib.Dec.{eqb}
 use lib.ListN.{length, set, length-set}
 use lib.Seq.{getD-set-same, getD-set-other}
-use Rattle.table.specs.Layout.{word, kindOf, countOf, nodeCount, argumentOf}
-use Rattle.table.proofs.BoolLaws.{and-true-left, and-true-right, or-false-left, or-false-right}
+use Rattle.table.specs.Layout.{word, countOf, nodeCount, argumentOf}
+use Rattle.table.proofs.BoolLaws.{or-false-left, or-false-right}
 use Rattle.unification.specs.Code.Sections.{Sections}
 use Rattle.nodes.specs.Code.Open.{IsClosed, closedTest, Counts, CountedAt}
 use Rattle.nodes.proofs.OpenLaws.{closed-true, closed-false}

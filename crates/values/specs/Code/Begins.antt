@@ -1,26 +1,19 @@
 -- Classes that stand for a list of pairs, and how they are extended by one pair more. The listing builds on these.
-use Prim.Native.Nat.{ℕ, _<_, _≤_}
-use mathlib.Core.List.{List, _∷_, _++_}
+use Prim.Native.Nat.{ℕ, _≤_}
+use mathlib.Core.List.{List, _++_}
 use mathlib.Core.Path.{_≡_}
 use lib.ListN.{length, take, drop}
-use Rattle.table.specs.Layout.{word, kindOf, nameOf, countOf, nodeCount}
+use Rattle.table.specs.Layout.{nodeCount}
 use Rattle.terms.specs.Substitution.{Substitution}
-use Rattle.unification.specs.Node.{Node}
 use Rattle.unification.specs.Unifier.{Unifies}
-use Rattle.unification.specs.Outcome.{Outcome, unified, clash, occurs}
-use Rattle.unification.specs.Computed.Classes.{classOf}
-use Rattle.unification.specs.Computed.Unifying.{outcome, wordsOf}
+use Rattle.unification.specs.Computed.Unifying.{wordsOf}
 use Rattle.unification.specs.Computed.Variables.{variablesOf}
-use Rattle.unification.specs.Code.Given.{Inside}
 use Rattle.unification.specs.Code.Sections.{nodesFrom}
-use Rattle.unification.specs.Code.Heads.{Partition}
 use Rattle.values.specs.declared.Variables.{Variables}
-use Rattle.nodes.specs.Code.Open.{Counts, ClosedHeads, KeepsClosed}
+use Rattle.nodes.specs.Code.Open.{Counts}
 use Rattle.nodes.specs.Code.Circle.{HeadsFirst}
-use Rattle.nodes.specs.Code.Trail.{Merges}
-use Rattle.nodes.specs.Code.Order.{Ordered}
 use Rattle.values.specs.Code.Present.{variableNames, leastNodes}
-use Rattle.nodes.specs.Code.Formed.{IsConstant, OneConstant, Formed, Stands}
+use Rattle.nodes.specs.Code.Formed.{Formed, Stands}
 
 -- The variables present, by their least nodes.
 pub record Lists (nodes arguments : List ℕ) (v : Variables) : Type 0 where

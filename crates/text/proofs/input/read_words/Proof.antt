@@ -1,4 +1,4 @@
--- `list::input::read_words` meets its contract: the words so far, and those of the bytes that are left, are the words of all bytes. Assumes nothing.
+-- `text::input::read_words` meets its contract: the words so far, and those of the bytes that are left, are the words of all bytes. Assumes nothing.
 use Prim.Native.Nat.{_*_, _/_, _-_, _≤_}
 use mathlib.Core.List.{_++_}
 use mathlib.Core.Path.{_≡_, refl}

@@ -1,4 +1,4 @@
--- `list::lines::write_byte` meets its contract: a byte is stored behind the text. Assumes nothing.
+-- `text::lines::write_byte` meets its contract: a byte is stored behind the text. Assumes nothing.
 use borrow.Author.Needs.{needs}
 use Rattle.text.proofs.WritingLaws.{wrote-byte}
 use Rattle.text.proofs.lines.write_byte.Statement.{statement}

@@ -1,4 +1,4 @@
--- `list::lines::write_line` meets its contract: the first word and what stands after it, or the line feed alone. Assumes nothing.
+-- `text::lines::write_line` meets its contract: the first word and what stands after it, or the line feed alone. Assumes nothing.
 use native.Mathlib.Nat.{pos-of-ne-zero}
 use borrow.Author.Needs.{needs}
 use Rattle.text.proofs.LineLaws.{empty-line-fits, wrote-empty-line, first-word-fits, other-words-fit, wrote-line}

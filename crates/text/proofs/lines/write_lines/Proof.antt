@@ -1,4 +1,4 @@
--- `list::lines::write_lines` meets its contract: each turn writes the line of the next part. Assumes nothing.
+-- `text::lines::write_lines` meets its contract: each turn writes the line of the next part. Assumes nothing.
 use Prim.Native.Nat.{_≤_, _-_, _*_}
 use mathlib.Core.Path.{_≡_}
 use borrow.Author.Needs.{needs}

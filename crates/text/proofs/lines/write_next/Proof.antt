@@ -1,4 +1,4 @@
--- `list::lines::write_next` meets its contract: a blank, and a number behind it. Assumes nothing.
+-- `text::lines::write_next` meets its contract: a blank, and a number behind it. Assumes nothing.
 use borrow.Author.Needs.{needs}
 use Rattle.text.proofs.WritingLaws.{wrote-both}
 use Rattle.text.proofs.lines.write_next.Statement.{statement}

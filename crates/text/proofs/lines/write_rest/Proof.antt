@@ -1,4 +1,4 @@
--- `list::lines::write_rest` meets its contract: each turn writes a blank and a word, and the rest is left. Assumes nothing.
+-- `text::lines::write_rest` meets its contract: each turn writes a blank and a word, and the rest is left. Assumes nothing.
 use Prim.Native.Nat.{_-_}
 use mathlib.Core.Path.{refl}
 use borrow.Author.Needs.{needs}

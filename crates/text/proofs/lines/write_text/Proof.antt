@@ -1,4 +1,4 @@
--- `list::lines::write_text` meets its contract: each turn writes a byte, and the rest is left. Assumes nothing.
+-- `text::lines::write_text` meets its contract: each turn writes a byte, and the rest is left. Assumes nothing.
 use Prim.Native.Nat.{_≤_, _-_}
 use borrow.Author.Needs.{needs}
 use lib.ListN.{length, drop, drop-of-length-le}

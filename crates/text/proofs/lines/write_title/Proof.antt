@@ -1,4 +1,4 @@
--- `list::lines::write_title` meets its contract: a text, a number and a line feed, one behind the other. Assumes nothing.
+-- `text::lines::write_title` meets its contract: a text, a number and a line feed, one behind the other. Assumes nothing.
 use borrow.Author.Needs.{needs}
 use Rattle.text.proofs.LineLaws.{text-fits, number-fits, title-ends, wrote-title}
 use Rattle.text.proofs.lines.write_title.Statement.{statement}
