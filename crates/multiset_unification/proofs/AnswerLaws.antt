@@ -1,25 +1,25 @@
--- What a call answers and leaves in the lent words, for any table: a refusal is the table's own, an accepted table is listed as far as the words go.
--- By cases on the refusal and on whether all words fit, and by induction on the entries. Assumes nothing.
+-- What a call answers and leaves in the lent words, for any conditions and any entries: the first condition that holds is answered; where none does, the entries are listed as far as the words go.
+-- By cases on the conditions and on whether all words fit, and by induction on the entries. Assumes nothing.
 use Prim.Native.Nat.{ℕ, zero, suc, _-_, _<_, _≤_}
-use mathlib.Core.Bool.{Bool, true, false, cond}
-use mathlib.Core.List.{List, [], _∷_, flatten}
+use mathlib.Core.Bool.{Bool, true, false, not, cond}
+use mathlib.Core.List.{List, [], _∷_, _++_, flatten}
 use mathlib.Core.Logic.{_↔_, _⊎_, inl, inr}
 use mathlib.Core.Path.{_≡_, refl, sym, ap, _∙_}
 use native.Mathlib.Decide.{decLt}
 use native.Mathlib.Omega.{arith}
-use borrow.Author.Tests.{lt-ltb, le-ltb, leb-true, leb-false, eq-eqb, ne-eqb}
+use borrow.Author.Tests.{lt-ltb, le-ltb, leb-true, leb-false, eq-eqb, ne-eqb, eqb-false, not-true}
 use lib.Dec.{eqb, leb}
 use lib.ListN.{length, take, drop, length-append, length-drop}
 use lib.Seq.{take-length, take-append-seam, drop-append-seam}
-use Rattle.table.specs.Code.Accepted.{Accepted}
-use Rattle.table.specs.Refusal.{firstHeld, refusal}
-use Rattle.table.proofs.RefusalLaws.{here, later, none, first-means, first-before, first-after, refused, conditions-numbered, refusal-most}
-use Rattle.table.proofs.AcceptedLaws.{accepted}
-use Rattle.table.proofs.AnswerLaws.{number-apart, number-above, number-not, refusal-numbered}
+use Rattle.table.specs.declared.Refusal.{Refusal}
+use Rattle.table.specs.Answer.{numberOf}
+use Rattle.table.specs.Refusal.{firstHeld}
+use Rattle.table.proofs.SomeLaws.{every}
+use Rattle.table.proofs.RefusalLaws.{first-means, first-before, first-after, numbersOf, Numbered, held-has, not-held, held}
+use Rattle.table.proofs.AnswerLaws.{number-apart, number-above, number-not}
 use Rattle.multiset_unification.specs.declared.Listing.{Listing}
 use Rattle.multiset_unification.specs.declared.Listing.the-variants.{Finished, Full, Refused}
-use Rattle.multiset_unification.specs.Computed.Listing.{completeListing}
-use Rattle.multiset_unification.specs.Answer.{told, listConditions, fitting, entriesLeft, listed, lentAfter}
+use Rattle.multiset_unification.specs.Answer.{Told, told, listConditions, fitting, entriesLeft, listed, lentAfter}
 
 -- k is the greatest number such that the words of the first k entries fit.
 pub record Greatest (lent : ℕ) (es : List (List ℕ)) (k : ℕ) : Type 0 where
@@ -71,12 +71,6 @@ fitting-first lent (e ∷ es) = pick (leb (length e) lent) (fitting-first (lent 
     pick true r = ap (e ∷_) r
     pick false r = refl
 
-greatest-one : (lent : ℕ) (es : List (List ℕ)) (j k : ℕ) → Greatest lent es j → Greatest lent es k → j ≡ k
-greatest-one lent es j k g h =
-    let a = g .greatest k (h .there) (h .fits) in
-    let b = h .greatest j (g .there) (g .fits) in
-    omega (arith, a, b)
-
 -- where all words fit, all entries are taken
 pub fitting-all : (lent : ℕ) (es : List (List ℕ)) → length (flatten es) ≤ lent → fitting lent es ≡ es
 fitting-all lent es h =
@@ -103,159 +97,230 @@ fitting-less lent es h = go (decLt (length (fitting lent es)) (length es))
 pub fitting-fits : (lent : ℕ) (es : List (List ℕ)) → length (flatten (fitting lent es)) ≤ lent
 fitting-fits lent es = rw (fitting-first lent es) (fitting-greatest lent es .fits)
 
-module _ (t : List ℕ) (lent : ℕ) where
-  -- a call leaves no entry where the table is refused
-  none-left : (Accepted t → ⊥) → entriesLeft t lent ≡ []
-  unfolding entriesLeft
-  none-left n = rw (ne-eqb (refusal t) 0 (λ e. n (accepted t .0 e)))
+-- Conditions of refusals: no number is 0, which is no refusal, or 10, which is full.
+pub record Refusals (cs : List (ℕ × Bool)) : Type 0 where
+  pub numbered : Numbered cs
+  pub not-full : every (λ (n : ℕ). not (eqb n 10)) (numbersOf cs) ≡ true
 
-  -- and as many as fit where it is accepted
-  pub fitting-left : Accepted t → entriesLeft t lent ≡ fitting lent (completeListing t)
-  unfolding entriesLeft
-  fitting-left a = rw (eq-eqb (refusal t) 0 (accepted t .1 a))
+-- where one of them holds, conditions after them do not matter
+held-before : (cs ds : List (ℕ × Bool)) → 0 < firstHeld cs → firstHeld (cs ++ ds) ≡ firstHeld cs
+held-before cs ds h = first-means _ (cs ++ ds) .1 (first-before ds h (first-means _ cs .0 refl))
 
-  pub answered-refused : (n : ℕ) → 0 < n → refusal t ≡ n → listed t lent ≡ (n, 0)
+-- where none does, only those matter
+held-after : (cs ds : List (ℕ × Bool)) → Refusals cs → firstHeld cs ≡ 0 → firstHeld (cs ++ ds) ≡ firstHeld ds
+held-after cs ds g z =
+    first-means _ (cs ++ ds) .1 (first-after cs ds (g .numbered) (first-means 0 cs .0 z) (first-means _ ds .0 refl))
+
+-- 10 is not among them
+never-full : (cs : List (ℕ × Bool)) → Refusals cs → firstHeld cs ≡ 10 → ⊥
+never-full cs g = eqb-false (firstHeld cs) 10 (not-true _ (held-has (λ (n : ℕ). not (eqb n 10)) cs (g .not-full)))
+
+-- no conditions are conditions of refusals
+pub nothing : Refusals []
+nothing = record { numbered = refl; not-full = refl }
+
+-- and none of them holds
+pub nothing-held : firstHeld [] ≡ 0
+unfolding firstHeld
+nothing-held = refl
+
+-- what is told is the same where both parts are
+told-same : {m n j k : ℕ} → m ≡ n → j ≡ k → _≡_ {A = Told} (record { answer = m; entries = j }) (record { answer = n; entries = k })
+told-same e f = rw (e, f) refl
+
+module _ (cs : List (ℕ × Bool)) (es : List (List ℕ)) (lent : ℕ) where
+  -- a call leaves no entry where a condition holds
+  pub none-left : 0 < firstHeld cs → entriesLeft cs es lent ≡ []
+  unfolding entriesLeft
+  none-left h = rw (ne-eqb (firstHeld cs) 0 (λ e. absurd (omega (arith, h, e))))
+
+  -- and as many as fit where none does
+  pub fitting-left : firstHeld cs ≡ 0 → entriesLeft cs es lent ≡ fitting lent es
+  unfolding entriesLeft
+  fitting-left e = rw (eq-eqb (firstHeld cs) 0 e)
+
+  -- a condition that holds is answered
+  pub answered-refused : (n : ℕ) → 0 < n → firstHeld cs ≡ n → listed cs es lent ≡ record { answer = n; entries = 0 }
   unfolding listed listConditions
   answered-refused n h e =
-      let f : firstHeld (listConditions t lent) ≡ n = first-means n (listConditions t lent) .1 (first-before _ h (refused t n .0 e)) in
-      let l = none-left (λ a. omega (arith, h, e, accepted t .1 a)) in
-      rw (f, l)
+      let f : firstHeld (listConditions cs es lent) ≡ n = held-before cs _ (omega (arith, h, e)) ∙ e in
+      told-same f (ap length (none-left (omega (arith, h, e))))
 
-  pub answered-finished : Accepted t → length (flatten (completeListing t)) ≤ lent → listed t lent ≡ (0, length (completeListing t))
-  unfolding listed listConditions
-  answered-finished a h =
-      let q = le-ltb lent (length (flatten (completeListing t))) h in
-      let f : firstHeld (listConditions t lent) ≡ 0 = first-means 0 (listConditions t lent) .1 (first-after _ _ (conditions-numbered t) (refused t 0 .0 (accepted t .1 a)) (later q (none refl))) in
-      let l = fitting-left a ∙ fitting-all lent (completeListing t) h in
-      rw (f, l)
+  module _ (g : Refusals cs) (z : firstHeld cs ≡ 0) where
+    pub answered-finished : length (flatten es) ≤ lent → listed cs es lent ≡ record { answer = 0; entries = length es }
+    unfolding listed listConditions
+    answered-finished h =
+        let f : firstHeld (listConditions cs es lent) ≡ 0 = held-after cs _ g z ∙ not-held _ [] (le-ltb lent (length (flatten es)) h) ∙ nothing-held in
+        told-same f (ap length (fitting-left z ∙ fitting-all lent es h))
 
-  pub answered-full : Accepted t → lent < length (flatten (completeListing t)) → listed t lent ≡ (10, length (fitting lent (completeListing t)))
-  unfolding listed listConditions
-  answered-full a h =
-      let q = lt-ltb lent (length (flatten (completeListing t))) h in
-      let f : firstHeld (listConditions t lent) ≡ 10 = first-means 10 (listConditions t lent) .1 (first-after _ _ (conditions-numbered t) (refused t 0 .0 (accepted t .1 a)) (here refl q)) in
-      rw (f, fitting-left a)
+    pub answered-full : lent < length (flatten es) → listed cs es lent ≡ record { answer = 10; entries = length (fitting lent es) }
+    unfolding listed listConditions
+    answered-full h =
+        let f : firstHeld (listConditions cs es lent) ≡ 10 = held-after cs _ g z ∙ held _ [] (lt-ltb lent (length (flatten es)) h) in
+        told-same f (ap length (fitting-left z))
 
   -- the three ways in which a call can end
   data Answered : Type 0 where
-    refusing : 0 < refusal t → listed t lent ≡ (refusal t, 0) → Answered
-    finishing : Accepted t → length (flatten (completeListing t)) ≤ lent → listed t lent ≡ (0, length (completeListing t)) → Answered
-    filling : Accepted t → lent < length (flatten (completeListing t)) → listed t lent ≡ (10, length (fitting lent (completeListing t))) → Answered
+    refusing : 0 < firstHeld cs → listed cs es lent ≡ record { answer = firstHeld cs; entries = 0 } → Answered
+    finishing : firstHeld cs ≡ 0 → length (flatten es) ≤ lent → listed cs es lent ≡ record { answer = 0; entries = length es } → Answered
+    filling : firstHeld cs ≡ 0 → lent < length (flatten es) → listed cs es lent ≡ record { answer = 10; entries = length (fitting lent es) } → Answered
 
-  answered : Answered
-  answered = go (decLt 0 (refusal t)) (decLt lent (length (flatten (completeListing t))))
+  answered : Refusals cs → Answered
+  answered g = go (decLt 0 (firstHeld cs)) (decLt lent (length (flatten es)))
     where
-      go : Dec (0 < refusal t) → Dec (lent < length (flatten (completeListing t))) → Answered
-      go (yes h) q = refusing h (answered-refused (refusal t) h refl)
-      go (no h) (yes q) = let a = accepted t .0 (omega arith) in filling a q (answered-full a q)
-      go (no h) (no q) = let a = accepted t .0 (omega arith) in finishing a (omega arith) (answered-finished a (omega arith))
+      go : Dec (0 < firstHeld cs) → Dec (lent < length (flatten es)) → Answered
+      go (yes h) q = refusing h (answered-refused (firstHeld cs) h refl)
+      go (no h) (yes q) = filling (omega arith) q (answered-full g (omega arith) q)
+      go (no h) (no q) = finishing (omega arith) (omega arith) (answered-finished g (omega arith) (omega arith))
 
-  apart : {a b c d : ℕ} → listed t lent ≡ (a, b) → listed t lent ≡ (c, d) → (a ≡ c) × (b ≡ d)
-  apart {a} {b} {c} {d} p q =
-      let e : _≡_ {A = ℕ × ℕ} (a, b) (c, d) = sym p ∙ q in
-      (ap (λ (r : ℕ × ℕ). r .0) e, ap (λ (r : ℕ × ℕ). r .1) e)
+  -- the two parts of what is told
+  answer-is : {w : Told} → listed cs es lent ≡ w → listed cs es lent .answer ≡ w .answer
+  answer-is q = ap (λ (w : Told). w .answer) q
 
-  -- a number from 1 to 7 is answered exactly if it is the table's refusal, and then with no entry
-  pub refused-exactly : (n k : ℕ) → 0 < n → n ≤ 7 → listed t lent ≡ (n, k) ↔ ((refusal t ≡ n) × (k ≡ 0))
-  refused-exactly n k h m = (λ e. go e answered, λ r. answered-refused n h (r .0) ∙ ap (λ (j : ℕ). (n, j)) (sym (r .1)))
-    where
-      go : listed t lent ≡ (n, k) → Answered → (refusal t ≡ n) × (k ≡ 0)
-      go e (refusing r q) = let p = apart e q in (sym (p .0), p .1)
-      go e (finishing a l q) = let p = apart e q in absurd (omega (arith, h, p .0))
-      go e (filling a l q) = let p = apart e q in absurd (omega (arith, m, p .0))
+  entries-are : {w : Told} → listed cs es lent ≡ w → listed cs es lent .entries ≡ w .entries
+  entries-are q = ap (λ (w : Told). w .entries) q
 
-  -- finished is answered exactly if the table is accepted and all words fit, and then with the number of all entries
-  pub finished-exactly : (k : ℕ) → listed t lent ≡ (0, k) ↔ (Accepted t × (length (flatten (completeListing t)) ≤ lent) × (k ≡ length (completeListing t)))
-  finished-exactly k = (λ e. go e answered, λ r. answered-finished (r .0) (r .1) ∙ ap (λ (j : ℕ). (0, j)) (sym (r .2)))
-    where
-      go : listed t lent ≡ (0, k) → Answered → Accepted t × (length (flatten (completeListing t)) ≤ lent) × (k ≡ length (completeListing t))
-      go e (refusing r q) = let p = apart e q in absurd (omega (arith, r, p .0))
-      go e (finishing a l q) = let p = apart e q in (a, l, p .1)
-      go e (filling a l q) = let p = apart e q in absurd (omega (arith, p .0))
-
-  -- full is answered exactly if the table is accepted and not all words fit, and then with the greatest number of first entries that do
-  pub full-exactly : (k : ℕ) → listed t lent ≡ (10, k) ↔ (Accepted t × (lent < length (flatten (completeListing t))) × Greatest lent (completeListing t) k)
-  full-exactly k =
-      (λ e. go e answered, λ r. answered-full (r .0) (r .1) ∙ ap (λ (j : ℕ). (10, j)) (greatest-one lent (completeListing t) _ k (fitting-greatest lent (completeListing t)) (r .2)))
-    where
-      go : listed t lent ≡ (10, k) → Answered → Accepted t × (lent < length (flatten (completeListing t))) × Greatest lent (completeListing t) k
-      go e (refusing r q) = let p = apart e q in absurd (omega (arith, refusal-most t, p .0))
-      go e (finishing a l q) = let p = apart e q in absurd (omega (arith, p .0))
-      go e (filling a l q) = (a, l, rw (apart e q .1) (fitting-greatest lent (completeListing t)))
-
-  -- and not with all
-  pub full-less : (k : ℕ) → listed t lent ≡ (10, k) → k < length (completeListing t)
-  full-less k e =
-      let r = full-exactly k .0 e in
-      let l = fitting-less lent (completeListing t) (r .1) in
-      let g = greatest-one lent (completeListing t) k _ (r .2) (fitting-greatest lent (completeListing t)) in
-      omega (arith, l, g)
-
-  -- no other number is answered
-  pub numbers : (listed t lent .0 ≤ 7) ⊎ (listed t lent .0 ≡ 10)
-  numbers = go answered
-    where
-      number : {n k : ℕ} → listed t lent ≡ (n, k) → listed t lent .0 ≡ n
-      number q = ap (λ (p : ℕ × ℕ). p .0) q
-
-      go : Answered → (listed t lent .0 ≤ 7) ⊎ (listed t lent .0 ≡ 10)
-      go (refusing r q) = inl (omega (arith, refusal-most t, number q))
-      go (finishing a l q) = inl (omega (arith, number q))
-      go (filling a l q) = inr (number q)
-
-  -- as many entries are left as the answer says, and they are the first ones of the complete listing
-  pub entries-left : entriesLeft t lent ≡ take (listed t lent .1) (completeListing t)
+  -- as many entries are left as the answer says, and they are the first ones
+  pub entries-left : entriesLeft cs es lent ≡ take (listed cs es lent .entries) es
   unfolding entriesLeft listed
-  entries-left = pick (eqb (refusal t) 0)
+  entries-left = pick (eqb (firstHeld cs) 0)
     where
-      pick : (b : Bool) → cond b (fitting lent (completeListing t)) [] ≡ take (length (cond b (fitting lent (completeListing t)) [])) (completeListing t)
-      pick true = fitting-first lent (completeListing t)
+      pick : (b : Bool) → cond b (fitting lent es) [] ≡ take (length (cond b (fitting lent es) [])) es
+      pick true = fitting-first lent es
       pick false = refl
 
-  -- a finished call leaves the complete listing
-  pub left-finished : (k : ℕ) → listed t lent ≡ (0, k) → entriesLeft t lent ≡ completeListing t
-  left-finished k e =
-      entries-left ∙ ap (λ (j : ℕ). take j (completeListing t)) (ap (λ (p : ℕ × ℕ). p .1) e ∙ finished-exactly k .0 e .2) ∙ take-length (completeListing t)
-
-  entries-fit : length (flatten (entriesLeft t lent)) ≤ lent
+  pub entries-fit : length (flatten (entriesLeft cs es lent)) ≤ lent
   unfolding entriesLeft flatten
-  entries-fit = pick (eqb (refusal t) 0)
+  entries-fit = pick (eqb (firstHeld cs) 0)
     where
-      pick : (b : Bool) → length (flatten (cond b (fitting lent (completeListing t)) [])) ≤ lent
-      pick true = fitting-fits lent (completeListing t)
+      pick : (b : Bool) → length (flatten (cond b (fitting lent es) [])) ≤ lent
+      pick true = fitting-fits lent es
       pick false = omega arith
 
-module _ (t lent : List ℕ) where
+  module _ (g : Refusals cs) where
+    -- a number other than 0 and 10 is answered exactly if it is that of the first condition that holds
+    pub refused-exactly : (n : ℕ) → 0 < n → (n ≡ 10 → ⊥) → listed cs es lent .answer ≡ n ↔ (firstHeld cs ≡ n)
+    refused-exactly n h m = ((λ e. go e (answered g)), (λ e. answer-is (answered-refused n h e)))
+      where
+        go : listed cs es lent .answer ≡ n → Answered → firstHeld cs ≡ n
+        go e (refusing r q) = sym (answer-is q) ∙ e
+        go e (finishing a l q) = absurd (omega (arith, h, e, answer-is q))
+        go e (filling a l q) = absurd (m (sym e ∙ answer-is q))
+
+    -- and then with no entry
+    pub refused-none : 0 < firstHeld cs → listed cs es lent .entries ≡ 0
+    refused-none h = entries-are (answered-refused (firstHeld cs) h refl)
+
+    -- finished is answered exactly if no condition holds and all words fit
+    pub finished-exactly : listed cs es lent .answer ≡ 0 ↔ ((firstHeld cs ≡ 0) × (length (flatten es) ≤ lent))
+    finished-exactly = ((λ e. go e (answered g)), (λ r. answer-is (answered-finished g (r .0) (r .1))))
+      where
+        go : listed cs es lent .answer ≡ 0 → Answered → (firstHeld cs ≡ 0) × (length (flatten es) ≤ lent)
+        go e (refusing r q) = absurd (omega (arith, r, e, answer-is q))
+        go e (finishing a l q) = (a, l)
+        go e (filling a l q) = absurd (omega (arith, e, answer-is q))
+
+    -- and then with the number of all entries
+    pub finished-all : listed cs es lent .answer ≡ 0 → listed cs es lent .entries ≡ length es
+    finished-all e = let r = finished-exactly .0 e in entries-are (answered-finished g (r .0) (r .1))
+
+    -- a finished call leaves them all
+    pub left-finished : listed cs es lent .answer ≡ 0 → entriesLeft cs es lent ≡ es
+    left-finished e = entries-left ∙ ap (λ (k : ℕ). take k es) (finished-all e) ∙ take-length es
+
+    -- full is answered exactly if no condition holds and not all words fit
+    pub full-exactly : listed cs es lent .answer ≡ 10 ↔ ((firstHeld cs ≡ 0) × (lent < length (flatten es)))
+    full-exactly = ((λ e. go e (answered g)), (λ r. answer-is (answered-full g (r .0) (r .1))))
+      where
+        go : listed cs es lent .answer ≡ 10 → Answered → (firstHeld cs ≡ 0) × (lent < length (flatten es))
+        go e (refusing r q) = absurd (never-full cs g (sym (answer-is q) ∙ e))
+        go e (finishing a l q) = absurd (omega (arith, e, answer-is q))
+        go e (filling a l q) = (a, l)
+
+    -- and then with the greatest number of first entries that do
+    pub full-greatest : listed cs es lent .answer ≡ 10 → Greatest lent es (listed cs es lent .entries)
+    full-greatest e =
+        let r = full-exactly .0 e in
+        rw (entries-are (answered-full g (r .0) (r .1))) (fitting-greatest lent es)
+
+    -- which is less than all
+    pub full-less : listed cs es lent .answer ≡ 10 → listed cs es lent .entries < length es
+    full-less e =
+        let r = full-exactly .0 e in
+        let l = fitting-less lent es (r .1) in
+        omega (arith, l, entries-are (answered-full g (r .0) (r .1)))
+
+    -- no other number is answered
+    pub numbers : (listed cs es lent .answer ≡ firstHeld cs) ⊎ (listed cs es lent .answer ≡ 10)
+    numbers = go (answered g)
+      where
+        go : Answered → (listed cs es lent .answer ≡ firstHeld cs) ⊎ (listed cs es lent .answer ≡ 10)
+        go (refusing r q) = inl (answer-is q)
+        go (finishing a l q) = inl (answer-is q ∙ sym a)
+        go (filling a l q) = inr (answer-is q)
+
+    -- every call has an answer that stands for what it comes to, where each condition has a refusal
+    pub told-there : (0 < firstHeld cs → (r : Refusal) × (numberOf r ≡ firstHeld cs)) → (r : Listing) × (told r ≡ listed cs es lent)
+    told-there f = go (answered g)
+      where
+        go : Answered → (r : Listing) × (told r ≡ listed cs es lent)
+        go (refusing h q) = let r = f h in (Refused (r .0), ap (λ (n : ℕ). record { answer = n; entries = 0 }) (r .1) ∙ sym q)
+        go (finishing a l q) = (Finished (length es), sym q)
+        go (filling a l q) = (Full (length (fitting lent es)), sym q)
+
+-- where no condition holds, the answer is as if there were none
+pub answered-without : (cs : List (ℕ × Bool)) (es : List (List ℕ)) (lent : ℕ) → Refusals cs → firstHeld cs ≡ 0 → listed cs es lent ≡ listed [] es lent
+answered-without cs es lent g z = go (decLt lent (length (flatten es)))
+  where
+    go : Dec (lent < length (flatten es)) → listed cs es lent ≡ listed [] es lent
+    go (yes q) = answered-full cs es lent g z q ∙ sym (answered-full [] es lent nothing nothing-held q)
+    go (no q) =
+        let m : length (flatten es) ≤ lent = omega arith in
+        answered-finished cs es lent g z m ∙ sym (answered-finished [] es lent nothing nothing-held m)
+
+-- the greatest number of first entries that fit is one
+pub greatest-one : (lent : ℕ) (es : List (List ℕ)) (j k : ℕ) → Greatest lent es j → Greatest lent es k → j ≡ k
+greatest-one lent es j k g h =
+    let a = g .greatest k (h .there) (h .fits) in
+    let b = h .greatest j (g .there) (g .fits) in
+    omega (arith, a, b)
+
+module _ (cs : List (ℕ × Bool)) (es : List (List ℕ)) (lent : List ℕ) where
   -- no call changes how many words are lent
-  pub lent-long : length (lentAfter t lent) ≡ length lent
+  pub lent-long : length (lentAfter cs es lent) ≡ length lent
   unfolding lentAfter
   lent-long =
-      let ws = flatten (entriesLeft t (length lent)) in
-      let h = entries-fit t (length lent) in
+      let ws = flatten (entriesLeft cs es (length lent)) in
+      let h = entries-fit cs es (length lent) in
       let a = length-append ws (drop (length ws) lent) in
       let d = length-drop (length ws) lent in
       omega (arith, h, a, d)
 
   -- the first words are those of the entries left
-  pub lent-entries : take (length (flatten (entriesLeft t (length lent)))) (lentAfter t lent) ≡ flatten (entriesLeft t (length lent))
+  pub lent-entries : take (length (flatten (entriesLeft cs es (length lent)))) (lentAfter cs es lent) ≡ flatten (entriesLeft cs es (length lent))
   unfolding lentAfter
-  lent-entries = take-append-seam (flatten (entriesLeft t (length lent))) (drop (length (flatten (entriesLeft t (length lent)))) lent)
+  lent-entries = take-append-seam (flatten (entriesLeft cs es (length lent))) (drop (length (flatten (entriesLeft cs es (length lent)))) lent)
 
   -- and the others are as they were
-  pub lent-rest : drop (length (flatten (entriesLeft t (length lent)))) (lentAfter t lent) ≡ drop (length (flatten (entriesLeft t (length lent)))) lent
+  pub lent-rest : drop (length (flatten (entriesLeft cs es (length lent)))) (lentAfter cs es lent) ≡ drop (length (flatten (entriesLeft cs es (length lent)))) lent
   unfolding lentAfter
-  lent-rest = drop-append-seam (flatten (entriesLeft t (length lent))) (drop (length (flatten (entriesLeft t (length lent)))) lent)
+  lent-rest = drop-append-seam (flatten (entriesLeft cs es (length lent))) (drop (length (flatten (entriesLeft cs es (length lent)))) lent)
 
-  -- where the table is refused, no lent word is changed
-  pub refused-nothing : (Accepted t → ⊥) → lentAfter t lent ≡ lent
+  -- where no condition holds, they are as if there were none
+  pub lent-without : firstHeld cs ≡ 0 → lentAfter cs es lent ≡ lentAfter [] es lent
+  unfolding lentAfter
+  lent-without e = rw (fitting-left cs es (length lent) e, fitting-left [] es (length lent) nothing-held) refl
+
+  -- where a condition holds, no lent word is changed
+  pub refused-nothing : 0 < firstHeld cs → lentAfter cs es lent ≡ lent
   unfolding lentAfter flatten
-  refused-nothing n = rw (none-left t (length lent) n)
+  refused-nothing h = rw (none-left cs es (length lent) h)
 
 -- answers that stand for one thing are one answer
 pub told-apart : (r s : Listing) → told r ≡ told s → r ≡ s
-told-apart r s e = go r s (ap (λ (p : ℕ × ℕ). p .0) e) (ap (λ (p : ℕ × ℕ). p .1) e)
+told-apart r s e = go r s (ap (λ (w : Told). w .answer) e) (ap (λ (w : Told). w .entries) e)
   where
-    go : (r s : Listing) → told r .0 ≡ told s .0 → told r .1 ≡ told s .1 → r ≡ s
+    go : (r s : Listing) → told r .answer ≡ told s .answer → told r .entries ≡ told s .entries → r ≡ s
     go (Finished j) (Finished k) n e = ap Finished e
     go (Finished j) (Full k) n e = absurd (omega (arith, n))
     go (Finished j) (Refused s) n e = absurd (omega (arith, n, number-above s))
@@ -265,14 +330,3 @@ told-apart r s e = go r s (ap (λ (p : ℕ × ℕ). p .0) e) (ap (λ (p : ℕ ×
     go (Refused r) (Finished k) n e = absurd (omega (arith, n, number-above r))
     go (Refused r) (Full k) n e = absurd (number-not 10 refl r n)
     go (Refused r) (Refused s) n e = ap Refused (number-apart r s n)
-
--- every call has an answer that stands for what it comes to
-pub told-there : (t : List ℕ) (lent : ℕ) → (r : Listing) × (told r ≡ listed t lent)
-told-there t lent = go (answered t lent)
-  where
-    go : Answered t lent → (r : Listing) × (told r ≡ listed t lent)
-    go (refusing h q) =
-        let r = refusal-numbered t h in
-        (Refused (r .0), ap (λ (n : ℕ). (n, 0)) (r .1) ∙ sym q)
-    go (finishing a l q) = (Finished (length (completeListing t)), sym q)
-    go (filling a l q) = (Full (length (fitting lent (completeListing t))), sym q)

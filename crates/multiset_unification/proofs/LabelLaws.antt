@@ -11,10 +11,7 @@ use lib.ListN.{length, length-append, List·getD-append}
 use lib.Seq.{getD-append-add}
 use Rattle.table.specs.Layout.{word}
 use Rattle.terms.specs.Term.{Term}
-
--- No label of the list stands twice.
-abbrev pub Different : List ℕ → Type 0
-Different ks = (i j : ℕ) → i < j → j < length ks → word ks i ≡ word ks j → ⊥
+use Rattle.multiset_unification.specs.Code.Posed.{Different}
 
 -- What a label holds where f says it of each place: that of its first place, and nothing if it has none.
 unfoldable held : List ℕ → (ℕ → List Term) → ℕ → List Term

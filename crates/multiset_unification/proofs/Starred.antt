@@ -11,7 +11,7 @@ use Rattle.table.specs.Refusal.{conditions, firstHeld, refusal}
 use Rattle.table.specs.declared.Refusal.the-variants.{WrongLabel}
 use Rattle.terms.specs.Term.{equal}
 use Rattle.terms.specs.Substitution.{sub}
-use Rattle.unification.specs.Node.{tabulate, readNode, nodesIn, each, spell, termWithin, termOf}
+use Rattle.unification.specs.Node.{variable, application, tabulate, readNode, nodesIn, each, spell, termWithin, termOf}
 use Rattle.unification.specs.Computed.Variables.{insert, variablesOf}
 use Rattle.unification.specs.Computed.Classes.{renamed, join, joinAll, sameSymbol, asks, gather, asked, round, rounds, classes, differ, clashAt, clashWith, clashes}
 use Rattle.unification.specs.Computed.Walks.{someMarked, leads, leadsAt, leadsFrom, walks, cyclic}
@@ -24,11 +24,12 @@ use Rattle.unification.specs.Answer.{variableCount, unifyConditions, Answer, an
 use Rattle.unification.proofs.Calls.{x-fx, y-x}
 use Rattle.multiset_unification.specs.declared.Listing.{Listing}
 use Rattle.multiset_unification.specs.declared.Listing.the-variants.{Finished, Full, Refused}
+use Rattle.multiset_unification.specs.Problem.{Problem, problemOf}
 use Rattle.multiset_unification.specs.Choice.{pairs}
-use Rattle.multiset_unification.specs.Entry.{entryOf}
+use Rattle.multiset_unification.specs.Entry.{shares, pairsOf, entryOf}
 use Rattle.multiset_unification.specs.Computed.Choices.{among, branch, rights, lefts, choices}
-use Rattle.multiset_unification.specs.Computed.Listing.{kept, choicesOf, completeListing}
-use Rattle.multiset_unification.specs.Answer.{told, listConditions, fitting, entriesLeft, listed, lentAfter}
+use Rattle.multiset_unification.specs.Computed.Listing.{kept, halfChoices, cross, halvesChoices, admissibleListing, completeListing}
+use Rattle.multiset_unification.specs.Answer.{Told, told, listConditions, fitting, entriesLeft, listed, lentAfter}
 
 -- {a, a | M} and {a | N}
 abbrev pub two-and-one : List ℕ
@@ -101,13 +102,13 @@ pub data Given : Type 0 where
   unifying : Unification → Given
 
 -- What an answer stands for: a listing's number and entries, or what unifying comes to.
-pub data Told : Type 0 where
-  entries : ℕ × ℕ → Told
-  outcome-is : Answer → Told
+pub data Meaning : Type 0 where
+  listing-is : Told → Meaning
+  outcome-is : Answer → Meaning
 
 -- What each answer stands for.
-abbrev pub stands-for : Given → Told
-stands-for (listing r) = entries (told r)
+abbrev pub stands-for : Given → Meaning
+stands-for (listing r) = listing-is (told r)
 stands-for (unifying r) = outcome-is (Rattle.unification.specs.Answer.told r)
 
 -- A call with lent words; then the answer and the lent words after the call.
@@ -156,11 +157,37 @@ examples =
     []
 
 -- What the definitions compute for a call with lent words.
-abbrev pub computed : Call → List ℕ → Told × List ℕ
-computed (list t) lent = (entries (listed t (length lent)), lentAfter t lent)
+abbrev pub computed : Call → List ℕ → Meaning × List ℕ
+computed (list t) lent =
+    (listing-is (listed (conditions t) (completeListing (problemOf t)) (length lent)), lentAfter (conditions t) (completeListing (problemOf t)) lent)
 computed (unify t a b) lent = (outcome-is (unification t a b (length lent)), Rattle.unification.specs.Answer.lentAfter t a b lent)
 
 -- what they compute is what stands beside each call: for 1 to 12, what document 01 says
 pub starred : map (λ e. computed (e .0) (e .1)) examples ≡ map (λ e. (stands-for (e .2), e .3)) examples
-unfolding flatten flatMap ℕ-discrete countsBefore someBelow tooFewWords endBefore offsetIsWrong brokenPair wordsAreWrong sizeIsWrong overLimit rightVariable startOf rightApplication rightNode nodeIsWrong wrongNode argumentIsWrong runIsWrong wrongArgument termIsWrong wrongTerm labelsAreEqual labelIsWrong wrongLabel conditions firstHeld refusal equal sub tabulate readNode nodesIn each spell termWithin termOf zip zipWith insert variablesOf renamed join joinAll sameSymbol asks gather asked round rounds classes differ clashAt clashWith clashes someMarked leads leadsAt leadsFrom walks cyclic firstWith leastNode isApplication isVariable isNodeOf nodeOf resolved solution isApplicationIn isVariableIn headIn isBoundTo hasValue wordFor wordOf bindingWords outcome unifier wordsOf variableCount unifyConditions answerAfter unification wordsAfter pairs entryOf among branch rights lefts choices kept choicesOf completeListing listConditions fitting entriesLeft listed lentAfter Rattle.unification.specs.Answer.lentAfter
+unfolding flatten flatMap ℕ-discrete countsBefore someBelow tooFewWords endBefore offsetIsWrong brokenPair wordsAreWrong sizeIsWrong overLimit rightVariable startOf rightApplication rightNode nodeIsWrong wrongNode argumentIsWrong runIsWrong wrongArgument termIsWrong wrongTerm labelsAreEqual labelIsWrong wrongLabel conditions firstHeld refusal equal sub tabulate readNode nodesIn each spell termWithin termOf zip zipWith insert variablesOf renamed join joinAll sameSymbol asks gather asked round rounds classes differ clashAt clashWith clashes someMarked leads leadsAt leadsFrom walks cyclic firstWith leastNode isApplication isVariable isNodeOf nodeOf resolved solution isApplicationIn isVariableIn headIn isBoundTo hasValue wordFor wordOf bindingWords outcome unifier wordsOf variableCount unifyConditions answerAfter unification wordsAfter pairs shares pairsOf entryOf among branch rights lefts choices kept halfChoices cross halvesChoices admissibleListing completeListing listConditions fitting entriesLeft listed lentAfter Rattle.unification.specs.Answer.lentAfter
 starred = refl
+
+-- {x} and {a}, and {x} and {b}: each half has an entry, the two together have none, as x would be a and b
+abbrev pub x-two-ways : Problem
+x-two-ways =
+    record {
+      nodes = variable 0 ∷ application 1 [] ∷ application 2 [] ∷ [];
+      halves =
+          record { left = 0 ∷ []; leftLabels = []; right = 1 ∷ []; rightLabels = [] } ∷
+          record { left = 0 ∷ []; leftLabels = []; right = 2 ∷ []; rightLabels = [] } ∷ [];
+    }
+
+-- {a} and { | N, P}, and {x | M} and {a}: the first half's digits, then the second's, then the binding word of x
+abbrev pub labels-then-pair : Problem
+labels-then-pair =
+    record {
+      nodes = variable 0 ∷ application 1 [] ∷ [];
+      halves =
+          record { left = 1 ∷ []; leftLabels = []; right = []; rightLabels = 2 ∷ 3 ∷ [] } ∷
+          record { left = 0 ∷ []; leftLabels = 1 ∷ []; right = 1 ∷ []; rightLabels = [] } ∷ [];
+    }
+
+-- what the definitions compute for problems of two halves
+pub two-halves : completeListing x-two-ways ∷ completeListing labels-then-pair ∷ [] ≡ [] ∷ ((1 ∷ 1 ∷ 0 ∷ 1 ∷ []) ∷ (2 ∷ 1 ∷ 0 ∷ 1 ∷ []) ∷ []) ∷ []
+unfolding flatten flatMap ℕ-discrete countsBefore someBelow tooFewWords endBefore offsetIsWrong brokenPair wordsAreWrong sizeIsWrong overLimit rightVariable startOf rightApplication rightNode nodeIsWrong wrongNode argumentIsWrong runIsWrong wrongArgument termIsWrong wrongTerm labelsAreEqual labelIsWrong wrongLabel conditions firstHeld refusal equal sub tabulate readNode nodesIn each spell termWithin termOf zip zipWith insert variablesOf renamed join joinAll sameSymbol asks gather asked round rounds classes differ clashAt clashWith clashes someMarked leads leadsAt leadsFrom walks cyclic firstWith leastNode isApplication isVariable isNodeOf nodeOf resolved solution isApplicationIn isVariableIn headIn isBoundTo hasValue wordFor wordOf bindingWords outcome unifier wordsOf variableCount unifyConditions answerAfter unification wordsAfter pairs shares pairsOf entryOf among branch rights lefts choices kept halfChoices cross halvesChoices admissibleListing completeListing listConditions fitting entriesLeft listed lentAfter Rattle.unification.specs.Answer.lentAfter
+two-halves = refl

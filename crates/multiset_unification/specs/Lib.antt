@@ -1,4 +1,5 @@
 -- What a reader has to believe of the listing, in document 01's order.
+pub mod Problem
 pub mod Choice
 pub mod Entry
 pub mod Assignment
@@ -7,3 +8,4 @@ pub mod Answer
 pub mod Page14
 -- What nobody has to believe: definitions that compute what a relation says.
 pub mod Computed
+pub mod Code
