@@ -13,7 +13,7 @@ use Rattle.unification.proofs.ListLaws.{tabulate-length}
 use Rattle.multiset_unification.specs.Choice.{withDigit}
 use Rattle.algorithms.specs.Mmset.{Mmset}
 use Rattle.algorithms.specs.Algorithms.{orderedPartitions, Contexts, context, distribute, unifyDistribute}
-use Rattle.algorithms.specs.Table.{contextsOf}
+use Rattle.algorithms.specs.Sides.{contextsOf}
 use Rattle.algorithms.specs.Code.Placing.{Distinct, Placing, parts}
 use Rattle.algorithms.proofs.ProductLaws.{in-product, product-distinct, map-product}
 use Rattle.algorithms.proofs.DistinctLaws.{map-distinct}

@@ -14,7 +14,7 @@ use Rattle.multiset_unification.specs.Choice.{IsChoice, withDigit, inLeft, inRi
 use Rattle.multiset_unification.specs.Computed.Choices.{choices}
 use Rattle.multiset_unification.proofs.ChoiceLaws.{choices-are, choices-rise, before-one-way}
 use Rattle.algorithms.specs.Algorithms.{choose, permutations, Contexts, unifyDistribute, Result, composed, unifyTerms, unifyC, unify}
-use Rattle.algorithms.specs.Table.{contextsOf, goneOverAs}
+use Rattle.algorithms.specs.Sides.{contextsOf, goneOverAs}
 use Rattle.algorithms.specs.Code.Placing.{Distinct, SameMembers, Split, none, chosen, left, Apart, Placing, put, parts}
 use Rattle.algorithms.proofs.DistinctLaws.{map-distinct}
 use Rattle.algorithms.proofs.OrderLaws.{distinct-permuted, permuted-long}

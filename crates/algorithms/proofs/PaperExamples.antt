@@ -13,7 +13,7 @@ use Rattle.multiset_unification.specs.Computed.Listing.{kept}
 use Rattle.multiset_unification.proofs.Starred.{two-and-one, label-and-none}
 use Rattle.algorithms.specs.Mmset.{given, fresh, MmsetSubstitution, itself, apply, compose}
 use Rattle.algorithms.specs.Algorithms.{numbers, choose, atEach, permutations, inEach, orderedPartitions, context, distribute, unifyDistribute, Result, composed, unifyTerms, unifyC, unify}
-use Rattle.algorithms.specs.Table.{leftTags, rightTags, nodePairs, algorithm1}
+use Rattle.algorithms.specs.Sides.{sidesOf, leftTags, rightTags, nodePairs, algorithm1}
 use Rattle.algorithms.specs.Unifier.{standing, image, onContexts, unifierOf, unifiersOf, mmsetOf, restsOf, UnifiesSides}
 
 -- "the ordered 2-partitions of the multiset {a, b, c}": eight, where the paper prints {b} with {a, b, c} for {} with {a, b, c}
@@ -34,7 +34,7 @@ abbrev one : List Result
 one = record { pairing = []; contexts = (1, record { terms = []; variables = [] }) ∷ [] } ∷ []
 
 -- "given multiset {a, a | M} and {a | N}, unify computes three unifiers": N ↦ {a | N'} twice, "once for each occurrence of a", and M ↦ {a | M'}, N ↦ {a, a | N'}; { | M} and {} have one
-pub three-unifiers : (algorithm1 two-and-one ≡ three) × (algorithm1 label-and-none ≡ one)
+pub three-unifiers : (algorithm1 (sidesOf two-and-one) ≡ three) × (algorithm1 (sidesOf label-and-none) ≡ one)
 unfolding flatMap product zip zipWith ℕ-discrete countsBefore someBelow tabulate readNode nodesIn renamed join joinAll sameSymbol asks gather asked round rounds classes differ clashAt clashWith clashes someMarked leads leadsAt leadsFrom walks cyclic outcome kept numbers choose atEach permutations inEach orderedPartitions context distribute unifyDistribute composed unifyTerms unifyC unify leftTags rightTags nodePairs algorithm1
 three-unifiers = (refl, refl)
 
@@ -43,12 +43,12 @@ abbrev toX : MmsetSubstitution
 toX = record { onTerms = var; onVariables = λ M. itself (fresh 7) }
 
 -- "σ = σ_i σ'" holds modulo T_σ, and not to the letter: M ↦ { | X} unifies { | M} and {}, but whatever comes after M ↦ { | } has no X
-pub not-to-the-letter : UnifiesSides label-and-none toX × ((σᵢ : MmsetSubstitution) → List·Memᴰ σᵢ (unifiersOf label-and-none) → (σ′ : MmsetSubstitution) → compose σᵢ σ′ .onVariables (given 1) .variables ≡ [])
+pub not-to-the-letter : UnifiesSides (sidesOf label-and-none) toX × ((σᵢ : MmsetSubstitution) → List·Memᴰ σᵢ (unifiersOf (sidesOf label-and-none)) → (σ′ : MmsetSubstitution) → compose σᵢ σ′ .onVariables (given 1) .variables ≡ [])
 unfolding flatMap itself apply compose standing image onContexts unifierOf unifiersOf mmsetOf restsOf
-not-to-the-letter = (record { terms = λ u. refl; variables = λ ρ h. h }, λ σᵢ m σ′. ap (λ (σ : MmsetSubstitution). compose σ σ′ .onVariables (given 1) .variables) (only σᵢ (Memᴰ·of-map (unifierOf label-and-none) (algorithm1 label-and-none) m)))
+not-to-the-letter = (record { terms = λ u. refl; variables = λ ρ h. h }, λ σᵢ m σ′. ap (λ (σ : MmsetSubstitution). compose σ σ′ .onVariables (given 1) .variables) (only σᵢ (Memᴰ·of-map (unifierOf (sidesOf label-and-none)) (algorithm1 (sidesOf label-and-none)) m)))
   where
     first : Result
     first = record { pairing = []; contexts = (1, record { terms = []; variables = [] }) ∷ [] }
 
-    only : (σᵢ : MmsetSubstitution) → (r : Result) × List·Memᴰ r (algorithm1 label-and-none) × (unifierOf label-and-none r ≡ σᵢ) → σᵢ ≡ unifierOf label-and-none first
-    only σᵢ (r, m, e) = sym e ∙ ap (unifierOf label-and-none) (List·Memᴰ·eq-of-singleton (rw (three-unifiers .1) at m))
+    only : (σᵢ : MmsetSubstitution) → (r : Result) × List·Memᴰ r (algorithm1 (sidesOf label-and-none)) × (unifierOf (sidesOf label-and-none) r ≡ σᵢ) → σᵢ ≡ unifierOf (sidesOf label-and-none) first
+    only σᵢ (r, m, e) = sym e ∙ ap (unifierOf (sidesOf label-and-none)) (List·Memᴰ·eq-of-singleton (rw (three-unifiers .1) at m))

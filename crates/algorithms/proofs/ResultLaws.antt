@@ -13,7 +13,7 @@ use Rattle.unification.proofs.ListLaws.{tabulate-length, tabulate-at}
 use Rattle.multiset_unification.specs.Choice.{IsChoice, pairs, withDigit, inLeft, inRight}
 use Rattle.multiset_unification.proofs.PlaceLaws.{pairs-mean, with-digit-means}
 use Rattle.algorithms.specs.Algorithms.{Result}
-use Rattle.algorithms.specs.Table.{goneOverAs}
+use Rattle.algorithms.specs.Sides.{goneOverAs}
 use Rattle.algorithms.specs.Code.Placing.{Distinct}
 use Rattle.algorithms.proofs.DistinctLaws.{one-place}
 use Rattle.algorithms.proofs.DistributeLaws.{contexts-tell}

@@ -9,12 +9,11 @@ use borrow.Author.Tests.{leb-true}
 use lib.Dec.{eqb, leb}
 use lib.ListN.{length, drop, length-map, List·getD-append}
 use lib.Seq.{getD-append-add}
-use Rattle.table.specs.Layout.{word, leftTermsOf, rightTermsOf}
+use Rattle.table.specs.Layout.{word}
 use Rattle.unification.proofs.ListLaws.{map-at}
 use Rattle.multiset_unification.specs.Choice.{pairs, withDigit, inLeft, inRight}
-use Rattle.multiset_unification.specs.Entry.{pairsOf}
-use Rattle.multiset_unification.proofs.EntryLaws.{Choice}
-use Rattle.algorithms.specs.Table.{leftTags, rightTags, nodeOf, nodePairs}
+use Rattle.multiset_unification.specs.Entry.{HalfChoice, halfPairs}
+use Rattle.algorithms.specs.Sides.{Sides, leftTags, rightTags, nodeOf, nodePairs}
 use Rattle.algorithms.specs.Code.Placing.{Distinct}
 use Rattle.algorithms.proofs.NumberLaws.{numbers-long, numbers-distinct, numbers-stand}
 
@@ -48,49 +47,49 @@ pairs-map f (a ∷ ls) rs (d ∷ ds) h = rw (length-map rs f) (pick (leb d (leng
     pick false e r = r
 
 -- there is a tag for each term
-pub left-tags-long : (t : List ℕ) → length (leftTags t) ≡ length (leftTermsOf t)
+pub left-tags-long : (t : Sides) → length (leftTags t) ≡ length (t .half .left)
 unfolding leftTags
 left-tags-long t = numbers-long _ _
 
-pub right-tags-long : (t : List ℕ) → length (rightTags t) ≡ length (rightTermsOf t)
+pub right-tags-long : (t : Sides) → length (rightTags t) ≡ length (t .half .right)
 unfolding rightTags
 right-tags-long t = numbers-long _ _
 
 -- and no tag for two
-pub left-tags-distinct : (t : List ℕ) → Distinct (leftTags t)
+pub left-tags-distinct : (t : Sides) → Distinct (leftTags t)
 unfolding leftTags
 left-tags-distinct t = numbers-distinct _ _
 
-pub right-tags-distinct : (t : List ℕ) → Distinct (rightTags t)
+pub right-tags-distinct : (t : Sides) → Distinct (rightTags t)
 unfolding rightTags
 right-tags-distinct t = numbers-distinct _ _
 
 -- the tags of a side stand for its terms
-left-nodes : (t : List ℕ) → map (nodeOf t) (leftTags t) ≡ leftTermsOf t
+left-nodes : (t : Sides) → map (nodeOf t) (leftTags t) ≡ t .half .left
 unfolding leftTags
 left-nodes t =
-    numbers-stand (nodeOf t) 0 (length (leftTermsOf t)) (leftTermsOf t) refl
-    (λ i h. let z : 0 + i ≡ i = omega arith in ap (nodeOf t) z ∙ List·getD-append (leftTermsOf t) (rightTermsOf t) 0 i h)
+    numbers-stand (nodeOf t) 0 (length (t .half .left)) (t .half .left) refl
+    (λ i h. let z : 0 + i ≡ i = omega arith in ap (nodeOf t) z ∙ List·getD-append (t .half .left) (t .half .right) 0 i h)
 
-right-nodes : (t : List ℕ) → map (nodeOf t) (rightTags t) ≡ rightTermsOf t
+right-nodes : (t : Sides) → map (nodeOf t) (rightTags t) ≡ t .half .right
 unfolding rightTags
 right-nodes t =
-    numbers-stand (nodeOf t) (length (leftTermsOf t)) (length (rightTermsOf t)) (rightTermsOf t) refl
-    (λ j h. getD-append-add (leftTermsOf t) (rightTermsOf t) j 0)
+    numbers-stand (nodeOf t) (length (t .half .left)) (length (t .half .right)) (t .half .right) refl
+    (λ j h. getD-append-add (t .half .left) (t .half .right) j 0)
 
 -- the pairs of tags stand for the pairs of a choice
-pub pairs-stand : (t ds : List ℕ) → Choice t ds → nodePairs t (pairs (leftTags t) (rightTags t) ds) ≡ pairsOf t ds
+pub pairs-stand : (t : Sides) (ds : List ℕ) → HalfChoice (t .half) ds → nodePairs t (pairs (leftTags t) (rightTags t) ds) ≡ halfPairs (t .half) ds
 unfolding nodePairs
 pairs-stand t ds c =
     pairs-map (nodeOf t) (leftTags t) (rightTags t) ds (λ i h. c .left-digits i (rw (← left-tags-long t) h) .0) ∙ rw (left-nodes t, right-nodes t) refl
 
 -- the tags in each label stand for the terms that the choice puts there
-pub lefts-stand : (t ds : List ℕ) (p : ℕ) → map (nodeOf t) (inLeft (leftTags t) (rightTags t) ds p) ≡ inLeft (leftTermsOf t) (rightTermsOf t) ds p
+pub lefts-stand : (t : Sides) (ds : List ℕ) (p : ℕ) → map (nodeOf t) (inLeft (leftTags t) (rightTags t) ds p) ≡ inLeft (t .half .left) (t .half .right) ds p
 unfolding inLeft
 lefts-stand t ds p =
     with-map (nodeOf t) (suc p) (rightTags t) (drop (length (leftTags t)) ds) ∙ rw (right-nodes t, left-tags-long t) refl
 
-pub rights-stand : (t ds : List ℕ) (q : ℕ) → map (nodeOf t) (inRight (leftTags t) (rightTags t) ds q) ≡ inRight (leftTermsOf t) (rightTermsOf t) ds q
+pub rights-stand : (t : Sides) (ds : List ℕ) (q : ℕ) → map (nodeOf t) (inRight (leftTags t) (rightTags t) ds q) ≡ inRight (t .half .left) (t .half .right) ds q
 unfolding inRight
 rights-stand t ds q =
     with-map (nodeOf t) (length (rightTags t) + suc q) (leftTags t) ds ∙ rw (left-nodes t, right-tags-long t) refl
