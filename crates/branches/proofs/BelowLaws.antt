@@ -11,11 +11,10 @@ use borrow.Author.Tests.{eq-eqb, ne-eqb, leb-true, leb-false}
 use lib.Dec.{eqb, leb}
 use lib.ListN.{length, set, replicate, length-append, length-set, length-replicate, getD-replicate}
 use lib.Seq.{getD-set-same, getD-set-other}
-use Rattle.table.specs.Layout.{word, leftTermsOf, leftLabelsOf, rightTermsOf, rightLabelsOf}
-use Rattle.table.specs.Code.Accepted.{Accepted}
+use Rattle.table.specs.Layout.{word}
 use Rattle.terms.specs.Term.{var}
 use Rattle.terms.specs.Substitution.{Substitution}
-use Rattle.unification.specs.Node.{Node, nodesIn}
+use Rattle.unification.specs.Node.{Node}
 use Rattle.unification.specs.Unifier.{Unifies}
 use Rattle.unification.specs.Code.Given.{WellFormed, Inside}
 use Rattle.unification.specs.Outcome.{Outcome, unified, clash, occurs}
@@ -25,14 +24,15 @@ use Rattle.unification.proofs.FlatLaws.{flat-append, flat-same, flat-none, flat
 use Rattle.unification.proofs.AnswerLaws.{words-counted}
 use Rattle.unification.proofs.OutcomeLaws.{outcome-unified}
 use Rattle.unification.proofs.PairLaws.{more-none, same-outcome, same-words}
-use Rattle.unification.proofs.TableLaws.{well-formed, left-node, right-node}
 use Rattle.unification.proofs.JoinedLaws.{inside-none, inside-more}
+use Rattle.multiset_unification.specs.Problem.{Half}
 use Rattle.multiset_unification.specs.Choice.{pairs}
-use Rattle.multiset_unification.specs.Entry.{pairsOf, entryOf}
+use Rattle.multiset_unification.specs.Entry.{HalfChoice, halfPairs}
 use Rattle.multiset_unification.specs.Computed.Choices.{among, branch, rights, lefts, choices}
-use Rattle.multiset_unification.specs.Computed.Listing.{kept, choicesOf, completeListing}
-use Rattle.multiset_unification.proofs.ChoiceLaws.{choices-are}
-use Rattle.multiset_unification.proofs.EntryLaws.{Choice, pairs-inside}
+use Rattle.multiset_unification.specs.Computed.Listing.{kept, halfChoices, admissibleListing}
+use Rattle.multiset_unification.specs.Code.Posed.{HalfPosed}
+use Rattle.multiset_unification.proofs.HalfLaws.{half-choices, half-inside}
+use Rattle.multiset_unification.proofs.OneHalfLaws.{oneHalf, one-listing}
 use Rattle.entries.specs.Code.Writing.{marked}
 use Rattle.branches.specs.Code.Branch.{pairedBy}
 use Rattle.branches.specs.Code.Walk.{over, ifUnified, onDigit, below}
@@ -252,42 +252,44 @@ paired-from (a ∷ ls) rs (d ∷ es) ps p m = pick (leb d (length rs)) (paired-f
     pick false (inl n) = inl n
     pick false (inr n) = inr n
 
-module _ (t : List ℕ) (g : Accepted t) where
+module _ (ns : List Node) (f : WellFormed ns) (k : Half) (g : HalfPosed (length ns) k) where
   -- The pairs of the digits as the walk has them, the latest first.
   abbrev met : List ℕ → List (ℕ × ℕ)
-  met es = pairedBy (leftTermsOf t) (rightTermsOf t) es []
+  met es = pairedBy (k .left) (k .right) es []
 
   -- they are pairs of the digits
-  met-from : (es : List ℕ) (p : ℕ × ℕ) → List·Memᴰ p (met es) → List·Memᴰ p (pairsOf t es)
-  met-from es p m = go (paired-from (leftTermsOf t) (rightTermsOf t) es [] p m)
+  met-from : (es : List ℕ) (p : ℕ × ℕ) → List·Memᴰ p (met es) → List·Memᴰ p (halfPairs k es)
+  met-from es p m = go (paired-from (k .left) (k .right) es [] p m)
     where
-      go : List·Memᴰ p [] ⊎ List·Memᴰ p (pairsOf t es) → List·Memᴰ p (pairsOf t es)
+      go : List·Memᴰ p [] ⊎ List·Memᴰ p (halfPairs k es) → List·Memᴰ p (halfPairs k es)
       go (inl n) = absurd (List·Memᴰ·not-nil n)
       go (inr n) = n
 
   -- of a choice both keep the same entry
-  choice-kept : (es : List ℕ) → Choice t es → kept (outcome (nodesIn t) (met es)) (es ++ wordsOf (nodesIn t) (met es)) ≡ kept (outcome (nodesIn t) (pairsOf t es)) (entryOf t es)
-  unfolding entryOf
+  choice-kept : (es : List ℕ) → HalfChoice k es → kept (outcome ns (met es)) (es ++ wordsOf ns (met es)) ≡ kept (outcome ns (halfPairs k es)) (es ++ wordsOf ns (halfPairs k es))
   choice-kept es c =
-      let f = well-formed t g in
-      let i = pairs-inside t g es c in
-      let h : Inside (nodesIn t) (met es) = λ a b m. i a b (met-from es (a, b) m) in
-      let y = paired-pairs (leftTermsOf t) (rightTermsOf t) es [] in
-      kept-same (outcome (nodesIn t) (met es)) (es ++ wordsOf (nodesIn t) (met es)) (es ++ wordsOf (nodesIn t) (pairsOf t es))
-      (λ o. ap (λ (ws : List ℕ). es ++ ws) (same-words (nodesIn t) f (met es) (pairsOf t es) h i (met-from es) y (outcome-unified (nodesIn t) f (met es) h .0 o)))
-      ∙ ap (λ (o : Outcome). kept o (es ++ wordsOf (nodesIn t) (pairsOf t es))) (same-outcome (nodesIn t) f (met es) (pairsOf t es) h i (met-from es) y)
+      let i = half-inside k g es c in
+      let h : Inside ns (met es) = λ a b m. i a b (met-from es (a, b) m) in
+      let y = paired-pairs (k .left) (k .right) es [] in
+      kept-same (outcome ns (met es)) (es ++ wordsOf ns (met es)) (es ++ wordsOf ns (halfPairs k es))
+      (λ o. ap (λ (ws : List ℕ). es ++ ws) (same-words ns f (met es) (halfPairs k es) h i (met-from es) y (outcome-unified ns f (met es) h .0 o)))
+      ∙ ap (λ (o : Outcome). kept o (es ++ wordsOf ns (halfPairs k es))) (same-outcome ns f (met es) (halfPairs k es) h i (met-from es) y)
 
   -- no pair fails
-  none-unified : outcome (nodesIn t) [] ≡ unified
-  none-unified = outcome-unified (nodesIn t) (well-formed t g) [] (inside-none (nodesIn t)) .1 (var, λ a b m. absurd (List·Memᴰ·not-nil m))
+  none-unified : outcome ns [] ≡ unified
+  none-unified = outcome-unified ns f [] (inside-none ns) .1 (var, λ a b m. absurd (List·Memᴰ·not-nil m))
 
-  -- what is below the branch without digits is the complete listing
-  pub below-listing : below (nodesIn t) (rightTermsOf t) (length (leftLabelsOf t)) (length (rightLabelsOf t)) (leftTermsOf t) [] [] (replicate (length (rightTermsOf t)) 1) ≡ completeListing t
-  unfolding completeListing choicesOf choices
-  below-listing =
-      kept-below (nodesIn t) (well-formed t g) (rightTermsOf t) (right-node t g) (length (leftLabelsOf t)) (length (rightLabelsOf t)) (leftTermsOf t) (left-node t g) [] [] (replicate (length (rightTermsOf t)) 1) [] (inside-none (nodesIn t)) none-unified (marks-first (length (rightTermsOf t)))
-      ∙ flat-same _ (λ es. kept (outcome (nodesIn t) (pairsOf t es)) (entryOf t es)) (choicesOf t)
-      (λ es m. choice-kept es (choices-are (length (leftTermsOf t)) (length (rightTermsOf t)) (length (leftLabelsOf t)) (length (rightLabelsOf t)) es .0 m))
+  -- what is below the branch without digits are the entries of the half's choices
+  pub below-half : below ns (k .right) (length (k .leftLabels)) (length (k .rightLabels)) (k .left) [] [] (replicate (length (k .right)) 1) ≡ flatMap (λ ds. kept (outcome ns (halfPairs k ds)) (ds ++ wordsOf ns (halfPairs k ds))) (halfChoices k)
+  unfolding halfChoices choices
+  below-half =
+      kept-below ns f (k .right) (g .right-node) (length (k .leftLabels)) (length (k .rightLabels)) (k .left) (g .left-node) [] [] (replicate (length (k .right)) 1) [] (inside-none ns) none-unified (marks-first (length (k .right)))
+      ∙ flat-same _ (λ es. kept (outcome ns (halfPairs k es)) (es ++ wordsOf ns (halfPairs k es))) (halfChoices k)
+      (λ es m. choice-kept es (half-choices k es .0 m))
+
+  -- and so document 01's listing of a problem of this half
+  pub below-listing : below ns (k .right) (length (k .leftLabels)) (length (k .rightLabels)) (k .left) [] [] (replicate (length (k .right)) 1) ≡ admissibleListing (oneHalf ns k)
+  below-listing = below-half ∙ sym (one-listing k ns)
 
 -- what holds of each entry that a digit has holds of each that several have
 over-each : (P : List ℕ → Type 0) (d c : ℕ) (f : ℕ → List (List ℕ)) → ((e : ℕ) (x : List ℕ) → List·Memᴰ x (f e) → P x) → (x : List ℕ) → List·Memᴰ x (over d c f) → P x

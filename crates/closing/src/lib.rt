@@ -6,13 +6,14 @@
 ghost use mathlib.Core.Path.{_≡_};
 ghost use mathlib.Core.Bool.{true, false};
 ghost use Rattle.table.specs.Refusal.{refusal};
+ghost use Rattle.multiset_unification.specs.Problem.{problemOf};
 ghost use Rattle.multiset_unification.specs.Assignment.{Assignment, EqualSides};
 use multiset_unification::Listing;
 
 // Whether a table closes a branch. Where it is refused, nothing is known of its sides, and the branch stays open.
 pub fn closes(table: &[u32]) -> bool
-    ensures none_equal { λ r. ⌜ (r ≡ true → (A : Assignment) → EqualSides (now (table .entry)) A → ⊥) ⌝ }
-    ensures some_equal { λ r. ⌜ (r ≡ false → refusal (now (table .entry)) ≡ 0 → (A : Assignment) × EqualSides (now (table .entry)) A) ⌝ }
+    ensures none_equal { λ r. ⌜ (r ≡ true → (A : Assignment) → EqualSides (problemOf (now (table .entry))) A → ⊥) ⌝ }
+    ensures some_equal { λ r. ⌜ (r ≡ false → refusal (now (table .entry)) ≡ 0 → (A : Assignment) × EqualSides (problemOf (now (table .entry))) A) ⌝ }
 {
     let mut none = [0u32; 1];
     match listing::list(table, &mut none[0..0]) {

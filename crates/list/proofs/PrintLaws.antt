@@ -10,101 +10,92 @@ use native.Mathlib.Nat.{mul-comm, sub-zero}
 use native.Mathlib.Omega.{arith}
 use borrow.Author.Tests.{eq-eqb, ne-eqb, lt-ltb, ltb-false}
 use lib.Dec.{eqb}
-use lib.ListN.{length, take, drop, length-append, length-take}
+use lib.ListN.{length, take, length-take}
 use lib.Seq.{take-all}
 use Rattle.table.specs.declared.Refusal.{Refusal}
 use Rattle.table.specs.Answer.{numberOf}
-use Rattle.table.specs.Layout.{leftTermsOf, rightTermsOf}
-use Rattle.table.specs.Refusal.{refusal}
-use Rattle.table.specs.Code.Accepted.{Accepted}
-use Rattle.table.proofs.AcceptedLaws.{accepted}
+use Rattle.table.specs.Refusal.{conditions, firstHeld, refusal}
 use Rattle.table.proofs.BoolLaws.{or-false-left}
 use Rattle.table.proofs.AnswerLaws.{number-not}
 use Rattle.unification.proofs.ListLaws.{length-none}
-use Rattle.unification.specs.Outcome.{Outcome, unified, clash, occurs}
-use Rattle.multiset_unification.specs.Answer.{entriesLeft, listed, lentAfter, entryWords, entriesIn}
-use Rattle.multiset_unification.specs.Computed.Choices.{rights, lefts, choices}
-use Rattle.multiset_unification.specs.Computed.Listing.{kept, choicesOf, completeListing}
-use Rattle.multiset_unification.proofs.AnswerLaws.{finished-exactly, full-exactly, entries-left, lent-long}
-use Rattle.multiset_unification.proofs.LentLaws.{entries-lie, left-words}
+use Rattle.multiset_unification.specs.Problem.{problemOf}
+use Rattle.multiset_unification.specs.Answer.{Told, entriesLeft, listed, lentAfter, entryWords, entriesIn}
+use Rattle.multiset_unification.specs.Computed.Listing.{completeListing}
+use Rattle.multiset_unification.proofs.AnswerLaws.{finished-exactly, full-exactly, entries-left, entries-fit, lent-long}
+use Rattle.multiset_unification.proofs.LentLaws.{one-at-most, entries-lie, left-words}
+use Rattle.multiset_unification.proofs.TableLaws.{held-posed, table-refusals}
 use Rattle.text.specs.Line.{lines, titled}
 use Rattle.list.specs.Printed.{entriesText, fullText, refusedText, title, printedTable, printed}
 use Rattle.text.specs.Input.{wrongBytes, wordsOfBytes}
 use Rattle.text.specs.Code.Writing.{Wrote, parts}
 use Rattle.list.specs.Code.Printing.{Printable}
 
-kept-one : {A : Type 0} (o : Outcome) (e : A) → length (kept o e) ≤ 1
-unfolding kept
-kept-one unified e = omega arith
-kept-one clash e = omega arith
-kept-one occurs e = omega arith
+module _ (t lent words : List ℕ) (k width : ℕ) (long : length lent ≡ 16384) (left : words ≡ lentAfter (conditions t) (completeListing (problemOf t)) lent) (wide : width ≡ cond (eqb (refusal t) 0) (entryWords (problemOf t)) 0) where
+  -- What is told of so many lent words, and the entries that are left.
+  abbrev answered : Told
+  answered = listed (conditions t) (completeListing (problemOf t)) (length lent)
 
--- where entries have no words, there is one choice
-one-entry : (t : List ℕ) → entryWords t ≡ 0 → length (completeListing t) ≤ 1
-unfolding entryWords completeListing choicesOf choices lefts rights flatMap
-one-entry t e =
-    let n : length (leftTermsOf t) ≡ 0 = omega (arith, e) in
-    let m : length (rightTermsOf t) ≡ 0 = omega (arith, e) in
-    rw (n, m) (rw (append-nil _) (kept-one _ _))
+  abbrev entries-there : ℕ → List (List ℕ)
+  entries-there = entriesLeft (conditions t) (completeListing (problemOf t))
 
-module _ (t lent words : List ℕ) (k width : ℕ) (long : length lent ≡ 16384) (left : words ≡ lentAfter t lent) (wide : width ≡ cond (eqb (refusal t) 0) (entryWords t) 0) where
-  module _ (a : Accepted t) (counted : k ≡ listed t (length lent) .1) where
-    width-right : width ≡ entryWords t
-    width-right = wide ∙ rw (eq-eqb (refusal t) 0 (accepted t .1 a)) refl
+  module _ (z : firstHeld (conditions t) ≡ 0) (counted : k ≡ answered .entries) where
+    width-right : width ≡ entryWords (problemOf t)
+    unfolding refusal
+    width-right = wide ∙ rw (eq-eqb (refusal t) 0 z) refl
 
     -- the entries that are left are so many
-    count-right : length (take (listed t (length lent) .1) (completeListing t)) ≡ k
+    count-right : length (take (answered .entries) (completeListing (problemOf t))) ≡ k
     unfolding listed
-    count-right = ap length (sym (entries-left t (length lent))) ∙ sym counted
+    count-right = ap length (sym (entries-left (conditions t) (completeListing (problemOf t)) (length lent))) ∙ sym counted
 
     -- as many words as they have
-    words-right : width * k ≡ length (flatten (entriesLeft t (length lent)))
+    words-right : width * k ≡ length (flatten (entries-there (length lent)))
     words-right =
-        rw (width-right, counted) (mul-comm (entryWords t) (listed t (length lent) .1) ∙ sym (left-words t (length lent) (accepted t .1 a)))
-
-    flat-inside : length (flatten (entriesLeft t (length lent))) ≤ length lent
-    unfolding lentAfter
-    flat-inside =
-        let f = flatten (entriesLeft t (length lent)) in
-        omega (arith, lent-long t lent, length-append f (drop (length f) lent))
+        rw (width-right, counted) (mul-comm (entryWords (problemOf t)) (answered .entries) ∙ sym (left-words (problemOf t) (held-posed t z) (conditions t) (length lent)))
 
     pub printable : Printable width k words
     printable =
         record {
-          lent = ap length left ∙ lent-long t lent ∙ long;
-          inside = omega (arith, words-right, flat-inside, long);
-          one = λ z. omega (arith, one-entry t (sym width-right ∙ z), count-right, length-take (listed t (length lent) .1) (completeListing t));
+          lent = ap length left ∙ lent-long (conditions t) (completeListing (problemOf t)) lent ∙ long;
+          inside = omega (arith, words-right, entries-fit (conditions t) (completeListing (problemOf t)) (length lent), long);
+          one = λ n. omega (arith, one-at-most (problemOf t) (held-posed t z) (sym width-right ∙ n), count-right, length-take (answered .entries) (completeListing (problemOf t)));
         }
 
     -- they lie in the words
-    lie : parts width k words ≡ entriesLeft t 16384
+    lie : parts width k words ≡ entries-there 16384
     unfolding parts entriesIn
-    lie = rw (width-right, counted, left) (entries-lie t lent a ∙ ap (entriesLeft t) long)
+    lie = rw (width-right, counted, left) (entries-lie (problemOf t) (held-posed t z) (conditions t) lent ∙ ap entries-there long)
+
+  finished-held : record { answer = 0; entries = k } ≡ answered → firstHeld (conditions t) ≡ 0
+  finished-held e = finished-exactly (conditions t) (completeListing (problemOf t)) (length lent) (table-refusals t) .0 (ap (λ (w : Told). w .answer) (sym e)) .0
+
+  full-held : record { answer = 10; entries = k } ≡ answered → firstHeld (conditions t) ≡ 0
+  full-held e = full-exactly (conditions t) (completeListing (problemOf t)) (length lent) (table-refusals t) .0 (ap (λ (w : Told). w .answer) (sym e)) .0
 
   -- a finished listing
-  pub finished-printable : (0, k) ≡ listed t (length lent) → Printable width k words
-  finished-printable e = printable (finished-exactly t (length lent) k .0 (sym e) .0) (ap (λ (p : ℕ × ℕ). p .1) e)
+  pub finished-printable : record { answer = 0; entries = k } ≡ answered → Printable width k words
+  finished-printable e = printable (finished-held e) (ap (λ (w : Told). w .entries) e)
 
-  pub finished-printed : {o p : List ℕ} {j : ℕ} → (0, k) ≡ listed t (length lent) → Wrote o 0 (titled entriesText k ++ lines (parts width k words)) p j → Wrote o 0 (printedTable t) p j
+  pub finished-printed : {o p : List ℕ} {j : ℕ} → record { answer = 0; entries = k } ≡ answered → Wrote o 0 (titled entriesText k ++ lines (parts width k words)) p j → Wrote o 0 (printedTable t) p j
   unfolding printedTable title
   finished-printed e w =
-      rw (← long, ← e) (rw (lie (finished-exactly t (length lent) k .0 (sym e) .0) (ap (λ (p : ℕ × ℕ). p .1) e), ← long) at w)
+      rw (← long, ← e) (rw (lie (finished-held e) (ap (λ (w : Told). w .entries) e), ← long) at w)
 
   -- a full one
-  pub full-printable : (10, k) ≡ listed t (length lent) → Printable width k words
-  full-printable e = printable (full-exactly t (length lent) k .0 (sym e) .0) (ap (λ (p : ℕ × ℕ). p .1) e)
+  pub full-printable : record { answer = 10; entries = k } ≡ answered → Printable width k words
+  full-printable e = printable (full-held e) (ap (λ (w : Told). w .entries) e)
 
-  pub full-printed : {o p : List ℕ} {j : ℕ} → (10, k) ≡ listed t (length lent) → Wrote o 0 (titled fullText k ++ lines (parts width k words)) p j → Wrote o 0 (printedTable t) p j
+  pub full-printed : {o p : List ℕ} {j : ℕ} → record { answer = 10; entries = k } ≡ answered → Wrote o 0 (titled fullText k ++ lines (parts width k words)) p j → Wrote o 0 (printedTable t) p j
   unfolding printedTable title
   full-printed e w =
-      rw (← long, ← e) (rw (lie (full-exactly t (length lent) k .0 (sym e) .0) (ap (λ (p : ℕ × ℕ). p .1) e), ← long) at w)
+      rw (← long, ← e) (rw (lie (full-held e) (ap (λ (w : Told). w .entries) e), ← long) at w)
 
 -- a refused table
-pub refused-printed : (t : List ℕ) (lent : ℕ) (r : Refusal) (n : ℕ) {o p : List ℕ} {j : ℕ} → lent ≡ 16384 → (numberOf r, 0) ≡ listed t lent → n ≡ numberOf r → Wrote o 0 (titled refusedText n) p j → Wrote o 0 (printedTable t) p j
+pub refused-printed : (t : List ℕ) (lent : ℕ) (r : Refusal) (n : ℕ) {o p : List ℕ} {j : ℕ} → lent ≡ 16384 → record { answer = numberOf r; entries = 0 } ≡ listed (conditions t) (completeListing (problemOf t)) lent → n ≡ numberOf r → Wrote o 0 (titled refusedText n) p j → Wrote o 0 (printedTable t) p j
 unfolding printedTable title listed lines flatMap
 refused-printed t lent r n long e f w =
-    let z = length-none (entriesLeft t lent) (sym (ap (λ (p : ℕ × ℕ). p .1) e)) in
-    rw (← long, z, ← ap (λ (p : ℕ × ℕ). p .0) e, ne-eqb (numberOf r) 0 (number-not 0 refl r), ne-eqb (numberOf r) 10 (number-not 10 refl r), ← f)
+    let z = length-none (entriesLeft (conditions t) (completeListing (problemOf t)) lent) (sym (ap (λ (w : Told). w .entries) e)) in
+    rw (← long, z, ← ap (λ (w : Told). w .answer) e, ne-eqb (numberOf r) 0 (number-not 0 refl r), ne-eqb (numberOf r) 10 (number-not 10 refl r), ← f)
     (rw (append-nil (titled refusedText n)) w)
 
 -- what is written from the first place on is all that is printed

@@ -4,7 +4,10 @@ use mathlib.Core.Bool.{cond}
 use mathlib.Core.List.{List, [], _∷_, _++_}
 use lib.Dec.{eqb}
 use lib.ListN.{length}
-use Rattle.multiset_unification.specs.Answer.{entriesLeft, listed}
+use Rattle.table.specs.Refusal.{conditions}
+use Rattle.multiset_unification.specs.Problem.{problemOf}
+use Rattle.multiset_unification.specs.Answer.{Told, entriesLeft, listed}
+use Rattle.multiset_unification.specs.Computed.Listing.{completeListing}
 use Rattle.text.specs.Input.{wrongBytes, wordsOfBytes}
 use Rattle.text.specs.Line.{lines, titled}
 
@@ -19,14 +22,16 @@ abbrev pub refusedText : List ℕ
 refusedText = 114 ∷ 101 ∷ 102 ∷ 117 ∷ 115 ∷ 101 ∷ 100 ∷ 32 ∷ []
 
 -- "It prints `entries K`, `full K` or `refused N`": the line for an answer of `listing::list`.
-unfoldable pub title : ℕ × ℕ → List ℕ
-title told =
-    cond (eqb (told .0) 0) (titled entriesText (told .1))
-    (cond (eqb (told .0) 10) (titled fullText (told .1)) (titled refusedText (told .0)))
+unfoldable pub title : Told → List ℕ
+title w =
+    cond (eqb (w .answer) 0) (titled entriesText (w .entries))
+    (cond (eqb (w .answer) 10) (titled fullText (w .entries)) (titled refusedText (w .answer)))
 
 -- "lends 16,384 words": what is printed for a table.
 unfoldable pub printedTable : List ℕ → List ℕ
-printedTable t = title (listed t 16384) ++ lines (entriesLeft t 16384)
+printedTable t =
+    title (listed (conditions t) (completeListing (problemOf t)) 16384) ++
+    lines (entriesLeft (conditions t) (completeListing (problemOf t)) 16384)
 
 -- What is printed for the bytes of an input; "11 .. tested before all else".
 unfoldable pub printed : List ℕ → List ℕ

@@ -2,11 +2,11 @@
 -- All entries have one length, so the words used tell how many there are. Assumes nothing.
 use Prim.Native.Nat.{ℕ, zero, suc, _+_, _-_, _*_, _/_, _≤_, _<_}
 use mathlib.Core.Bool.{Bool, true, false, cond}
-use mathlib.Core.List.{List, [], _∷_, _++_, flatten, List·Memᴰ, List·Memᴰ·not-nil}
+use mathlib.Core.List.{List, [], _∷_, flatten, List·Memᴰ, List·Memᴰ·not-nil}
 use mathlib.Core.Path.{_≡_, refl, sym, ap, _∙_}
 use native.Mathlib.Decide.{decLt}
 use native.Mathlib.Omega.{arith}
-use borrow.Author.Tests.{lt-ltb, le-ltb, le-leb}
+use borrow.Author.Tests.{ltb-true, ltb-false}
 use lib.Arith.{digits-div}
 use lib.Dec.{ltb}
 use lib.ListN.{length, take, drop, replicate, length-replicate, getD-replicate, replicate-append-replicate, length-map}
@@ -15,16 +15,17 @@ use Rattle.table.specs.declared.Refusal.{Refusal}
 use Rattle.table.specs.Limits.{maxTerms, maxNodes}
 use Rattle.table.specs.Layout.{word, nodeCount, nodesOf, argumentsOf, leftTermsOf, leftLabelsOf, rightTermsOf, rightLabelsOf}
 use Rattle.table.specs.Answer.{numberOf}
-use Rattle.table.specs.Refusal.{refusal}
+use Rattle.table.specs.Refusal.{conditions, refusal}
+use Rattle.table.specs.Code.Sections.{leftTerms}
 use Rattle.table.specs.Code.Accepted.{Accepted}
-use Rattle.table.proofs.AcceptedLaws.{accepted}
 use Rattle.table.proofs.AnswerLaws.{number-above}
+use Rattle.unification.specs.Node.{nodesIn}
 use Rattle.unification.specs.Computed.Variables.{variablesOf}
 use Rattle.unification.specs.Computed.Solution.{nodeOf}
 use Rattle.unification.specs.Computed.Unifying.{wordsOf}
 use Rattle.unification.specs.Code.Sections.{nodesFrom}
 use Rattle.unification.proofs.ListLaws.{length-none, part-long}
-use Rattle.unification.proofs.TableLaws.{sections-of, nodes-of-sections}
+use Rattle.unification.proofs.TableLaws.{sections-of, nodes-of-sections, well-formed}
 use Rattle.unification.proofs.AnswerLaws.{words-counted}
 use Rattle.values.specs.declared.Variables.{Variables}
 use Rattle.values.specs.Code.Present.{leastNodes}
@@ -34,14 +35,17 @@ use Rattle.values.specs.Code.Prepared.{Prepared}
 use Rattle.nodes.specs.Code.Formed.{Formed}
 use Rattle.classes.specs.Code.Stands.{StandsAlways}
 use Rattle.values.specs.Code.Begins.{Lists, BeginsShared}
-use Rattle.multiset_unification.specs.declared.Listing.{Listing}
 use Rattle.multiset_unification.specs.declared.Listing.the-variants.{Finished, Full, Refused}
-use Rattle.multiset_unification.specs.Answer.{told, fitting, listed, lentAfter}
+use Rattle.multiset_unification.specs.Problem.{halfAt, problemOf}
+use Rattle.multiset_unification.specs.Answer.{Told, told, fitting, lentAfter}
 use Rattle.multiset_unification.specs.Computed.Listing.{completeListing}
-use Rattle.multiset_unification.specs.Page14.{Page14}
-use Rattle.multiset_unification.proofs.AnswerLaws.{fitting-all, fitting-first, fitting-left, answered-refused, answered-finished, answered-full, refused-nothing}
+use Rattle.multiset_unification.specs.Code.Leaves.{Leaves}
+use Rattle.multiset_unification.proofs.AnswerLaws.{nothing, nothing-held, fitting-all, fitting-first, fitting-left, answered-finished, answered-full}
 use Rattle.multiset_unification.proofs.LentLaws.{flatten-long, taken-in}
-use Rattle.multiset_unification.proofs.Page14.{page14-finished}
+use Rattle.multiset_unification.proofs.PromiseLaws.{Promised, refused-promised, listed-promised}
+use Rattle.multiset_unification.proofs.CompleteLaws.{complete-admissible}
+use Rattle.multiset_unification.proofs.OneHalfLaws.{one-posed}
+use Rattle.multiset_unification.proofs.TableLaws.{posed, none-held, held-posed, table-refusals}
 use Rattle.branches.specs.declared.Labels.{Labels}
 use Rattle.entries.specs.declared.Written.{Written}
 use Rattle.entries.specs.Code.Writing.{put, Writes, marked}
@@ -50,7 +54,6 @@ use Rattle.branches.specs.Code.Memory.{keyOfDigits}
 use Rattle.branches.specs.Code.Partners.{Trying, MayPair}
 use Rattle.branches.specs.Code.Known.{knownBytes, mayIn, PairsKnown, KnownOf}
 use Rattle.branches.specs.Code.Walk.{below, unpairedIn, Walking, Walked, allEntries}
-use Rattle.listing.specs.Code.Calling.{Answers}
 use Rattle.branches.proofs.MemoryLaws.{remembers-none}
 use Rattle.branches.proofs.KnownLaws.{variables-few}
 use Rattle.branches.proofs.HopelessLaws.{unpaired-ones}
@@ -66,13 +69,13 @@ fitting-counted width lent es h l =
 
 module _ {es : List (List ℕ)} {lent lent′ : List ℕ} {w : Written} (x : Writes es lent 0 lent′ w) (width : ℕ) (h : 0 < width) (l : (e : List ℕ) → List·Memᴰ e es → length e ≡ width) where
   -- the lent words begin with the entries that fit
-  written-words : lent′ ≡ flatten (fitting (length lent) es) ++ drop (length (flatten (fitting (length lent) es))) lent
-  unfolding put
+  written-words : lent′ ≡ lentAfter [] es lent
+  unfolding put lentAfter
   written-words =
       let z : length lent - 0 ≡ length lent = omega arith in
       let o : 0 + length (flatten (fitting (length lent) es)) ≡ length (flatten (fitting (length lent) es)) = omega arith in
       let q = x .words in
-      rw (z, o) at q
+      rw (fitting-left [] es (length lent) nothing-held) (rw (z, o) at q)
 
   -- the words used tell how many
   counted : w .used / width ≡ length (fitting (length lent) es)
@@ -90,54 +93,67 @@ module _ {es : List (List ℕ)} {lent lent′ : List ℕ} {w : Written} (x : Wri
       rw z at q
 
   -- an entry did not fit
-  pub written-full : (w .missed ≡ 0 → ⊥) → Answers es lent (Full (w .used / width)) lent′
-  written-full f =
-      let o : ltb (length lent) (length (flatten es)) ≡ true = pick (ltb (length lent) (length (flatten es))) (λ z. f (over-told ∙ z)) in
-      record { answer = rw (counted, o) refl; words = written-words }
+  pub written-full : (w .missed ≡ 0 → ⊥) → Leaves es lent (told (Full (w .used / width))) lent′
+  written-full f = record { answer = rw counted (sym (answered-full [] es (length lent) nothing nothing-held less)); words = written-words }
     where
-      pick : (b : Bool) → (_≡_ {A = ℕ} (cond b 1 0) 0 → ⊥) → b ≡ true
-      pick true n = refl
-      pick false n = absurd (n refl)
+      pick : (b : Bool) → ltb (length lent) (length (flatten es)) ≡ b → (_≡_ {A = ℕ} (cond b 1 0) 0 → ⊥) → length lent < length (flatten es)
+      pick true q n = ltb-true (length lent) (length (flatten es)) q
+      pick false q n = absurd (n refl)
+
+      less : length lent < length (flatten es)
+      less = pick (ltb (length lent) (length (flatten es))) refl (λ z. f (over-told ∙ z))
 
   -- all entries did
-  pub written-finished : w .missed ≡ 0 → Answers es lent (Finished (w .used / width)) lent′
+  pub written-finished : w .missed ≡ 0 → Leaves es lent (told (Finished (w .used / width))) lent′
   written-finished f =
-      let o : ltb (length lent) (length (flatten es)) ≡ false = pick (ltb (length lent) (length (flatten es))) (sym over-told ∙ f) in
-      record { answer = rw (counted, o) refl; words = written-words }
+      record {
+        answer = rw (counted, fitting-all (length lent) es fits) (sym (answered-finished [] es (length lent) nothing nothing-held fits));
+        words = written-words;
+      }
     where
-      pick : (b : Bool) → _≡_ {A = ℕ} (cond b 1 0) 0 → b ≡ false
-      pick true n = absurd (omega (arith, n))
-      pick false n = refl
+      pick : (b : Bool) → ltb (length lent) (length (flatten es)) ≡ b → _≡_ {A = ℕ} (cond b 1 0) 0 → length (flatten es) ≤ length lent
+      pick true q n = absurd (omega (arith, n))
+      pick false q n = ltb-false (length lent) (length (flatten es)) q
 
--- one entry of no words always fits
-pub written-empty : (es : List (List ℕ)) (lent : List ℕ) → es ≡ [] ∷ [] → Answers es lent (Finished 1) lent
-unfolding fitting flatten
+      fits : length (flatten es) ≤ length lent
+      fits = pick (ltb (length lent) (length (flatten es))) refl (sym over-told ∙ f)
+
+-- an entry of no words
+abbrev empty : List (List ℕ)
+empty = [] ∷ []
+
+-- always fits
+pub written-empty : (es : List (List ℕ)) (lent : List ℕ) → es ≡ empty → Leaves es lent (told (Finished 1)) lent
+unfolding flatten lentAfter
 written-empty es lent e =
-    let f : fitting (length lent) ([] ∷ []) ≡ [] ∷ [] = rw (le-leb 0 (length lent) (omega arith)) refl in
-    let n = le-ltb (length lent) 0 (omega arith) in
-    rw e (record { answer = rw (f, n) refl; words = rw f refl })
+    let m : length (flatten empty) ≤ length lent = omega arith in
+    rw e
+    (record {
+      answer = sym (answered-finished [] empty (length lent) nothing nothing-held m);
+      words = rw (fitting-left [] empty (length lent) nothing-held, fitting-all (length lent) empty m) refl;
+    })
 
 -- each entry of a table's sections has n + m + V words
-pub all-long : (words args left right : List ℕ) (labels : Labels) (width : ℕ) → width ≡ widthOf words args left right → (e : List ℕ) → List·Memᴰ e (allEntries words args left right labels) → length e ≡ width
-all-long words args left right labels width w e m =
+pub all-long : (nodes arguments left right : List ℕ) (labels : Labels) (width : ℕ) → width ≡ widthOf nodes arguments left right → (e : List ℕ) → List·Memᴰ e (allEntries nodes arguments left right labels) → length e ≡ width
+all-long nodes arguments left right labels width w e m =
     let r = length-replicate {A = ℕ} (length right) 1 in
-    let l = below-long (nodesFrom words args) right (labels .left) (labels .right) left [] [] (replicate (length right) 1) e m in
+    let l = below-long (nodesFrom nodes arguments) right (labels .left) (labels .right) left [] [] (replicate (length right) 1) e m in
     omega (arith, l, r, w)
 
 -- where that is none, there is one entry
-pub all-empty : {words args : List ℕ} (left right : List ℕ) (labels : Labels) {v : Variables} → Lists words args v → length left + length right + v .count ≡ 0 → allEntries words args left right labels ≡ [] ∷ []
+pub all-empty : {nodes arguments : List ℕ} (left right : List ℕ) (labels : Labels) {v : Variables} → Lists nodes arguments v → length left + length right + v .count ≡ 0 → allEntries nodes arguments left right labels ≡ [] ∷ []
 unfolding below marked
-all-empty {words} {args} [] [] labels s h = ap (_∷ []) (length-none (wordsOf (nodesFrom words args) []) (words-counted (nodesFrom words args) [] ∙ sym (s .counted) ∙ omega (arith, h)))
+all-empty {nodes} {arguments} [] [] labels s h = ap (_∷ []) (length-none (wordsOf (nodesFrom nodes arguments) []) (words-counted (nodesFrom nodes arguments) [] ∙ sym (s .counted) ∙ omega (arith, h)))
 all-empty [] (b ∷ right) labels s h = absurd (omega arith)
 all-empty (a ∷ left) right labels s h = absurd (omega arith)
 
 -- the variables present are in the list of their nodes
-pub variables-inside : {words args : List ℕ} {v : Variables} → Lists words args v → v .count ≤ length (v .nodes)
+pub variables-inside : {nodes arguments : List ℕ} {v : Variables} → Lists nodes arguments v → v .count ≤ length (v .nodes)
 unfolding leastNodes
-variables-inside {words} {args} {v} s = go (decLt (length (v .nodes)) (v .count))
+variables-inside {nodes} {arguments} {v} s = go (decLt (length (v .nodes)) (v .count))
   where
     long : length (take (v .count) (v .nodes)) ≡ v .count
-    long = ap length (s .least) ∙ length-map (variablesOf (nodesFrom words args)) (nodeOf (nodesFrom words args)) ∙ sym (s .counted)
+    long = ap length (s .least) ∙ length-map (variablesOf (nodesFrom nodes arguments)) (nodeOf (nodesFrom nodes arguments)) ∙ sym (s .counted)
 
     go : Dec (length (v .nodes) < v .count) → v .count ≤ length (v .nodes)
     go (yes q) = let e = ap length (take-all (v .count) (v .nodes) (omega arith)) in omega (arith, e, long)
@@ -154,7 +170,7 @@ drop-replicate : (n m x : ℕ) → drop n (replicate (n + m) x) ≡ replicate m 
 drop-replicate n m x = ap (drop n) (sym (replicate-append-replicate n m x)) ∙ drop-at (replicate n x) (replicate m x) n (length-replicate n x)
 
 -- at first any two terms may be paired
-pub pairs-begun : {words args left right known known′ : List ℕ} {labels : Labels} → Listable words args left right labels → known ≡ replicate knownBytes 1 → length known′ ≡ length known → Counts words args known′ (nodeCount words) → mayIn known′ ≡ mayIn known → PairsKnown words args left right known′
+pub pairs-begun : {nodes arguments left right known known′ : List ℕ} {labels : Labels} → Listable nodes arguments left right labels → known ≡ replicate knownBytes 1 → length known′ ≡ length known → Counts nodes arguments known′ (nodeCount nodes) → mayIn known′ ≡ mayIn known → PairsKnown nodes arguments left right known′
 pairs-begun {left = left} {right = right} {known = known} {known′ = known′} g e l c m =
     record {
       size = l ∙ ap length e;
@@ -174,27 +190,27 @@ pairs-begun {left = left} {right = right} {known = known} {known′ = known′} 
         omega (arith, x, z)
 
 -- the classes that unifying begins with
-module _ {words args left right : List ℕ} {labels : Labels} (g : Listable words args left right labels) {v : Variables} {cs : List ℕ} (s : BeginsShared words args v cs) where
+module _ {nodes arguments left right : List ℕ} {labels : Labels} (g : Listable nodes arguments left right labels) {v : Variables} {heads : List ℕ} (s : BeginsShared nodes arguments v heads) where
   -- an entry has a word for each term and each variable
-  pub begun-width : length left + length right + v .count ≡ widthOf words args left right
+  pub begun-width : length left + length right + v .count ≡ widthOf nodes arguments left right
   begun-width = ap (λ (n : ℕ). length left + length right + n) (s .lists .counted)
 
   -- the least nodes of the variables, as they are lent
-  pub begun-list : (take (v .count - 0) (v .nodes) ≡ leastNodes (nodesFrom words args)) × (length (take (v .count - 0) (v .nodes)) ≤ 64)
+  pub begun-list : (take (v .count - 0) (v .nodes) ≡ leastNodes (nodesFrom nodes arguments)) × (length (take (v .count - 0) (v .nodes)) ≤ 64)
   begun-list =
       let z : v .count - 0 ≡ v .count = omega arith in
       (ap (λ (n : ℕ). take n (v .nodes)) z ∙ s .lists .least, omega (arith, part-long (v .nodes) (v .count) (variables-inside (s .lists)), s .lists .within))
 
   -- they stand for pairs that every substitution unifies
-  pub begun-always : StandsAlways words args cs
+  pub begun-always : StandsAlways nodes arguments heads
   begun-always = record { pairs = s .pairs; stands = s .stands; same = s .same }
 
   -- there are not too many
-  pub begun-few : length cs ≡ nodeCount words → length cs ≤ maxNodes
+  pub begun-few : length heads ≡ nodeCount nodes → length heads ≤ maxNodes
   begun-few e = omega (arith, e, g .sections .limit)
 
   -- pairs can be tried by themselves
-  pub begun-trying : {next : List ℕ} → length cs ≡ nodeCount words → Trailed (length cs) cs next → Trying words args cs next
+  pub begun-trying : {next : List ℕ} → length heads ≡ nodeCount nodes → Trailed (length heads) heads next → Trying nodes arguments heads next
   begun-trying e o =
       record {
         sections = g .sections;
@@ -204,24 +220,24 @@ module _ {words args left right : List ℕ} {labels : Labels} (g : Listable word
       }
 
   -- what is known of the classes
-  pub begun-classes : {known next : List ℕ} → length cs ≡ nodeCount words → KnownOf words args known → Trailed (length cs) cs next → Formed words args known cs × StandsAlways words args cs × Trailed (nodeCount words) cs next
+  pub begun-classes : {known next : List ℕ} → length heads ≡ nodeCount nodes → KnownOf nodes arguments known → Trailed (length heads) heads next → Formed nodes arguments known heads × StandsAlways nodes arguments heads × Trailed (nodeCount nodes) heads next
   begun-classes {known} e k o = (s .formed known (k .counts), begun-always, rw e at o)
 
 -- the branch without digits
-module _ {words args left right : List ℕ} {labels : Labels} (g : Listable words args left right labels) (width : ℕ) (w : width ≡ widthOf words args left right) where
+module _ {nodes arguments left right : List ℕ} {labels : Labels} (g : Listable nodes arguments left right labels) (width : ℕ) (w : width ≡ widthOf nodes arguments left right) where
   -- The entry that it stands in.
   abbrev first-entry : List ℕ
   first-entry = take (width - 0) (replicate 80 1)
 
   -- there is room for it
-  pub width-room : {known : List ℕ} → KnownOf words args known → width ≤ 80
+  pub width-room : {known : List ℕ} → KnownOf nodes arguments known → width ≤ 80
   width-room k = omega (arith, g .left-few, g .right-few, variables-few k, w)
 
   module _ (room : width ≤ 80) where
     -- no right term is marked as paired
     first-marks : marksIn left right first-entry ≡ replicate (length right) 1
     first-marks =
-        let c = length (variablesOf (nodesFrom words args)) in
+        let c = length (variablesOf (nodesFrom nodes arguments)) in
         let z : width - 0 ≡ length left + (length right + c) = omega (arith, w) in
         let t : first-entry ≡ replicate (length left + (length right + c)) 1 = ap (λ (n : ℕ). take n (replicate 80 1)) z ∙ take-replicate (length left + (length right + c)) 80 1 (omega (arith, room, w)) in
         ap (λ (e : List ℕ). take (length right) (drop (length left) e)) t
@@ -229,7 +245,7 @@ module _ {words args left right : List ℕ} {labels : Labels} (g : Listable word
         ∙ take-replicate (length right) (length right + c) 1 (omega arith)
 
     -- what the walk needs to know of it
-    pub first-walking : {known prepared cs next : List ℕ} → KnownOf words args known → MayPair words args left right (mayIn known) → Formed words args known cs → StandsAlways words args cs → Trailed (nodeCount words) cs next → Prepared words args known cs prepared → (lent : List ℕ) → Walking words args left right labels known prepared cs next 0 1 (length right) 0 first-entry (replicate 64 0) lent 0
+    pub first-walking : {known prepared heads next : List ℕ} → KnownOf nodes arguments known → MayPair nodes arguments left right (mayIn known) → Formed nodes arguments known heads → StandsAlways nodes arguments heads → Trailed (nodeCount nodes) heads next → Prepared nodes arguments known heads prepared → (lent : List ℕ) → Walking nodes arguments left right labels known prepared heads next 0 1 (length right) 0 first-entry (replicate 64 0) lent 0
     unfolding keyOfDigits
     first-walking k m f s o y lent =
         record {
@@ -248,12 +264,12 @@ module _ {words args left right : List ℕ} {labels : Labels} (g : Listable word
             keyed = refl;
             weighed = refl;
           };
-          remembers = remembers-none words args left right lent;
+          remembers = remembers-none nodes arguments left right lent;
           room = omega arith;
         }
 
     -- writes all entries
-    pub first-walked : {memory lent entry′ memory′ lent′ : List ℕ} {r : Written} → Walked words args left right labels 0 first-entry memory lent 0 entry′ memory′ lent′ r → Writes (allEntries words args left right labels) lent 0 lent′ r
+    pub first-walked : {memory lent entry′ memory′ lent′ : List ℕ} {r : Written} → Walked nodes arguments left right labels 0 first-entry memory lent 0 entry′ memory′ lent′ r → Writes (allEntries nodes arguments left right labels) lent 0 lent′ r
     first-walked r = rw (first-marks, paired-none left right []) at (r .writes)
 
 -- an accepted table can be listed by its sections
@@ -270,33 +286,23 @@ listable t g k l =
     }
 
 -- and its entries are the complete listing
-pub all-entries : (t : List ℕ) → Accepted t → {labels : Labels} → labels .left ≡ length (leftLabelsOf t) → labels .right ≡ length (rightLabelsOf t) → allEntries (nodesOf t) (argumentsOf t) (leftTermsOf t) (rightTermsOf t) labels ≡ completeListing t
-all-entries t g k l = rw (← nodes-of-sections t, k, l) (below-listing t g)
+pub all-entries : (t : List ℕ) → Accepted t → {labels : Labels} → labels .left ≡ length (leftLabelsOf t) → labels .right ≡ length (rightLabelsOf t) → allEntries (nodesOf t) (argumentsOf t) (leftTermsOf t) (rightTermsOf t) labels ≡ completeListing (problemOf t)
+all-entries t g k l =
+    let h = one-posed (halfAt t leftTerms) (nodesIn t) (posed t g) in
+    rw (← nodes-of-sections t, k, l) (below-listing (nodesIn t) (well-formed t g) (halfAt t leftTerms) h) ∙ sym (complete-admissible (problemOf t))
 
-module _ (t lent lent′ : List ℕ) (r : Listing) where
-  -- All that `list` promises: the answer, the lent words, page 14.
-  abbrev pub Promised : Type 0
-  Promised = (told r ≡ listed t (length lent)) × ((lent′ ≡ lentAfter t lent) × ((k : ℕ) → r ≡ Finished k → Page14 t k lent′))
-
-  -- page 14 follows from the answer and the lent words
-  promised : told r ≡ listed t (length lent) → lent′ ≡ lentAfter t lent → Promised
-  promised a w = (a, (w, λ k e. rw w (page14-finished t lent k (sym a ∙ ap told e))))
+module _ (t lent lent′ : List ℕ) (w : Told) where
+  -- All that `list` promises.
+  abbrev Promises : Type 0
+  Promises = Promised (problemOf t) (conditions t) lent lent′ w
 
   -- a refused table
-  pub refused-promised : (refused : Refusal) → numberOf refused ≡ refusal t → r ≡ Refused refused → lent′ ≡ lent → Promised
-  refused-promised refused n e w =
-      promised
-      (ap told e ∙ sym (answered-refused t (length lent) (numberOf refused) (number-above refused) (sym n)))
-      (w ∙ sym (refused-nothing t lent (λ g. omega (arith, n, number-above refused, accepted t .1 g))))
+  pub refused-table : (r : Refusal) → numberOf r ≡ refusal t → w ≡ told (Refused r) → lent′ ≡ lent → Promises
+  unfolding refusal
+  refused-table r n =
+      refused-promised (problemOf t) (conditions t) lent lent′ w (table-refusals t) (held-posed t) (numberOf r) (number-above r) (sym n)
 
   -- an accepted one
-  pub accepted-promised : Accepted t → Answers (completeListing t) lent r lent′ → Promised
-  unfolding lentAfter
-  accepted-promised g x =
-      promised (x .answer ∙ go (decLt (length lent) (length (flatten (completeListing t))))) (rw (fitting-left t (length lent) g) (x .words))
-    where
-      go : Dec (length lent < length (flatten (completeListing t))) → (cond (ltb (length lent) (length (flatten (completeListing t)))) 10 0, length (fitting (length lent) (completeListing t))) ≡ listed t (length lent)
-      go (yes q) = rw (lt-ltb (length lent) (length (flatten (completeListing t))) q) (sym (answered-full t (length lent) g q))
-      go (no q) =
-          let m : length (flatten (completeListing t)) ≤ length lent = omega arith in
-          rw (le-ltb (length lent) (length (flatten (completeListing t))) m, fitting-all (length lent) (completeListing t) m) (sym (answered-finished t (length lent) g m))
+  pub accepted-table : Accepted t → Leaves (completeListing (problemOf t)) lent w lent′ → Promises
+  accepted-table g =
+      listed-promised (problemOf t) (conditions t) lent lent′ w (table-refusals t) (held-posed t) (none-held t .1 g)

@@ -8,12 +8,14 @@ ghost use Rattle.nodes.specs.Code.Trail.{links, Trailed};
 ghost use Rattle.values.specs.Code.Prepared.{Prepared};
 ghost use Rattle.nodes.specs.Code.Formed.{Formed};
 ghost use Rattle.classes.specs.Code.Stands.{StandsAlways};
+ghost use Rattle.multiset_unification.specs.Problem.{problemOf};
+ghost use Rattle.multiset_unification.specs.Answer.{told};
 ghost use Rattle.multiset_unification.specs.Computed.Listing.{completeListing};
+ghost use Rattle.multiset_unification.specs.Code.Leaves.{Leaves};
 ghost use Rattle.branches.specs.Code.Branch.{Listable, widthOf};
 ghost use Rattle.branches.specs.Code.Known.{knownBytes, mayIn, KnownOf};
 ghost use Rattle.branches.specs.Code.Partners.{MayPair};
 ghost use Rattle.branches.specs.Code.Walk.{allEntries};
-ghost use Rattle.listing.specs.Code.Calling.{Answers};
 use branches::Labels;
 use branches::known::KNOWN;
 use branches::known::begin_known;
@@ -42,17 +44,17 @@ fn list_known(
     labels: Labels,
     known: &[u8],
     prepared: &[u16],
-    of: &mut [u8],
+    heads: &mut [u8],
     next: &mut [u8],
-    words: usize,
+    width: usize,
     out: &mut [u32],
 ) -> Listing
     requires { ⌜ Listable (now nodes) (now arguments) (now left) (now right) labels ⌝ }
     requires { ⌜ KnownOf (now nodes) (now arguments) (now known) × MayPair (now nodes) (now arguments) (now left) (now right) (mayIn (now known)) ⌝ }
-    requires { ⌜ Formed (now nodes) (now arguments) (now known) (now of) × StandsAlways (now nodes) (now arguments) (now of) × Trailed (nodeCount (now nodes)) (now of) (now next) ⌝ }
-    requires { ⌜ Prepared (now nodes) (now arguments) (now known) (now of) (now prepared) ⌝ }
-    requires { ⌜ (words ≡ widthOf (now nodes) (now arguments) (now left) (now right)) × (0 < words) ⌝ }
-    ensures { λ r. ⌜ Answers (allEntries (now (nodes .entry)) (now (arguments .entry)) (now (left .entry)) (now (right .entry)) labels) (now (out .entry)) r (now (out .exit)) ⌝ }
+    requires { ⌜ Formed (now nodes) (now arguments) (now known) (now heads) × StandsAlways (now nodes) (now arguments) (now heads) × Trailed (nodeCount (now nodes)) (now heads) (now next) ⌝ }
+    requires { ⌜ Prepared (now nodes) (now arguments) (now known) (now heads) (now prepared) ⌝ }
+    requires { ⌜ (width ≡ widthOf (now nodes) (now arguments) (now left) (now right)) × (0 < width) ⌝ }
+    ensures { λ r. ⌜ Leaves (allEntries (now (nodes .entry)) (now (arguments .entry)) (now (left .entry)) (now (right .entry)) labels) (now (out .entry)) (told r) (now (out .exit)) ⌝ }
 {
     let mut entry = [1u32; ENTRY_WORDS];
     let mut memory = [0usize; SLOTS + SLOTS];
@@ -64,18 +66,18 @@ fn list_known(
         labels,
         known,
         prepared,
-        of,
+        heads,
         next,
         0,
         1,
         right.len(),
         0,
-        &mut entry[0..words],
+        &mut entry[0..width],
         &mut memory,
         out,
         0,
     );
-    let entries = w.used / words;
+    let entries = w.used / width;
     if w.missed != 0 {
         return Listing::Full(entries);
     }
@@ -90,19 +92,19 @@ fn prepare_and_list(
     right: &[u32],
     labels: Labels,
     known: &[u8],
-    of: &mut [u8],
+    heads: &mut [u8],
     next: &mut [u8],
-    words: usize,
+    width: usize,
     out: &mut [u32],
 ) -> Listing
     requires { ⌜ Listable (now nodes) (now arguments) (now left) (now right) labels ⌝ }
     requires { ⌜ KnownOf (now nodes) (now arguments) (now known) × MayPair (now nodes) (now arguments) (now left) (now right) (mayIn (now known)) ⌝ }
-    requires { ⌜ Formed (now nodes) (now arguments) (now known) (now of) × StandsAlways (now nodes) (now arguments) (now of) × Trailed (nodeCount (now nodes)) (now of) (now next) ⌝ }
-    requires { ⌜ (words ≡ widthOf (now nodes) (now arguments) (now left) (now right)) × (0 < words) ⌝ }
-    ensures { λ r. ⌜ Answers (allEntries (now (nodes .entry)) (now (arguments .entry)) (now (left .entry)) (now (right .entry)) labels) (now (out .entry)) r (now (out .exit)) ⌝ }
+    requires { ⌜ Formed (now nodes) (now arguments) (now known) (now heads) × StandsAlways (now nodes) (now arguments) (now heads) × Trailed (nodeCount (now nodes)) (now heads) (now next) ⌝ }
+    requires { ⌜ (width ≡ widthOf (now nodes) (now arguments) (now left) (now right)) × (0 < width) ⌝ }
+    ensures { λ r. ⌜ Leaves (allEntries (now (nodes .entry)) (now (arguments .entry)) (now (left .entry)) (now (right .entry)) labels) (now (out .entry)) (told r) (now (out .exit)) ⌝ }
 {
     let mut prepared = [0u16; PREPARED];
-    prepare(nodes, arguments, known, of, &mut prepared);
+    prepare(nodes, arguments, known, heads, &mut prepared);
     list_known(
         nodes,
         arguments,
@@ -111,9 +113,9 @@ fn prepare_and_list(
         labels,
         known,
         &prepared,
-        of,
+        heads,
         next,
-        words,
+        width,
         out,
     )
 }
@@ -125,23 +127,23 @@ fn list_with_room(
     left: &[u32],
     right: &[u32],
     labels: Labels,
-    of: &mut [u8],
+    heads: &mut [u8],
     next: &mut [u8],
     known: &mut [u8],
     out: &mut [u32],
 ) -> Listing
     requires { ⌜ Listable (now nodes) (now arguments) (now left) (now right) labels ⌝ }
-    requires { ⌜ (length (now of) ≡ nodeCount (now nodes)) × (now next ≡ replicate links 0) × (now known ≡ replicate knownBytes 1) ⌝ }
-    ensures { λ r. ⌜ Answers (allEntries (now (nodes .entry)) (now (arguments .entry)) (now (left .entry)) (now (right .entry)) labels) (now (out .entry)) r (now (out .exit)) ⌝ }
+    requires { ⌜ (length (now heads) ≡ nodeCount (now nodes)) × (now next ≡ replicate links 0) × (now known ≡ replicate knownBytes 1) ⌝ }
+    ensures { λ r. ⌜ Leaves (allEntries (now (nodes .entry)) (now (arguments .entry)) (now (left .entry)) (now (right .entry)) labels) (now (out .entry)) (told r) (now (out .exit)) ⌝ }
 {
-    let variables = begin_shared(nodes, arguments, of);
+    let variables = begin_shared(nodes, arguments, heads);
     let list = variables.nodes;
     let v = variables.count;
-    let words = left.len() + right.len() + v;
-    if words == 0 {
+    let width = left.len() + right.len() + v;
+    if width == 0 {
         return Listing::Finished(1);
     }
-    make_circles(of, next);
+    make_circles(heads, next);
     let some_open = begin_known(nodes, arguments, known);
     complete_known(
         nodes,
@@ -150,7 +152,7 @@ fn list_with_room(
         right,
         labels,
         &list[0..v],
-        of,
+        heads,
         next,
         known,
     );
@@ -162,9 +164,9 @@ fn list_with_room(
             right,
             labels,
             known,
-            of,
+            heads,
             next,
-            words,
+            width,
             out,
         );
     }
@@ -177,9 +179,9 @@ fn list_with_room(
         labels,
         known,
         &none[0..0],
-        of,
+        heads,
         next,
-        words,
+        width,
         out,
     )
 }
@@ -194,10 +196,10 @@ fn list_sides(
     out: &mut [u32],
 ) -> Listing
     requires { ⌜ Listable (now nodes) (now arguments) (now left) (now right) labels ⌝ }
-    ensures { λ r. ⌜ Answers (allEntries (now (nodes .entry)) (now (arguments .entry)) (now (left .entry)) (now (right .entry)) labels) (now (out .entry)) r (now (out .exit)) ⌝ }
+    ensures { λ r. ⌜ Leaves (allEntries (now (nodes .entry)) (now (arguments .entry)) (now (left .entry)) (now (right .entry)) labels) (now (out .entry)) (told r) (now (out .exit)) ⌝ }
 {
     let n = index(layout::node_count(nodes));
-    let mut of = [0u8; MAX_NODES];
+    let mut heads = [0u8; MAX_NODES];
     let mut next = [0u8; LINKS];
     let mut known = [1u8; KNOWN];
     list_with_room(
@@ -206,7 +208,7 @@ fn list_sides(
         left,
         right,
         labels,
-        &mut of[0..n],
+        &mut heads[0..n],
         &mut next,
         &mut known,
         out,
@@ -216,7 +218,7 @@ fn list_sides(
 // Lists an accepted table.
 pub fn list_accepted(table: &[u32], out: &mut [u32]) -> Listing
     requires { ⌜ Accepted (now table) ⌝ }
-    ensures { λ r. ⌜ Answers (completeListing (now (table .entry))) (now (out .entry)) r (now (out .exit)) ⌝ }
+    ensures { λ r. ⌜ Leaves (completeListing (problemOf (now (table .entry)))) (now (out .entry)) (told r) (now (out .exit)) ⌝ }
 {
     let nodes = layout::section(table, layout::NODES);
     let arguments = layout::section(table, layout::ARGUMENTS);

@@ -12,12 +12,7 @@ use Rattle.unification.specs.Outcome.{Outcome, unified, clash, occurs}
 use Rattle.unification.specs.Answer.{told, unification, Answer, ended, refused}
 use Rattle.unification.specs.Decided.{Decided}
 use Rattle.unification.proofs.AnswerLaws.{told-there}
-use Rattle.multiset_unification.specs.declared.Listing.{Listing}
-use Rattle.multiset_unification.specs.declared.Listing.the-variants.{Finished}
-use Rattle.multiset_unification.specs.Answer.{told as toldListing}
-use Rattle.multiset_unification.proofs.AnswerLaws.{told-apart}
-use Rattle.pallihun.specs.declared.PallihunListing.{PallihunListing}
-use Rattle.pallihun.specs.Numbers.{numberOf, numbersOf}
+use Rattle.pallihun.specs.Numbers.{numberOf}
 
 -- answers of unifying that have one number are one answer
 pub number-of-one : (u w : Unification) → numberOf (told u) ≡ numberOf (told w) → u ≡ w
@@ -56,10 +51,6 @@ decided-number u n e d (refused k) z =
     fails : {A : Type 0} → (refused k ≡ ended clash) ⊎ (refused k ≡ ended occurs) → A
     fails (inl q) = nothing clash q
     fails (inr q) = nothing occurs q
-
--- of listing, 0 is the number of finished alone, and the entries are counted beside it
-pub is-finished : (l : Listing) (p : PallihunListing) → numbersOf p ≡ toldListing l → p .answer ≡ 0 → l ≡ Finished (p .entries)
-is-finished l p e z = told-apart l (Finished (p .entries)) (sym e ∙ ap (λ (n : ℕ). (n, p .entries)) z)
 
 -- The numbers that unifying answers.
 abbrev pub Known : ℕ → Type 0

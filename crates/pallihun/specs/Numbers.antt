@@ -2,6 +2,7 @@
 use Prim.Native.Nat.{ℕ}
 use Rattle.unification.specs.Outcome.{unified, clash, occurs}
 use Rattle.unification.specs.Answer.{Answer, ended, refused}
+use Rattle.multiset_unification.specs.Answer.{Told}
 use Rattle.pallihun.specs.declared.PallihunListing.{PallihunListing}
 
 -- Unifying two nodes: 0 for unified, 1000 for a clash, 1001 for occurs, or the number of the refusal.
@@ -12,5 +13,5 @@ numberOf (ended occurs) = 1001
 numberOf (refused n) = n
 
 -- Listing a table: the number of the answer, and that of the entries left.
-abbrev pub numbersOf : PallihunListing → ℕ × ℕ
-numbersOf l = (l .answer, l .entries)
+abbrev pub numbersOf : PallihunListing → Told
+numbersOf l = record { answer = l .answer; entries = l .entries }

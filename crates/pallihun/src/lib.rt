@@ -3,11 +3,13 @@ ghost use mathlib.Core.Path.{_≡_};
 ghost use mathlib.Core.Bool.{cond};
 ghost use lib.Dec.{eqb};
 ghost use lib.ListN.{length};
-ghost use Rattle.table.specs.Refusal.{refusal};
+ghost use Rattle.table.specs.Refusal.{conditions, refusal};
 ghost use Rattle.unification.specs.Answer.{Answer, unification, lentAfter};
 ghost use Rattle.unification.specs.Decided.{Decided};
+ghost use Rattle.multiset_unification.specs.Problem.{problemOf};
 ghost use Rattle.multiset_unification.specs.Answer.{listed, entryWords, lentAfter as listingAfter};
 ghost use Rattle.multiset_unification.specs.Page14.{Page14};
+ghost use Rattle.multiset_unification.specs.Computed.Listing.{completeListing};
 ghost use Rattle.pallihun.specs.Numbers.{numberOf, numbersOf};
 use table::Node;
 
@@ -44,9 +46,9 @@ pub extern "C" fn pallihun_unify(table: &[u32], a: u32, b: u32, out: &mut [u32])
 // Lists the unifiers of a table's two sides, each as an entry in the lent words.
 #[no_mangle]
 pub extern "C" fn pallihun_list(table: &[u32], out: &mut [u32]) -> PallihunListing
-    ensures { λ r. ⌜ numbersOf r ≡ listed (now (table .entry)) (length (now (out .entry))) ⌝ }
-    ensures { λ r. ⌜ now (out .exit) ≡ listingAfter (now (table .entry)) (now (out .entry)) ⌝ }
-    ensures page14 { λ r. ⌜ (r .answer ≡ 0 → Page14 (now (table .entry)) (r .entries) (now (out .exit))) ⌝ }
+    ensures { λ r. ⌜ numbersOf r ≡ listed (conditions (now (table .entry))) (completeListing (problemOf (now (table .entry)))) (length (now (out .entry))) ⌝ }
+    ensures { λ r. ⌜ now (out .exit) ≡ listingAfter (conditions (now (table .entry))) (completeListing (problemOf (now (table .entry)))) (now (out .entry)) ⌝ }
+    ensures page14 { λ r. ⌜ (r .answer ≡ 0 → Page14 (problemOf (now (table .entry))) (r .entries) (now (out .exit))) ⌝ }
 {
     numbers::of_listing(listing::list(table, out))
 }
@@ -54,7 +56,7 @@ pub extern "C" fn pallihun_list(table: &[u32], out: &mut [u32]) -> PallihunListi
 // How many words an entry of a table has: "With V variables present an entry is n + m + V words." Where the table is refused, 0.
 #[no_mangle]
 pub extern "C" fn pallihun_entry_words(table: &[u32]) -> usize
-    ensures { λ r. ⌜ r ≡ cond (eqb (refusal (now (table .entry))) 0) (entryWords (now (table .entry))) 0 ⌝ }
+    ensures { λ r. ⌜ r ≡ cond (eqb (refusal (now (table .entry))) 0) (entryWords (problemOf (now (table .entry)))) 0 ⌝ }
 {
     listing::entry_words(table)
 }

@@ -1,7 +1,8 @@
 -- `closes` meets its contract, by what `list` ensures and nothing else of it: page 14 where the listing is finished, and the answer where it is full or the table refused. Assumes nothing.
-use mathlib.Core.Path.{sym, ap, _∙_}
+use mathlib.Core.Path.{refl, sym, ap, _∙_}
 use borrow.Author.Needs.{needs}
-use Rattle.multiset_unification.specs.Answer.{told}
+use Rattle.multiset_unification.specs.declared.Listing.{Listing}
+use Rattle.multiset_unification.specs.Answer.{Told, told}
 use Rattle.closing.proofs.ClosingLaws.{finished-promised, full-promised, refused-promised}
 use Rattle.closing.proofs.closes.Statement.{statement}
 use Rattle.closing.proofs.closes.Tie as tie
@@ -30,17 +31,18 @@ enum-told-2 c = search needs
 returns : tie.Need-returns
 returns c =
     let page14 = c .before .before .before .before .list .ensures .1 .1 in
-    finished-promised _ _ _ (page14 _ (c .before .entries .given .1))
+    let answer = ap (λ (r : Listing). told r) (c .before .entries .given .1) in
+    finished-promised _ _ _ (rw answer at page14 refl)
 
 returns-2 : tie.Need-returns-2
 returns-2 c =
     let answer = c .before .before .before .list .ensures .0 in
-    full-promised _ _ _ (sym answer ∙ ap told (c .enum-told .given .1))
+    full-promised _ _ (ap (λ (w : Told). w .answer) (sym answer ∙ ap told (c .enum-told .given .1)))
 
 returns-3 : tie.Need-returns-3
 returns-3 c =
     let answer = c .before .before .before .list .ensures .0 in
-    refused-promised _ _ (c .enum-told2 .given .0 .0) (sym answer ∙ ap told (c .enum-told2 .given .1))
+    refused-promised _ _ (c .enum-told2 .given .0 .0) (ap (λ (w : Told). w .answer) (sym answer ∙ ap told (c .enum-told2 .given .1)))
 
 pub closes-spec : {M : Type 1} → statement M
 closes-spec =

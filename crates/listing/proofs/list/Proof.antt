@@ -3,7 +3,7 @@ use mathlib.Core.Path.{refl, sym, ap, _∙_}
 use borrow.Author.Needs.{needs}
 use Rattle.table.specs.Answer.{told}
 use Rattle.table.proofs.AcceptedLaws.{accepted}
-use Rattle.listing.proofs.CallingLaws.{refused-promised, accepted-promised}
+use Rattle.listing.proofs.CallingLaws.{refused-table, accepted-table}
 use Rattle.listing.proofs.list.Statement.{statement}
 use Rattle.listing.proofs.list.Tie as tie
 
@@ -22,7 +22,7 @@ list-accepted-requires c κs =
 
 returns : tie.Need-returns
 returns c =
-    refused-promised _ _ _ _ (c .before .refusal .given .0 .0) (sym (ap told (c .before .refusal .given .1)) ∙ c .before .before .before .check .ensures) refl refl
+    refused-table _ _ _ _ (c .before .refusal .given .0 .0) (sym (ap told (c .before .refusal .given .1)) ∙ c .before .before .before .check .ensures) refl refl
 
 same-length : tie.Need-same-length
 same-length c = search needs
@@ -30,7 +30,7 @@ same-length c = search needs
 returns-2 : tie.Need-returns-2
 returns-2 c =
     let g = accepted _ .0 (sym (c .before .before .before .before .before .before .check .ensures) ∙ ap told (c .before .before .before .before .enum-told .given .1)) in
-    accepted-promised _ _ _ _ g (c .before .before .list-accepted .ensures)
+    accepted-table _ _ _ _ g (c .before .before .list-accepted .ensures)
 
 pub list-spec : {M : Type 1} → statement M
 list-spec =

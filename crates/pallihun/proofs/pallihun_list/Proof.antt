@@ -1,7 +1,6 @@
 -- `pallihun::pallihun_list` meets its contract: it is that of `list`, of which only the answer is told by numbers. Assumes nothing.
 use mathlib.Core.Path.{_∙_}
 use borrow.Author.Needs.{needs}
-use Rattle.pallihun.proofs.NumberLaws.{is-finished}
 use Rattle.pallihun.proofs.pallihun_list.Statement.{statement}
 use Rattle.pallihun.proofs.pallihun_list.Tie as tie
 
@@ -17,7 +16,8 @@ same-length c = search needs
 returns : tie.Need-returns
 returns c =
     let l = c .before .before .before .list .ensures in
-    (c .of-listing .ensures ∙ l .0, (l .1 .0, λ z. l .1 .1 _ (is-finished _ _ (c .of-listing .ensures) z)))
+    let n = c .of-listing .ensures in
+    (n ∙ l .0, (l .1 .0, rw (← n) at (l .1 .1)))
 
 pub pallihun-list-spec : {M : Type 1} → statement M
 pallihun-list-spec = tie.close (tie.spec list-requires of-listing-requires same-length returns)

@@ -15,11 +15,11 @@ index-requires c κs = search needs
 sub-list-with-room : tie.Need-sub-list-with-room
 sub-list-with-room c = search needs
 
-part-of-start : tie.Need-part-of-start
-part-of-start c = search needs
+part-heads-start : tie.Need-part-heads-start
+part-heads-start c = search needs
 
-part-of-end : tie.Need-part-of-end
-part-of-end c = search needs
+part-heads-end : tie.Need-part-heads-end
+part-heads-end c = search needs
 
 slice-aggregate-list-with-room : tie.Need-slice-aggregate-list-with-room
 slice-aggregate-list-with-room c = search needs
@@ -47,8 +47,8 @@ list-sides-spec =
     node-count-requires
     index-requires
     sub-list-with-room
-    part-of-start
-    part-of-end
+    part-heads-start
+    part-heads-end
     slice-aggregate-list-with-room
     slice-aggregate-list-with-room-2
     list-with-room-requires

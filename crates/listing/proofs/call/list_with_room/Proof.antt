@@ -12,11 +12,11 @@ use Rattle.listing.proofs.call.list_with_room.Tie as tie
 begin-shared-requires : tie.Need-begin-shared-requires
 begin-shared-requires c κs = search needs
 
-add-words : tie.Need-add-words
-add-words c = search needs
+add-width : tie.Need-add-width
+add-width c = search needs
 
-add-words-2 : tie.Need-add-words-2
-add-words-2 c = search needs
+add-width-2 : tie.Need-add-width-2
+add-width-2 c = search needs
 
 same-length : tie.Need-same-length
 same-length c = search needs
@@ -114,8 +114,8 @@ list-with-room-spec =
     tie.close
     (tie.spec
     begin-shared-requires
-    add-words
-    add-words-2
+    add-width
+    add-width-2
     same-length
     returns
     make-circles-requires

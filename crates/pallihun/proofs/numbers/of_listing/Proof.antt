@@ -2,7 +2,7 @@
 use Prim.Native.Nat.{ℕ}
 use mathlib.Core.Path.{sym, ap, _∙_}
 use borrow.Author.Needs.{needs}
-use Rattle.multiset_unification.specs.Answer.{told}
+use Rattle.multiset_unification.specs.Answer.{Told, told}
 use Rattle.pallihun.proofs.numbers.of_listing.Statement.{statement}
 use Rattle.pallihun.proofs.numbers.of_listing.Tie as tie
 
@@ -24,8 +24,12 @@ returns c = sym (ap told (c .before .answer .given .1))
 returns-2 : tie.Need-returns-2
 returns-2 c = sym (ap told (c .before .answer2 .given .1))
 
+-- What is told of a refusal.
+abbrev refusedWith : ℕ → Told
+refusedWith n = record { answer = n; entries = 0 }
+
 returns-3 : tie.Need-returns-3
-returns-3 c = ap (λ (n : ℕ). (n, 0)) (c .number .ensures) ∙ sym (ap told (c .before .before .answer3 .given .1))
+returns-3 c = ap refusedWith (c .number .ensures) ∙ sym (ap told (c .before .before .answer3 .given .1))
 
 pub of-listing-spec : {M : Type 1} → statement M
 of-listing-spec =

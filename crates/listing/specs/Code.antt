@@ -1,2 +1,0 @@
--- What contracts of inner functions and laws speak of.
-pub mod Calling
