@@ -5,7 +5,7 @@ use native.Mathlib.Decide.{ℕ-discrete}
 use Rattle.table.specs.Layout.{countsBefore}
 use Rattle.table.specs.Some.{someBelow}
 use Rattle.terms.specs.Term.{var}
-use Rattle.unification.specs.Node.{tabulate, readNode, nodesIn}
+use Rattle.unification.specs.Node.{tabulate, readNode, nodesFrom, nodesIn}
 use Rattle.unification.specs.Computed.Classes.{renamed, join, joinAll, sameSymbol, asks, gather, asked, round, rounds, classes, differ, clashAt, clashWith, clashes}
 use Rattle.unification.specs.Computed.Walks.{someMarked, leads, leadsAt, leadsFrom, walks, cyclic}
 use Rattle.unification.specs.Computed.Unifying.{outcome}
@@ -35,7 +35,7 @@ one = record { pairing = []; contexts = (1, record { terms = []; variables = [] 
 
 -- "given multiset {a, a | M} and {a | N}, unify computes three unifiers": N ↦ {a | N'} twice, "once for each occurrence of a", and M ↦ {a | M'}, N ↦ {a, a | N'}; { | M} and {} have one
 pub three-unifiers : (algorithm1 (sidesOf two-and-one) ≡ three) × (algorithm1 (sidesOf label-and-none) ≡ one)
-unfolding flatMap product zip zipWith ℕ-discrete countsBefore someBelow tabulate readNode nodesIn renamed join joinAll sameSymbol asks gather asked round rounds classes differ clashAt clashWith clashes someMarked leads leadsAt leadsFrom walks cyclic outcome kept numbers choose atEach permutations inEach orderedPartitions context distribute unifyDistribute composed unifyTerms unifyC unify leftTags rightTags nodePairs algorithm1
+unfolding flatMap product zip zipWith ℕ-discrete countsBefore someBelow tabulate readNode nodesFrom nodesIn renamed join joinAll sameSymbol asks gather asked round rounds classes differ clashAt clashWith clashes someMarked leads leadsAt leadsFrom walks cyclic outcome kept numbers choose atEach permutations inEach orderedPartitions context distribute unifyDistribute composed unifyTerms unifyC unify leftTags rightTags nodePairs algorithm1
 three-unifiers = (refl, refl)
 
 -- The substitution with M ↦ { | X}: it unifies { | M} and {}, modulo X ≡ {}.

@@ -10,14 +10,14 @@ use lib.ListN.{length, take, drop, replicate, getD-replicate}
 use lib.Seq.{take-append-le, getD-take}
 use Rattle.table.specs.Limits.{maxNodes}
 use Rattle.table.specs.Layout.{word, kindOf, nameOf, nodeCount}
-use Rattle.unification.specs.Node.{Node, variable, application, nodeAt, Present}
+use Rattle.unification.specs.Node.{Node, variable, application, nodeAt, Present, nodesFrom}
 use Rattle.unification.specs.Words.{Least, Matched}
 use Rattle.unification.specs.Computed.Classes.{classOf}
 use Rattle.unification.specs.Computed.Variables.{variablesOf}
 use Rattle.unification.specs.Computed.Solution.{nodeOf}
 use Rattle.unification.specs.Computed.Binding.{wordOf, bindingWords}
 use Rattle.unification.specs.Computed.Unifying.{unifier, wordsOf}
-use Rattle.unification.specs.Code.Sections.{nodesFrom, Sections}
+use Rattle.unification.specs.Code.Sections.{Sections}
 use Rattle.unification.specs.Code.Heads.{Partition}
 use Rattle.unification.specs.Code.Solved.{IsClosure}
 use Rattle.unification.specs.Code.Valued.{NamedVariable, IsNamed, bound, free}

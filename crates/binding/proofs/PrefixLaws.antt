@@ -11,10 +11,10 @@ use lib.Seq.{getD-append-add, take-at}
 use Rattle.table.specs.Limits.{maxNodes}
 use Rattle.table.specs.Layout.{word, nameOf, countOf, nodeCount, argumentOf}
 use Rattle.terms.specs.Term.{Term, var, app}
-use Rattle.unification.specs.Node.{each}
+use Rattle.unification.specs.Node.{each, nodesFrom}
 use Rattle.unification.specs.Unifier.{value}
 use Rattle.unification.specs.Computed.Classes.{classOf}
-use Rattle.unification.specs.Code.Sections.{nodesFrom, Sections}
+use Rattle.unification.specs.Code.Sections.{Sections}
 use Rattle.unification.proofs.NodeLaws.{each-equal, value-application}
 use Rattle.unification.proofs.SectionLaws.{run, is-node, application-from, run-long, counted-application, pair-place, sections-well-formed}
 use Rattle.nodes.specs.Code.Open.{IsClosed, Counts, OpenListed}

@@ -10,7 +10,8 @@ use lib.Seq.{length-take-le, take-at, drop-at, take-set-lt, drop-set-add, getD-t
 use Rattle.table.specs.Limits.{maxTerms}
 use Rattle.table.specs.Layout.{word, countOf, nodeCount}
 use Rattle.unification.specs.Computed.Variables.{variablesOf}
-use Rattle.unification.specs.Code.Sections.{nodesFrom, Sections}
+use Rattle.unification.specs.Node.{nodesFrom}
+use Rattle.unification.specs.Code.Sections.{Sections}
 use Rattle.nodes.specs.Code.Open.{IsClosed, Counts}
 use Rattle.values.specs.Code.Present.{leastNodes}
 use Rattle.classes.specs.Code.Stands.{Never}

@@ -16,7 +16,8 @@ use lib.Seq.{length-take-le, take-all, take-append-le, drop-append-le, drop-at, 
 use Rattle.table.specs.Layout.{word, nodeCount}
 use Rattle.unification.specs.Outcome.{unified}
 use Rattle.unification.specs.Code.Given.{Inside}
-use Rattle.unification.specs.Code.Sections.{Sections, nodesFrom}
+use Rattle.unification.specs.Node.{nodesFrom}
+use Rattle.unification.specs.Code.Sections.{Sections}
 use Rattle.unification.specs.Computed.Unifying.{outcome, wordsOf}
 use Rattle.unification.specs.Computed.Variables.{variablesOf}
 use Rattle.unification.proofs.AnswerLaws.{words-counted}

@@ -15,10 +15,9 @@ use Rattle.table.specs.Layout.{word, nodeCount}
 use Rattle.table.specs.Some.{someBelow}
 use Rattle.table.proofs.BoolLaws.{and-true-left, and-true-right}
 use Rattle.table.proofs.SomeLaws.{some-here, some-next, some-means, none-some}
-use Rattle.unification.specs.Node.{Node}
+use Rattle.unification.specs.Node.{Node, nodesFrom}
 use Rattle.unification.specs.Computed.Unifying.{wordsOf}
 use Rattle.unification.specs.Code.Given.{Inside}
-use Rattle.unification.specs.Code.Sections.{nodesFrom}
 use Rattle.unification.proofs.SectionLaws.{is-node}
 use Rattle.unification.proofs.JoinedLaws.{inside-more}
 use Rattle.nodes.specs.Code.Open.{Counts}

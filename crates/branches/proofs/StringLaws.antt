@@ -11,10 +11,9 @@ use lib.Dec.{eqb}
 use lib.ListN.{length, take, drop, length-append, length-drop, take-append-drop}
 use lib.Seq.{length-take-le, take-take, take-at, drop-at, drop-drop, take-add, drop-length}
 use Rattle.table.specs.Layout.{word}
-use Rattle.unification.specs.Node.{Node}
+use Rattle.unification.specs.Node.{Node, nodesFrom}
 use Rattle.unification.specs.Outcome.{unified}
 use Rattle.unification.specs.Computed.Unifying.{outcome, wordsOf}
-use Rattle.unification.specs.Code.Sections.{nodesFrom}
 use Rattle.unification.proofs.FlatLaws.{flat-one}
 use Rattle.unification.proofs.AnswerLaws.{words-counted}
 use Rattle.multiset_unification.specs.Computed.Choices.{branch}

@@ -4,7 +4,7 @@ ghost use Prim.Native.Nat.{_*_, _≤_, _<_};
 ghost use lib.ListN.{length};
 ghost use Rattle.table.specs.Limits.{maxTerms};
 ghost use Rattle.table.specs.Layout.{nodeCount};
-ghost use Rattle.unification.specs.Code.Sections.{nodesFrom};
+ghost use Rattle.unification.specs.Node.{nodesFrom};
 ghost use Rattle.classes.specs.Code.Stands.{Never};
 ghost use Rattle.branches.specs.Code.Branch.{Listable};
 ghost use Rattle.branches.specs.Code.Partners.{partnered, leftsStuck, someLeft, rightStuck, rightsStuck, stuck as stuckFor, Triable, Trying};

@@ -9,13 +9,13 @@ use Rattle.table.specs.Layout.{nameOf, nodeCount, argumentOf}
 use Rattle.table.proofs.BoolLaws.{and-true-left, and-true-right}
 use Rattle.terms.specs.Term.{var, app}
 use Rattle.terms.specs.Substitution.{Substitution}
-use Rattle.unification.specs.Node.{Node}
+use Rattle.unification.specs.Node.{Node, nodesFrom}
 use Rattle.unification.specs.Unifier.{value, Unifiable}
 use Rattle.unification.specs.Outcome.{unified, clash, occurs}
 use Rattle.unification.specs.Computed.Classes.{classOf}
 use Rattle.unification.specs.Computed.Unifying.{outcome}
 use Rattle.unification.specs.Code.Given.{Inside}
-use Rattle.unification.specs.Code.Sections.{nodesFrom, Sections, differTest}
+use Rattle.unification.specs.Code.Sections.{Sections, differTest}
 use Rattle.unification.proofs.NodeLaws.{each-same, value-application}
 use Rattle.unification.proofs.JoinedLaws.{inside-more, joined-equal}
 use Rattle.unification.proofs.OutcomeLaws.{outcome-clash, outcome-unified}

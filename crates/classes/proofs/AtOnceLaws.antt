@@ -10,7 +10,8 @@ use Rattle.unification.specs.Closure.{Clash}
 use Rattle.unification.specs.Outcome.{unified}
 use Rattle.unification.specs.Computed.Classes.{classOf}
 use Rattle.unification.specs.Computed.Unifying.{outcome}
-use Rattle.unification.specs.Code.Sections.{nodesFrom, Sections, symbolTest, differTest}
+use Rattle.unification.specs.Node.{nodesFrom}
+use Rattle.unification.specs.Code.Sections.{Sections, symbolTest, differTest}
 use Rattle.unification.proofs.CountLaws.{in-list}
 use Rattle.unification.proofs.SectionLaws.{is-node, application-from, symbols-differ}
 use Rattle.nodes.specs.Code.Open.{Counts}

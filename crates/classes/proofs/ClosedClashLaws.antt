@@ -10,10 +10,10 @@ use native.Mathlib.Omega.{arith}
 use lib.ListN.{length}
 use Rattle.table.specs.Layout.{nameOf, countOf, nodeCount, argumentOf}
 use Rattle.terms.specs.Term.{var, app}
-use Rattle.unification.specs.Node.{Node, application, nodeAt, each}
+use Rattle.unification.specs.Node.{Node, application, nodeAt, each, nodesFrom}
 use Rattle.unification.specs.Unifier.{value}
 use Rattle.unification.specs.Closure.{Joined, arguments as by-arguments, Clash, different}
-use Rattle.unification.specs.Code.Sections.{Sections, nodesFrom, symbolTest}
+use Rattle.unification.specs.Code.Sections.{Sections, symbolTest}
 use Rattle.unification.proofs.NodeLaws.{each-equal, value-application}
 use Rattle.unification.proofs.SectionLaws.{run, run-long, is-node, application-from, symbol-test, symbols-differ, pair-place, sections-well-formed}
 use Rattle.nodes.specs.Code.Open.{IsClosed, Counts}

@@ -9,7 +9,8 @@ use Rattle.table.specs.Layout.{word, nodeCount}
 use Rattle.unification.specs.Computed.Classes.{classOf}
 use Rattle.unification.specs.Computed.Unifying.{outcome}
 use Rattle.unification.specs.Code.Given.{Inside}
-use Rattle.unification.specs.Code.Sections.{nodesFrom, Sections}
+use Rattle.unification.specs.Node.{nodesFrom}
+use Rattle.unification.specs.Code.Sections.{Sections}
 use Rattle.unification.specs.Code.Solved.{IsClosure}
 use Rattle.unification.proofs.OutcomeLaws.{outcome-clash, cycle-decides}
 use Rattle.unification.proofs.SectionLaws.{nodes-long, is-node, sections-well-formed}

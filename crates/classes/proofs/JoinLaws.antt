@@ -12,11 +12,11 @@ use lib.Dec.{eqb}
 use lib.ListN.{length}
 use Rattle.table.specs.Layout.{kindOf, nameOf, countOf, nodeCount, argumentOf}
 use Rattle.table.proofs.BoolLaws.{or-false-left, or-false-right, and-true-left, and-true-right}
-use Rattle.unification.specs.Node.{Node, application, nodeAt, tabulate}
+use Rattle.unification.specs.Node.{Node, application, nodeAt, tabulate, nodesFrom}
 use Rattle.unification.specs.Closure.{OneSymbol, Joined, arguments as by-arguments, back, on, Clash}
 use Rattle.unification.specs.Computed.Classes.{classOf, join}
 use Rattle.unification.specs.Code.Heads.{Partition, roots, Unites}
-use Rattle.unification.specs.Code.Sections.{nodesFrom, Sections, symbolTest}
+use Rattle.unification.specs.Code.Sections.{Sections, symbolTest}
 use Rattle.unification.proofs.ListLaws.{tabulate-member, tabulate-from, zip-back}
 use Rattle.unification.proofs.CountLaws.{join-length, join-keeps, join-lowers, join-second, join-other, unites-front, in-list}
 use Rattle.unification.proofs.SectionLaws.{symbols-differ, run, run-long, nodes-long, variable-from, application-from, from-application, symbol-test, is-node, pair-place}

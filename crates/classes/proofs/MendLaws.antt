@@ -9,12 +9,12 @@ use native.Mathlib.Omega.{arith}
 use lib.ListN.{length, length-append, List·getD-append}
 use lib.Seq.{getD-at}
 use Rattle.table.specs.Layout.{word, countOf, nodeCount, argumentOf}
-use Rattle.unification.specs.Node.{Node, application, nodeAt}
+use Rattle.unification.specs.Node.{Node, application, nodeAt, nodesFrom}
 use Rattle.unification.specs.Closure.{Joined, given, one-variable, arguments as by-arguments, same, back, on}
 use Rattle.unification.specs.Computed.Classes.{classOf}
 use Rattle.unification.specs.Code.Given.{Inside}
 use Rattle.unification.specs.Code.Heads.{Partition}
-use Rattle.unification.specs.Code.Sections.{nodesFrom, Sections}
+use Rattle.unification.specs.Code.Sections.{Sections}
 use Rattle.unification.specs.Code.Solved.{IsClosure, HeadFits}
 use Rattle.unification.proofs.ListLaws.{zip-right, zip-through}
 use Rattle.unification.proofs.JoinedLaws.{more-joined, joined-inside}

@@ -18,7 +18,8 @@ use Rattle.unification.specs.Computed.Classes.{classOf}
 use Rattle.unification.specs.Computed.Unifying.{outcome}
 use Rattle.unification.specs.Code.Given.{Inside}
 use Rattle.unification.specs.Code.Heads.{Partition}
-use Rattle.unification.specs.Code.Sections.{nodesFrom, Sections}
+use Rattle.unification.specs.Node.{nodesFrom}
+use Rattle.unification.specs.Code.Sections.{Sections}
 use Rattle.unification.specs.Code.Solved.{IsClosure, Solved}
 use Rattle.unification.proofs.OutcomeLaws.{solved-decides}
 use Rattle.unification.proofs.SectionLaws.{nodes-long, counted, application-from, argument-place, place-argument, counted-application, sections-well-formed}

@@ -10,7 +10,7 @@ use Rattle.table.specs.Conditions.{tooFewWords, endBefore, offsetIsWrong, broke
 use Rattle.table.specs.Refusal.{conditions, firstHeld, refusal}
 use Rattle.terms.specs.Term.{equal}
 use Rattle.terms.specs.Substitution.{sub}
-use Rattle.unification.specs.Node.{tabulate, readNode, nodesIn, each, spell, termWithin, termOf}
+use Rattle.unification.specs.Node.{tabulate, readNode, nodesFrom, nodesIn, each, spell, termWithin, termOf}
 use Rattle.unification.specs.Computed.Variables.{insert, variablesOf}
 use Rattle.unification.specs.Computed.Classes.{renamed, join, joinAll, sameSymbol, asks, gather, asked, round, rounds, classes, differ, clashAt, clashWith, clashes}
 use Rattle.unification.specs.Computed.Walks.{someMarked, leads, leadsAt, leadsFrom, walks, cyclic}
@@ -36,5 +36,5 @@ inputs = bytesOfWords two-and-one ∷ bytesOfWords nothing ∷ bytesOfWords one-
 
 -- "entries 3", "1 2 0", "2 1 0", "2 2 1"; "entries 1" and an empty line; "entries 0"; "refused 11"; "refused 1"
 pub printed-examples : map printed inputs ≡ (101 ∷ 110 ∷ 116 ∷ 114 ∷ 105 ∷ 101 ∷ 115 ∷ 32 ∷ 51 ∷ 10 ∷ 49 ∷ 32 ∷ 50 ∷ 32 ∷ 48 ∷ 10 ∷ 50 ∷ 32 ∷ 49 ∷ 32 ∷ 48 ∷ 10 ∷ 50 ∷ 32 ∷ 50 ∷ 32 ∷ 49 ∷ 10 ∷ []) ∷ (101 ∷ 110 ∷ 116 ∷ 114 ∷ 105 ∷ 101 ∷ 115 ∷ 32 ∷ 49 ∷ 10 ∷ 10 ∷ []) ∷ (101 ∷ 110 ∷ 116 ∷ 114 ∷ 105 ∷ 101 ∷ 115 ∷ 32 ∷ 48 ∷ 10 ∷ []) ∷ (114 ∷ 101 ∷ 102 ∷ 117 ∷ 115 ∷ 101 ∷ 100 ∷ 32 ∷ 49 ∷ 49 ∷ 10 ∷ []) ∷ (114 ∷ 101 ∷ 102 ∷ 117 ∷ 115 ∷ 101 ∷ 100 ∷ 32 ∷ 49 ∷ 10 ∷ []) ∷ []
-unfolding inputs bytesOfWords wordsOfBytes decimalWithin decimal afterWord line lines titled title printedTable printed flatten flatMap ℕ-discrete countsBefore someBelow tooFewWords endBefore offsetIsWrong brokenPair wordsAreWrong sizeIsWrong overLimit rightVariable startOf rightApplication rightNode nodeIsWrong wrongNode argumentIsWrong runIsWrong wrongArgument termIsWrong wrongTerm labelsAreEqual labelIsWrong wrongLabel conditions firstHeld refusal equal sub tabulate readNode nodesIn each spell termWithin termOf zip zipWith insert variablesOf renamed join joinAll sameSymbol asks gather asked round rounds classes differ clashAt clashWith clashes someMarked leads leadsAt leadsFrom walks cyclic firstWith leastNode isApplication isVariable isNodeOf nodeOf resolved solution isApplicationIn isVariableIn headIn isBoundTo hasValue wordFor wordOf bindingWords outcome unifier wordsOf variableCount pairs shares pairsOf entryOf among branch rights lefts choices kept halfChoices cross halvesChoices admissibleListing completeListing listConditions fitting entriesLeft listed
+unfolding inputs bytesOfWords wordsOfBytes decimalWithin decimal afterWord line lines titled title printedTable printed flatten flatMap ℕ-discrete countsBefore someBelow tooFewWords endBefore offsetIsWrong brokenPair wordsAreWrong sizeIsWrong overLimit rightVariable startOf rightApplication rightNode nodeIsWrong wrongNode argumentIsWrong runIsWrong wrongArgument termIsWrong wrongTerm labelsAreEqual labelIsWrong wrongLabel conditions firstHeld refusal equal sub tabulate readNode nodesFrom nodesIn each spell termWithin termOf zip zipWith insert variablesOf renamed join joinAll sameSymbol asks gather asked round rounds classes differ clashAt clashWith clashes someMarked leads leadsAt leadsFrom walks cyclic firstWith leastNode isApplication isVariable isNodeOf nodeOf resolved solution isApplicationIn isVariableIn headIn isBoundTo hasValue wordFor wordOf bindingWords outcome unifier wordsOf variableCount pairs shares pairsOf entryOf among branch rights lefts choices kept halfChoices cross halvesChoices admissibleListing completeListing listConditions fitting entriesLeft listed
 printed-examples = refl

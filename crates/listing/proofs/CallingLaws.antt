@@ -19,11 +19,10 @@ use Rattle.table.specs.Refusal.{conditions, refusal}
 use Rattle.table.specs.Code.Sections.{leftTerms}
 use Rattle.table.specs.Code.Accepted.{Accepted}
 use Rattle.table.proofs.AnswerLaws.{number-above}
-use Rattle.unification.specs.Node.{nodesIn}
+use Rattle.unification.specs.Node.{nodesIn, nodesFrom}
 use Rattle.unification.specs.Computed.Variables.{variablesOf}
 use Rattle.unification.specs.Computed.Solution.{nodeOf}
 use Rattle.unification.specs.Computed.Unifying.{wordsOf}
-use Rattle.unification.specs.Code.Sections.{nodesFrom}
 use Rattle.unification.proofs.ListLaws.{length-none, part-long}
 use Rattle.unification.proofs.TableLaws.{sections-of, nodes-of-sections, well-formed}
 use Rattle.unification.proofs.AnswerLaws.{words-counted}

@@ -11,7 +11,7 @@ use Rattle.table.specs.Refusal.{conditions, firstHeld, refusal}
 use Rattle.table.specs.declared.Refusal.the-variants.{WrongLabel}
 use Rattle.terms.specs.Term.{equal}
 use Rattle.terms.specs.Substitution.{sub}
-use Rattle.unification.specs.Node.{variable, application, tabulate, readNode, nodesIn, each, spell, termWithin, termOf}
+use Rattle.unification.specs.Node.{variable, application, tabulate, readNode, nodesFrom, nodesIn, each, spell, termWithin, termOf}
 use Rattle.unification.specs.Computed.Variables.{insert, variablesOf}
 use Rattle.unification.specs.Computed.Classes.{renamed, join, joinAll, sameSymbol, asks, gather, asked, round, rounds, classes, differ, clashAt, clashWith, clashes}
 use Rattle.unification.specs.Computed.Walks.{someMarked, leads, leadsAt, leadsFrom, walks, cyclic}
@@ -164,7 +164,7 @@ computed (unify t a b) lent = (outcome-is (unification t a b (length lent)), Rat
 
 -- what they compute is what stands beside each call: for 1 to 12, what document 01 says
 pub starred : map (λ e. computed (e .0) (e .1)) examples ≡ map (λ e. (stands-for (e .2), e .3)) examples
-unfolding flatten flatMap ℕ-discrete countsBefore someBelow tooFewWords endBefore offsetIsWrong brokenPair wordsAreWrong sizeIsWrong overLimit rightVariable startOf rightApplication rightNode nodeIsWrong wrongNode argumentIsWrong runIsWrong wrongArgument termIsWrong wrongTerm labelsAreEqual labelIsWrong wrongLabel conditions firstHeld refusal equal sub tabulate readNode nodesIn each spell termWithin termOf zip zipWith insert variablesOf renamed join joinAll sameSymbol asks gather asked round rounds classes differ clashAt clashWith clashes someMarked leads leadsAt leadsFrom walks cyclic firstWith leastNode isApplication isVariable isNodeOf nodeOf resolved solution isApplicationIn isVariableIn headIn isBoundTo hasValue wordFor wordOf bindingWords outcome unifier wordsOf variableCount unifyConditions answerAfter unification wordsAfter pairs shares pairsOf entryOf among branch rights lefts choices kept halfChoices cross halvesChoices admissibleListing completeListing listConditions fitting entriesLeft listed lentAfter Rattle.unification.specs.Answer.lentAfter
+unfolding flatten flatMap ℕ-discrete countsBefore someBelow tooFewWords endBefore offsetIsWrong brokenPair wordsAreWrong sizeIsWrong overLimit rightVariable startOf rightApplication rightNode nodeIsWrong wrongNode argumentIsWrong runIsWrong wrongArgument termIsWrong wrongTerm labelsAreEqual labelIsWrong wrongLabel conditions firstHeld refusal equal sub tabulate readNode nodesFrom nodesIn each spell termWithin termOf zip zipWith insert variablesOf renamed join joinAll sameSymbol asks gather asked round rounds classes differ clashAt clashWith clashes someMarked leads leadsAt leadsFrom walks cyclic firstWith leastNode isApplication isVariable isNodeOf nodeOf resolved solution isApplicationIn isVariableIn headIn isBoundTo hasValue wordFor wordOf bindingWords outcome unifier wordsOf variableCount unifyConditions answerAfter unification wordsAfter pairs shares pairsOf entryOf among branch rights lefts choices kept halfChoices cross halvesChoices admissibleListing completeListing listConditions fitting entriesLeft listed lentAfter Rattle.unification.specs.Answer.lentAfter
 starred = refl
 
 -- {x} and {a}, and {x} and {b}: each half has an entry, the two together have none, as x would be a and b
@@ -189,5 +189,5 @@ labels-then-pair =
 
 -- what the definitions compute for problems of two halves
 pub two-halves : completeListing x-two-ways ∷ completeListing labels-then-pair ∷ [] ≡ [] ∷ ((1 ∷ 1 ∷ 0 ∷ 1 ∷ []) ∷ (2 ∷ 1 ∷ 0 ∷ 1 ∷ []) ∷ []) ∷ []
-unfolding flatten flatMap ℕ-discrete countsBefore someBelow tooFewWords endBefore offsetIsWrong brokenPair wordsAreWrong sizeIsWrong overLimit rightVariable startOf rightApplication rightNode nodeIsWrong wrongNode argumentIsWrong runIsWrong wrongArgument termIsWrong wrongTerm labelsAreEqual labelIsWrong wrongLabel conditions firstHeld refusal equal sub tabulate readNode nodesIn each spell termWithin termOf zip zipWith insert variablesOf renamed join joinAll sameSymbol asks gather asked round rounds classes differ clashAt clashWith clashes someMarked leads leadsAt leadsFrom walks cyclic firstWith leastNode isApplication isVariable isNodeOf nodeOf resolved solution isApplicationIn isVariableIn headIn isBoundTo hasValue wordFor wordOf bindingWords outcome unifier wordsOf variableCount unifyConditions answerAfter unification wordsAfter pairs shares pairsOf entryOf among branch rights lefts choices kept halfChoices cross halvesChoices admissibleListing completeListing listConditions fitting entriesLeft listed lentAfter Rattle.unification.specs.Answer.lentAfter
+unfolding flatten flatMap ℕ-discrete countsBefore someBelow tooFewWords endBefore offsetIsWrong brokenPair wordsAreWrong sizeIsWrong overLimit rightVariable startOf rightApplication rightNode nodeIsWrong wrongNode argumentIsWrong runIsWrong wrongArgument termIsWrong wrongTerm labelsAreEqual labelIsWrong wrongLabel conditions firstHeld refusal equal sub tabulate readNode nodesFrom nodesIn each spell termWithin termOf zip zipWith insert variablesOf renamed join joinAll sameSymbol asks gather asked round rounds classes differ clashAt clashWith clashes someMarked leads leadsAt leadsFrom walks cyclic firstWith leastNode isApplication isVariable isNodeOf nodeOf resolved solution isApplicationIn isVariableIn headIn isBoundTo hasValue wordFor wordOf bindingWords outcome unifier wordsOf variableCount unifyConditions answerAfter unification wordsAfter pairs shares pairsOf entryOf among branch rights lefts choices kept halfChoices cross halvesChoices admissibleListing completeListing listConditions fitting entriesLeft listed lentAfter Rattle.unification.specs.Answer.lentAfter
 two-halves = refl

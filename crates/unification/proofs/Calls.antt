@@ -10,7 +10,7 @@ use Rattle.table.specs.Conditions.{tooFewWords, endBefore, offsetIsWrong, broke
 use Rattle.table.specs.Refusal.{conditions, firstHeld}
 use Rattle.terms.specs.Term.{equal}
 use Rattle.terms.specs.Substitution.{sub}
-use Rattle.unification.specs.Node.{variable, application, tabulate, readNode, nodesIn, each, spell, termWithin, termOf}
+use Rattle.unification.specs.Node.{variable, application, tabulate, readNode, nodesFrom, nodesIn, each, spell, termWithin, termOf}
 use Rattle.unification.specs.Computed.Variables.{insert, variablesOf}
 use Rattle.unification.specs.Computed.Classes.{renamed, join, joinAll, sameSymbol, asks, gather, asked, round, rounds, classes, differ, clashAt, clashWith, clashes}
 use Rattle.unification.specs.Computed.Walks.{someMarked, leads, leadsAt, leadsFrom, walks, cyclic}
@@ -88,7 +88,7 @@ computed e = (unification (e .0) (e .1) (e .2) (length (e .3)), lentAfter (e .0)
 
 -- what the definitions compute is what stands beside each call
 pub further : map computed calls ≡ map (λ e. (e .4, e .5)) calls
-unfolding ℕ-discrete countsBefore someBelow tooFewWords endBefore offsetIsWrong brokenPair wordsAreWrong sizeIsWrong overLimit rightVariable startOf rightApplication rightNode nodeIsWrong wrongNode argumentIsWrong runIsWrong wrongArgument termIsWrong wrongTerm labelsAreEqual labelIsWrong wrongLabel conditions firstHeld equal sub tabulate readNode nodesIn each spell termWithin termOf zip zipWith insert variablesOf renamed join joinAll sameSymbol asks gather asked round rounds classes differ clashAt clashWith clashes someMarked leads leadsAt leadsFrom walks cyclic firstWith leastNode isApplication isVariable isNodeOf nodeOf resolved solution isApplicationIn isVariableIn headIn isBoundTo hasValue wordFor wordOf bindingWords outcome unifier wordsOf variableCount unifyConditions answerAfter unification wordsAfter lentAfter
+unfolding ℕ-discrete countsBefore someBelow tooFewWords endBefore offsetIsWrong brokenPair wordsAreWrong sizeIsWrong overLimit rightVariable startOf rightApplication rightNode nodeIsWrong wrongNode argumentIsWrong runIsWrong wrongArgument termIsWrong wrongTerm labelsAreEqual labelIsWrong wrongLabel conditions firstHeld equal sub tabulate readNode nodesFrom nodesIn each spell termWithin termOf zip zipWith insert variablesOf renamed join joinAll sameSymbol asks gather asked round rounds classes differ clashAt clashWith clashes someMarked leads leadsAt leadsFrom walks cyclic firstWith leastNode isApplication isVariable isNodeOf nodeOf resolved solution isApplicationIn isVariableIn headIn isBoundTo hasValue wordFor wordOf bindingWords outcome unifier wordsOf variableCount unifyConditions answerAfter unification wordsAfter lentAfter
 further = refl
 
 -- x with a and x with b, together: {x, x} and {a, b} has no entry

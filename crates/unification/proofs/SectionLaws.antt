@@ -12,10 +12,10 @@ use lib.ListN.{length, getD, take, drop, length-drop}
 use lib.Seq.{length-take-le, getD-take, getD-drop, ext-getD}
 use Rattle.table.specs.Layout.{kindOf, nameOf, firstOf, countOf, nodeCount, argumentOf}
 use Rattle.table.proofs.BoolLaws.{both-equal}
-use Rattle.unification.specs.Node.{variable, application, readNode, nodeAt}
+use Rattle.unification.specs.Node.{variable, application, readNode, nodeAt, nodesFrom}
 use Rattle.unification.specs.Closure.{OneSymbol}
 use Rattle.unification.specs.Code.Given.{WellFormed}
-use Rattle.unification.specs.Code.Sections.{nodesFrom, Sections, symbolTest}
+use Rattle.unification.specs.Code.Sections.{Sections, symbolTest}
 use Rattle.unification.proofs.ListLaws.{tabulate-length, tabulate-at, zip-at, taken, placed}
 
 -- The arguments that the words of node i name.

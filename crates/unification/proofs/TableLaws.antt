@@ -11,14 +11,14 @@ use Rattle.table.specs.Code.Sections.{nodes}
 use Rattle.table.specs.Code.Accepted.{RightNode, NodesRight, Accepted}
 use Rattle.table.proofs.NodeLaws.{right-count}
 use Rattle.table.proofs.AcceptedLaws.{arguments-inside}
-use Rattle.unification.specs.Node.{variable, application, nodesIn, nodeAt, Present}
+use Rattle.unification.specs.Node.{variable, application, nodesIn, nodeAt, Present, nodesFrom}
 use Rattle.unification.specs.Code.Given.{WellFormed}
-use Rattle.unification.specs.Code.Sections.{nodesFrom, Sections}
+use Rattle.unification.specs.Code.Sections.{Sections}
 use Rattle.unification.proofs.SectionLaws as section
 
 -- a table's nodes are those of its two sections
 pub nodes-of-sections : (t : List ℕ) → nodesIn t ≡ nodesFrom (nodesOf t) (argumentsOf t)
-unfolding nodesIn nodesFrom
+unfolding nodesIn
 nodes-of-sections t = refl
 
 -- they are as many as its nodes section holds

@@ -25,9 +25,13 @@ readNode nodes arguments i =
     (variable (nameOf nodes i))
     (application (nameOf nodes i) (take (countOf nodes i) (drop (firstOf nodes i) arguments)))
 
+-- The nodes of a nodes section, with its arguments section.
+unfoldable pub nodesFrom : List ℕ → List ℕ → List Node
+nodesFrom nodes arguments = tabulate (nodeCount nodes) (readNode nodes arguments)
+
 -- The nodes of a table.
 unfoldable pub nodesIn : List ℕ → List Node
-nodesIn t = tabulate (nodeCount (nodesOf t)) (readNode (nodesOf t) (argumentsOf t))
+nodesIn t = nodesFrom (nodesOf t) (argumentsOf t)
 
 -- Node i. Past the end it is variable 0, and of no account.
 abbrev pub nodeAt : List Node → ℕ → Node

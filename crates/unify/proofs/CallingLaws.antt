@@ -23,7 +23,7 @@ use Rattle.table.proofs.AcceptedLaws.{accepted}
 use Rattle.table.proofs.AnswerLaws.{number-above}
 use Rattle.terms.specs.Substitution.{Substitution}
 use Rattle.unification.specs.declared.Unification.{Unification}
-use Rattle.unification.specs.Node.{Node, nodesIn}
+use Rattle.unification.specs.Node.{Node, nodesIn, nodesFrom}
 use Rattle.unification.specs.Unifier.{value, Unifies}
 use Rattle.unification.specs.Computed.Variables.{variablesOf}
 use Rattle.unification.specs.Computed.Unifying.{outcome, wordsOf}
@@ -31,7 +31,7 @@ use Rattle.unification.specs.Answer as answer
 use Rattle.unification.specs.Answer.{told, variableCount, unifyConditions, ended, unification, wordsAfter, lentAfter}
 use Rattle.unification.specs.Decided.{Decided}
 use Rattle.unification.specs.Code.Given.{Inside}
-use Rattle.unification.specs.Code.Sections.{nodesFrom, Sections}
+use Rattle.unification.specs.Code.Sections.{Sections}
 use Rattle.unification.proofs.SectionLaws.{nodes-long, is-node, sections-well-formed}
 use Rattle.unification.proofs.OutcomeLaws.{outcome-unified}
 use Rattle.unification.proofs.PairLaws.{same-unifiers}

@@ -6,11 +6,11 @@ use mathlib.Core.Path.{_≡_, refl, sym, _∙_}
 use native.Mathlib.Omega.{arith}
 use Rattle.table.specs.Layout.{kindOf, nameOf, countOf, nodeCount, argumentOf}
 use Rattle.terms.specs.Term.{var, app}
-use Rattle.unification.specs.Node.{Node, each}
+use Rattle.unification.specs.Node.{Node, each, nodesFrom}
 use Rattle.unification.specs.Unifier.{value}
 use Rattle.unification.specs.Computed.Classes.{classOf}
 use Rattle.unification.specs.Code.Given.{WellFormed}
-use Rattle.unification.specs.Code.Sections.{Sections, nodesFrom}
+use Rattle.unification.specs.Code.Sections.{Sections}
 use Rattle.unification.specs.Code.Heads.{Partition}
 use Rattle.unification.proofs.NodeLaws.{each-long, each-at, value-variable, value-application}
 use Rattle.unification.proofs.SectionLaws.{run, run-long, pair-place, is-node, variable-from, application-from, sections-well-formed}

@@ -13,12 +13,12 @@ use lib.Dec.{eqb, ltb}
 use lib.ListN.{length, set, take, length-set, length-map}
 use lib.Seq.{take-suc-set, length-take-le}
 use Rattle.table.specs.Layout.{word, kindOf, nameOf, nodeCount}
-use Rattle.unification.specs.Node.{Node, variable, nodeAt, Present}
+use Rattle.unification.specs.Node.{Node, variable, nodeAt, Present, nodesFrom}
 use Rattle.unification.specs.Words.{Rising, end, before}
 use Rattle.unification.specs.Computed.Variables.{variablesOf}
 use Rattle.unification.specs.Computed.Classes.{gather}
 use Rattle.unification.specs.Computed.Solution.{nodeOf}
-use Rattle.unification.specs.Code.Sections.{nodesFrom, Sections}
+use Rattle.unification.specs.Code.Sections.{Sections}
 use Rattle.unification.proofs.ListLaws.{gathered, gathered-from, map-same, placed}
 use Rattle.unification.proofs.RisingLaws.{rising-append}
 use Rattle.unification.proofs.VariableLaws.{variables-one}

@@ -5,10 +5,10 @@ use mathlib.Core.Path.{_≡_, refl, sym, ap, _∙_}
 use native.Mathlib.Omega.{arith}
 use lib.ListN.{length}
 use Rattle.table.specs.Layout.{word, kindOf, nameOf, countOf, nodeCount, argumentOf}
-use Rattle.unification.specs.Node.{variable, application, nodeAt}
+use Rattle.unification.specs.Node.{variable, application, nodeAt, nodesFrom}
 use Rattle.unification.specs.Closure.{OneSymbol}
 use Rattle.unification.specs.Computed.Classes.{classOf}
-use Rattle.unification.specs.Code.Sections.{nodesFrom, Sections}
+use Rattle.unification.specs.Code.Sections.{Sections}
 use Rattle.unification.specs.Code.Heads.{Partition}
 use Rattle.unification.specs.Code.Solved.{IsClosure}
 use Rattle.unification.specs.Code.Valued.{SameNames, Valued}

@@ -17,13 +17,13 @@ use Rattle.table.proofs.BoolLaws.{and-true-right}
 use Rattle.terms.specs.Term.{var, app}
 use Rattle.terms.specs.Substitution.{Substitution, sub}
 use Rattle.terms.proofs.SubstitutionLaws.{sub-var}
-use Rattle.unification.specs.Node.{Node, variable, application, nodeAt, tabulate, termOf, each}
+use Rattle.unification.specs.Node.{Node, variable, application, nodeAt, tabulate, termOf, each, nodesFrom}
 use Rattle.unification.specs.Closure.{given}
 use Rattle.unification.specs.Unifier.{value, Unifies}
 use Rattle.unification.specs.Computed.Classes.{classOf}
 use Rattle.unification.specs.Computed.Solution.{solution}
 use Rattle.unification.specs.Code.Given.{WellFormed, Inside}
-use Rattle.unification.specs.Code.Sections.{nodesFrom, Sections}
+use Rattle.unification.specs.Code.Sections.{Sections}
 use Rattle.unification.specs.Code.Heads.{Partition}
 use Rattle.unification.specs.Code.Solved.{HeadFits, IsClosure}
 use Rattle.unification.proofs.ListLaws.{tabulate-member, tabulate-from, zip-left, zip-right, map-at, placed, member-place}

@@ -12,12 +12,12 @@ use lib.Dec.{eqb}
 use lib.ListN.{length, set}
 use lib.Seq.{getD-set-same, getD-set-other}
 use Rattle.table.specs.Layout.{word, kindOf, nameOf, nodeCount, argumentOf}
-use Rattle.unification.specs.Node.{variable, nodeAt}
+use Rattle.unification.specs.Node.{variable, nodeAt, nodesFrom}
 use Rattle.unification.specs.Closure.{Joined, one-variable, same}
 use Rattle.unification.specs.Words.{Least}
 use Rattle.unification.specs.Computed.Classes.{classOf}
 use Rattle.unification.specs.Computed.Solution.{nodeOf}
-use Rattle.unification.specs.Code.Sections.{nodesFrom, Sections}
+use Rattle.unification.specs.Code.Sections.{Sections}
 use Rattle.unification.specs.Code.Heads.{Partition}
 use Rattle.unification.specs.Code.Solved.{IsClosure, Solved}
 use Rattle.unification.proofs.ListLaws.{zip-at}

@@ -15,12 +15,11 @@ use lib.Seq.{length-take-le, drop-cons, take-take, take-at, set-set, set-getD}
 use Rattle.table.specs.Limits.{maxTerms}
 use Rattle.table.specs.Layout.{word, nodeCount}
 use Rattle.table.proofs.BoolLaws.{and-true-left, and-true-right}
-use Rattle.unification.specs.Node.{Node}
+use Rattle.unification.specs.Node.{Node, nodesFrom}
 use Rattle.unification.specs.Outcome.{unified}
 use Rattle.unification.specs.Computed.Classes.{classOf}
 use Rattle.unification.specs.Computed.Unifying.{outcome}
 use Rattle.unification.specs.Code.Given.{Inside}
-use Rattle.unification.specs.Code.Sections.{nodesFrom}
 use Rattle.unification.proofs.SectionLaws.{is-node, sections-well-formed}
 use Rattle.unification.proofs.JoinedLaws.{inside-more}
 use Rattle.classes.specs.declared.Extended.{Extended}

@@ -10,7 +10,7 @@ ghost use lib.ListN.{length};
 ghost use Rattle.table.specs.Layout.{word};
 ghost use Rattle.unification.specs.Outcome.{unified};
 ghost use Rattle.unification.specs.Computed.Unifying.{outcome};
-ghost use Rattle.unification.specs.Code.Sections.{nodesFrom};
+ghost use Rattle.unification.specs.Node.{nodesFrom};
 ghost use Rattle.branches.specs.Code.Branch.{Listable, pairsIn};
 ghost use Rattle.branches.specs.Code.Memory.{slotOf, Remembers};
 ghost use Rattle.branches.specs.Code.Walk.{Branching, Walking, Ending, Walked, Stepped, Joining, WalkedJoined};

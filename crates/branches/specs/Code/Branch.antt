@@ -11,7 +11,8 @@ use Rattle.table.specs.Layout.{word, nodeCount}
 use Rattle.terms.specs.Substitution.{Substitution}
 use Rattle.unification.specs.Unifier.{Unifies}
 use Rattle.unification.specs.Computed.Variables.{variablesOf}
-use Rattle.unification.specs.Code.Sections.{Sections, nodesFrom}
+use Rattle.unification.specs.Node.{nodesFrom}
+use Rattle.unification.specs.Code.Sections.{Sections}
 use Rattle.nodes.specs.Code.Formed.{Stands}
 use Rattle.branches.specs.declared.Labels.{Labels}
 

@@ -4,7 +4,7 @@ use mathlib.Core.List.{List}
 use mathlib.Core.Path.{_≡_}
 use lib.ListN.{length, take, drop}
 use Rattle.table.specs.Layout.{word, nodeCount}
-use Rattle.unification.specs.Code.Sections.{nodesFrom}
+use Rattle.unification.specs.Node.{nodesFrom}
 use Rattle.nodes.specs.Code.Open.{Counts}
 use Rattle.values.specs.Code.Present.{leastNodes}
 use Rattle.branches.specs.Code.Partners.{MayPair}

@@ -9,7 +9,7 @@ use Rattle.table.specs.Layout.{word, nodeCount}
 use Rattle.unification.specs.Outcome.{unified}
 use Rattle.unification.specs.Computed.Variables.{variablesOf}
 use Rattle.unification.specs.Computed.Unifying.{outcome, wordsOf}
-use Rattle.unification.specs.Code.Sections.{nodesFrom}
+use Rattle.unification.specs.Node.{nodesFrom}
 use Rattle.branches.specs.Code.Branch.{pairedBy, pairsIn, widthOf}
 
 -- How many keys are kept.

@@ -8,7 +8,8 @@ use lib.ListN.{length}
 use Rattle.table.specs.Limits.{maxTerms}
 use Rattle.table.specs.Some.{someBelow}
 use Rattle.table.specs.Layout.{word, nodeCount}
-use Rattle.unification.specs.Code.Sections.{Sections, nodesFrom}
+use Rattle.unification.specs.Node.{nodesFrom}
+use Rattle.unification.specs.Code.Sections.{Sections}
 use Rattle.nodes.specs.Code.Open.{Counts}
 use Rattle.nodes.specs.Code.Trail.{Trailed}
 use Rattle.nodes.specs.Code.Formed.{Formed}

@@ -6,10 +6,9 @@ use mathlib.Core.Path.{_≡_}
 use lib.Dec.{eqb, leb, ltb}
 use lib.ListN.{length, take, drop, set, replicate}
 use Rattle.table.specs.Layout.{word, nodeCount}
-use Rattle.unification.specs.Node.{Node}
+use Rattle.unification.specs.Node.{Node, nodesFrom}
 use Rattle.unification.specs.Outcome.{Outcome, unified, clash, occurs}
 use Rattle.unification.specs.Computed.Unifying.{outcome, wordsOf}
-use Rattle.unification.specs.Code.Sections.{nodesFrom}
 use Rattle.nodes.specs.Code.Trail.{Trailed}
 use Rattle.values.specs.Code.Prepared.{Prepared}
 use Rattle.nodes.specs.Code.Formed.{Formed}

@@ -5,11 +5,11 @@ use mathlib.Core.List.{List, _∷_, List·Memᴰ, zip}
 use mathlib.Core.Path.{_≡_}
 use lib.ListN.{length}
 use Rattle.table.specs.Layout.{countOf, nodeCount, argumentOf}
-use Rattle.unification.specs.Node.{Node, variable, application, nodeAt, tabulate}
+use Rattle.unification.specs.Node.{Node, variable, application, nodeAt, tabulate, nodesFrom}
 use Rattle.unification.specs.Closure.{Joined, Clash}
 use Rattle.unification.specs.Computed.Classes.{classOf}
 use Rattle.unification.specs.Code.Heads.{Partition, roots, Unites}
-use Rattle.unification.specs.Code.Sections.{Sections, nodesFrom}
+use Rattle.unification.specs.Code.Sections.{Sections}
 use Rattle.nodes.specs.Code.Open.{Counts, ClosedHeads, KeepsClosed}
 use Rattle.nodes.specs.Code.Trail.{Trailed, Merges}
 

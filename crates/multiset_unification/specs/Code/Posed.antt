@@ -1,4 +1,4 @@
--- What laws need of a problem: arguments come before their nodes, terms are nodes, and no label stands twice. The problem of an accepted table has it (`posed`).
+-- What laws need of a problem: arguments come before their nodes, terms are nodes, and no label stands twice.
 use Prim.Native.Nat.{ℕ, _<_}
 use mathlib.Core.List.{List, List·Memᴰ}
 use mathlib.Core.Path.{_≡_}
@@ -22,6 +22,7 @@ pub record HalfPosed (n : ℕ) (h : Half) : Type 0 where
 abbrev pub NoCommon : Half → Half → Type 0
 NoCommon h g = (l : ℕ) → List·Memᴰ l (halfLabels h) → List·Memᴰ l (halfLabels g) → ⊥
 
+-- What is needed of a problem. That of an accepted table has it (`posed`).
 pub record Posed (p : Problem) : Type 0 where
   pub well-formed : WellFormed (p .nodes)
   pub each : (h : Half) → List·Memᴰ h (p .halves) → HalfPosed (length (p .nodes)) h

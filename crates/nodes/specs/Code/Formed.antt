@@ -5,7 +5,7 @@ use mathlib.Core.Path.{_≡_}
 use Rattle.table.specs.Layout.{word, kindOf, nameOf, countOf, nodeCount}
 use Rattle.unification.specs.Computed.Classes.{classOf}
 use Rattle.unification.specs.Code.Given.{Inside}
-use Rattle.unification.specs.Code.Sections.{nodesFrom}
+use Rattle.unification.specs.Node.{nodesFrom}
 use Rattle.unification.specs.Code.Heads.{Partition}
 use Rattle.unification.specs.Code.Solved.{IsClosure}
 use Rattle.nodes.specs.Code.Open.{ClosedHeads}

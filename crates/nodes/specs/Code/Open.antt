@@ -10,7 +10,7 @@ use Rattle.table.specs.Layout.{word, kindOf, countOf, nodeCount, argumentOf}
 use Rattle.terms.specs.Term.{var}
 use Rattle.unification.specs.Unifier.{value}
 use Rattle.unification.specs.Computed.Classes.{classOf}
-use Rattle.unification.specs.Code.Sections.{nodesFrom}
+use Rattle.unification.specs.Node.{nodesFrom}
 
 -- Node i is a closed application: none of its arguments is looked at.
 pub record IsClosed (nodes counts : List ℕ) (i : ℕ) : Type 0 where

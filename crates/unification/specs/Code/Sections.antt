@@ -7,11 +7,6 @@ use lib.Dec.{eqb}
 use lib.ListN.{length}
 use Rattle.table.specs.Limits.{nodeWords, maxNodes, maxVariable, maxCount}
 use Rattle.table.specs.Layout.{kindOf, nameOf, firstOf, countOf, nodeCount, argumentOf}
-use Rattle.unification.specs.Node.{Node, tabulate, readNode}
-
--- The nodes that the two sections hold. Those of a table are `nodesIn`.
-unfoldable pub nodesFrom : List ℕ → List ℕ → List Node
-nodesFrom nodes arguments = tabulate (nodeCount nodes) (readNode nodes arguments)
 
 -- Whether applications g and h have one symbol.
 abbrev pub symbolTest : List ℕ → ℕ → ℕ → Bool

@@ -8,7 +8,7 @@ use Rattle.terms.specs.Substitution.{Substitution}
 use Rattle.unification.specs.Unifier.{Unifies}
 use Rattle.unification.specs.Computed.Unifying.{wordsOf}
 use Rattle.unification.specs.Computed.Variables.{variablesOf}
-use Rattle.unification.specs.Code.Sections.{nodesFrom}
+use Rattle.unification.specs.Node.{nodesFrom}
 use Rattle.values.specs.declared.Variables.{Variables}
 use Rattle.nodes.specs.Code.Open.{Counts}
 use Rattle.nodes.specs.Code.Circle.{HeadsFirst}

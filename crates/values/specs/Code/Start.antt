@@ -9,7 +9,7 @@ use Rattle.table.specs.Layout.{word, kindOf, nameOf, nodeCount}
 use Rattle.terms.specs.Substitution.{Substitution}
 use Rattle.unification.specs.Unifier.{Unifies}
 use Rattle.unification.specs.Computed.Solution.{nodeOf}
-use Rattle.unification.specs.Code.Sections.{nodesFrom}
+use Rattle.unification.specs.Node.{nodesFrom}
 use Rattle.nodes.specs.Code.Open.{Counts}
 use Rattle.nodes.specs.Code.Circle.{HeadsFirst}
 use Rattle.nodes.specs.Code.Formed.{Formed, Stands}

@@ -6,7 +6,7 @@ use native.Mathlib.Omega.{arith}
 use borrow.Author.Needs.{needs}
 use borrow.Author.Tests.{eqb-true}
 use lib.ListN.{length}
-use Rattle.unification.specs.Code.Sections.{nodesFrom}
+use Rattle.unification.specs.Node.{nodesFrom}
 use Rattle.branches.specs.Code.Branch.{widthOf}
 use Rattle.values.proofs.LeastLaws.{least-long}
 use Rattle.branches.proofs.KnownLaws.{variables-few, listed-least}
