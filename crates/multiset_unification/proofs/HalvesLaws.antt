@@ -100,12 +100,6 @@ cross-rises dss ess r s =
     further : (x y : List ℕ) → Before x y → (u v : List ℕ) → (xs : List ℕ) × List·Memᴰ xs ess × (x ++ xs ≡ u) → (ys : List ℕ) × List·Memᴰ ys ess × (y ++ ys ≡ v) → Before u v
     further x y b u v (xs, m, p) (ys, n, q) = rw (← p, ← q) (before-behind xs ys b)
 
--- they stand in strictly rising order of their digits
-pub halves-rise : (hs : List Half) → Rising Before (halvesChoices hs)
-unfolding halvesChoices
-halves-rise [] = before (λ y m. absurd (List·Memᴰ·not-nil m)) end
-halves-rise (h ∷ hs) = cross-rises (halfChoices h) (halvesChoices hs) (half-rise h) (halves-rise hs)
-
 module _ (p : Problem) where
   -- the pairs of a problem's choice are those of each half
   pub pairs-each : (ds : List ℕ) (a b : ℕ) → List·Memᴰ (a, b) (pairsOf p ds) ↔ ((s : Half × List ℕ) × List·Memᴰ s (shares (p .halves) ds) × List·Memᴰ (a, b) (halfPairs (s .0) (s .1)))
@@ -199,3 +193,9 @@ module _ (ns : List Node) where
             equal = equal-pairs (over (h ∷ hs)) v (ds ++ r .digits) .1 (each-then (λ k es. EqualPairs v (halfPairs k es)) h hs ds (r .digits) (c .long) q (equal-pairs (over hs) v (r .digits) .0 (r .equal)));
             filled = each-then (λ k es. HalfFilled k es v (A .labels)) h hs ds (r .digits) (c .long) f (r .filled);
           }
+
+-- the choices stand in strictly rising order of their digits
+pub halves-rise : (hs : List Half) → Rising Before (halvesChoices hs)
+unfolding halvesChoices
+halves-rise [] = before (λ y m. absurd (List·Memᴰ·not-nil m)) end
+halves-rise (h ∷ hs) = cross-rises (halfChoices h) (halvesChoices hs) (half-rise h) (halves-rise hs)

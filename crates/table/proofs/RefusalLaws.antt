@@ -1,13 +1,13 @@
 -- A refusal is given exactly if its condition holds and none before it: laws of any list of conditions, by induction on it, and
 -- then of those of a table. Assumes nothing.
 use Prim.Native.Nat.{ℕ, suc, _<_}
-use mathlib.Core.Bool.{Bool, true, false}
+use mathlib.Core.Bool.{Bool, true, false, not}
 use mathlib.Core.Path.{_≡_, refl, sym}
 use mathlib.Core.Logic.{_↔_}
 use mathlib.Core.List.{List, [], _∷_, _++_, map, List·Memᴰ, List·Memᴰ·head, List·Memᴰ·tail}
 use native.Mathlib.Omega.{arith}
-use borrow.Author.Tests.{ltb-true}
-use lib.Dec.{ltb}
+use borrow.Author.Tests.{ltb-true, eqb-false, not-true}
+use lib.Dec.{eqb, ltb}
 use lib.ListN.{drop}
 use Rattle.table.specs.Refusal.{conditions, firstHeld, refusal}
 use Rattle.table.proofs.BoolLaws.{and-true-left, and-true-right}
@@ -100,14 +100,24 @@ pub refused : (t : List ℕ) (n : ℕ) → refusal t ≡ n ↔ First n (conditio
 unfolding refusal
 refused t n = first-means n (conditions t)
 
+-- "Each number is tried over the whole table before the next.": from 1 to 7
+pub conditions-rise : (t : List ℕ) → numbersOf (conditions t) ≡ 1 ∷ 2 ∷ 3 ∷ 4 ∷ 5 ∷ 6 ∷ 7 ∷ []
+unfolding conditions
+conditions-rise t = refl
+
 pub conditions-numbered : (t : List ℕ) → Numbered (conditions t)
 unfolding conditions
 conditions-numbered t = refl
 
--- checking a table gives none of the refusals that other operations add
-pub refusal-among : (t : List ℕ) → List·Memᴰ (refusal t) (0 ∷ 1 ∷ 2 ∷ 3 ∷ 4 ∷ 5 ∷ 6 ∷ 7 ∷ [])
-unfolding refusal conditions
-refusal-among t = held-number (conditions t)
+-- checking a table gives no number but 0 and those of its conditions, so none of the refusals that other operations add
+pub refusal-not : (t : List ℕ) (n : ℕ) → every (λ (m : ℕ). not (eqb m n)) (0 ∷ numbersOf (conditions t)) ≡ true → refusal t ≡ n → ⊥
+unfolding refusal
+refusal-not t n e = eqb-false (refusal t) n (not-true _ (held-has (λ (m : ℕ). not (eqb m n)) (conditions t) e))
+
+-- neither 8 nor 9
+pub refusal-own : (t : List ℕ) → (refusal t ≡ 8 → ⊥) × (refusal t ≡ 9 → ⊥)
+unfolding conditions
+refusal-own t = (refusal-not t 8 refl, refusal-not t 9 refl)
 
 -- the step from one condition to the next
 pub not-held : (c : ℕ × Bool) (cs : List (ℕ × Bool)) → c .1 ≡ false → firstHeld (c ∷ cs) ≡ firstHeld cs
