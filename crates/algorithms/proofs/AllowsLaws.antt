@@ -53,7 +53,9 @@ places-same ks g rest h u =
 
 module _ (t : Sides) (e : List ℕ) (ok : Posed (problem t)) (m : List·Memᴰ e (admissibleListing (problem t))) (A : Assignment) where
   choice : HalfChoice (t .half) (digitsOf (problem t) e)
-  choice = one-choice (t .half) (t .nodes) (digitsOf (problem t) e) .0 (listing-digits (problem t) ok .1 (digitsOf (problem t) e) .0 (Memᴰ·map (digitsOf (problem t)) m) .0)
+  choice =
+      one-choice (t .half) (t .nodes) (digitsOf (problem t) e) .0
+      (listing-digits (problem t) ok .1 (digitsOf (problem t) e) .0 (Memᴰ·map (digitsOf (problem t)) m) .0)
 
   -- the half has all digits
   digits-long : length (digitsOf (problem t) e) ≡ halfDigits (t .half)
@@ -62,7 +64,8 @@ module _ (t : Sides) (e : List ℕ) (ok : Posed (problem t)) (m : List·Memᴰ e
   -- the unifier is that of the entry's pairs, and so can be read from its words
   unifier-read : Reads (t .nodes) (bindingsOf (problem t) e) (unifierIn t e)
   unifier-read =
-      rw (pairs-stand t (digitsOf (problem t) e) choice, ← one-pairs (t .half) (t .nodes) (digitsOf (problem t) e) choice) (entry-readable (problem t) e ok m)
+      rw (pairs-stand t (digitsOf (problem t) e) choice, ← one-pairs (t .half) (t .nodes) (digitsOf (problem t) e) choice)
+      (entry-readable (problem t) e ok m)
 
   on-terms : (x : ℕ) → unifierOf t (entryResult t e) .onTerms x ≡ unifierIn t e x
   unfolding unifierOf compose sub entryResult choiceResult goneOverAs
@@ -78,13 +81,15 @@ module _ (t : Sides) (e : List ℕ) (ok : Posed (problem t)) (m : List·Memᴰ e
 
   -- The labels hold what the digits put there, under these values, and rests.
   abbrev FilledAfter : Substitution → Type 0
-  FilledAfter ρ = Filled (t .half .left) (t .half .leftLabels) (t .half .right) (t .half .rightLabels) (digitsOf (problem t) e) (valueAfter ρ) (A .labels)
+  FilledAfter ρ =
+      Filled (t .half .left) (t .half .leftLabels) (t .half .right) (t .half .rightLabels) (digitsOf (problem t) e) (valueAfter ρ) (A .labels)
 
   -- an instance is filled under the unifier of the pairs as it is under its own
   instance-filled : (n : Instance (problem t) A e) → FilledAfter (n .after)
   instance-filled n =
       let g = value-agree (t .nodes) (ok .well-formed) (n .unifier) (unifierIn t e) (entry-one-reading (problem t) e ok m (n .unifier) (unifierIn t e) (n .read) unifier-read) in
-      filled-same (t .half .left) (t .half .leftLabels) (t .half .right) (t .half .rightLabels) (digitsOf (problem t) e) (λ a. sub (n .after) (value (t .nodes) (n .unifier) a)) (valueAfter (n .after)) (A .labels)
+      filled-same (t .half .left) (t .half .leftLabels) (t .half .right) (t .half .rightLabels) (digitsOf (problem t) e)
+      (λ a. sub (n .after) (value (t .nodes) (n .unifier) a)) (valueAfter (n .after)) (A .labels)
       (λ i h. ap (sub (n .after)) (g (word (t .half .left) i) (one-posed (t .half) (t .nodes) ok .left-node i h)))
       (λ j h. ap (sub (n .after)) (g (word (t .half .right) j) (one-posed (t .half) (t .nodes) ok .right-node j h)))
       (one-share (t .half) (λ h ds. HalfFilled h ds (λ a. sub (n .after) (value (t .nodes) (n .unifier) a)) (A .labels)) (digitsOf (problem t) e) digits-long .0 (n .labels))
@@ -108,7 +113,9 @@ module _ (t : Sides) (e : List ℕ) (ok : Posed (problem t)) (m : List·Memᴰ e
       rest : ℕ → List Term
       rest M = flatMap (a .rests) (restsIn t e M)
 
-      balance : Same (flatten (tabulate (length (t .half .leftLabels)) (λ p. rest (word (t .half .leftLabels) p)))) (flatten (tabulate (length (t .half .rightLabels)) (λ q. rest (word (t .half .rightLabels) q))))
+      balance :
+          Same (flatten (tabulate (length (t .half .leftLabels)) (λ p. rest (word (t .half .leftLabels) p))))
+          (flatten (tabulate (length (t .half .rightLabels)) (λ q. rest (word (t .half .rightLabels) q))))
       balance u =
           sym (places-same (t .half .leftLabels) rest (λ p. rest (word (t .half .leftLabels) p)) (λ p h. refl) u)
           ∙ sym (ap (occurrences u) (rests-flat (unifierOf t (entryResult t e)) (a .rests) (t .half .leftLabels)))
@@ -128,7 +135,9 @@ module _ (t : Sides) (e : List ℕ) (ok : Posed (problem t)) (m : List·Memᴰ e
             ∙ f .balance u
             ∙ sym (places-same (t .half .rightLabels) (λ M. flatMap rests (restsIn t e M)) (f .rightRest) right-rest u)
             ∙ sym (ap (occurrences u) (rests-flat (unifierOf t (entryResult t e)) rests (t .half .rightLabels)));
-        variables = λ x p. n .variables x p ∙ ap (sub (n .after)) (entry-one-reading (problem t) e ok m (n .unifier) (unifierIn t e) (n .read) unifier-read x p ∙ sym (on-terms x));
+        variables =
+            λ x p. n .variables x p
+            ∙ ap (sub (n .after)) (entry-one-reading (problem t) e ok m (n .unifier) (unifierIn t e) (n .read) unifier-read x p ∙ sym (on-terms x));
         labels = λ M i. held M (List·Memᴰ·append-cases (t .half .leftLabels) i);
       }
     where
@@ -143,7 +152,8 @@ module _ (t : Sides) (e : List ℕ) (ok : Posed (problem t)) (m : List·Memᴰ e
 
       left-rest : (p : ℕ) → p < length (t .half .leftLabels) → flatMap rests (restsIn t e (word (t .half .leftLabels) p)) ≡ f .leftRest p
       left-rest p h =
-          rest-stands (f .leftRest p) restIn (λ z. f .no-right (length-none (t .half .rightLabels) (eqb-true (length (t .half .rightLabels)) 0 z)) p h)
+          rest-stands (f .leftRest p) restIn
+          (λ z. f .no-right (length-none (t .half .rightLabels) (eqb-true (length (t .half .rightLabels)) 0 z)) p h)
           (held-left (t .half .leftLabels) (t .half .rightLabels) (f .leftRest) (f .rightRest) (one-posed (t .half) (t .nodes) ok .once) p h)
           (left-maps t e ok .rests p h)
 
@@ -167,5 +177,6 @@ module _ (t : Sides) (e : List ℕ) (ok : Posed (problem t)) (m : List·Memᴰ e
       held M (inr i) = let s = member-place (t .half .rightLabels) M i in rw (s .2) (in-right (s .0) (s .1))
 
 -- the instances of an entry are the assignments that Algorithm 1's unifier leaves room for: no rest where it gives none, otherwise any that balance
-pub instance-allowed : (t : Sides) (e : List ℕ) → Posed (problem t) → List·Memᴰ e (admissibleListing (problem t)) → (A : Assignment) → Instance (problem t) A e ↔ Allows t (unifierOf t (entryResult t e)) A
+pub instance-allowed : (t : Sides) (e : List ℕ) → Posed (problem t) → List·Memᴰ e (admissibleListing (problem t)) → (A : Assignment) →
+    Instance (problem t) A e ↔ Allows t (unifierOf t (entryResult t e)) A
 instance-allowed t e ok m A = (instance-allows t e ok m A, allows-instance t e ok m A)

@@ -42,14 +42,16 @@ module _ (t : Sides) where
   abbrev unifying : List (ℕ × ℕ) → Outcome
   unifying ps = outcome (t .nodes) (nodePairs t ps)
 
-  by-tags : (ds : List ℕ) → HalfChoice (t .half) ds → IsChoice (length (leftTags t)) (length (rightTags t)) (length (t .half .leftLabels)) (length (t .half .rightLabels)) ds
+  by-tags : (ds : List ℕ) → HalfChoice (t .half) ds →
+      IsChoice (length (leftTags t)) (length (rightTags t)) (length (t .half .leftLabels)) (length (t .half .rightLabels)) ds
   by-tags ds c = rw (left-tags-long t, right-tags-long t) c
 
   -- what Algorithm 1 goes over are document 01's choices in another order, each one time, with its pairs and with what it puts in each label
   pub goes-over-choices : List·Permᴰ (goneOver t) (map (choiceResult t) (halfChoices (t .half)))
   unfolding goneOver choiceResult halfChoices
   goes-over-choices =
-      rw (left-tags-long t, right-tags-long t) at (goes-over (leftTags t) (t .half .leftLabels) (rightTags t) (t .half .rightLabels) (left-tags-distinct t) (right-tags-distinct t))
+      rw
+      (left-tags-long t, right-tags-long t) at (goes-over (leftTags t) (t .half .leftLabels) (rightTags t) (t .half .rightLabels) (left-tags-distinct t) (right-tags-distinct t))
 
   -- nothing is gone over twice
   pub gone-over-once : Distinct (goneOver t)
@@ -61,7 +63,8 @@ module _ (t : Sides) where
   pub choices-told : (ds es : List ℕ) → HalfChoice (t .half) ds → HalfChoice (t .half) es → choiceResult t ds ≡ choiceResult t es → ds ≡ es
   unfolding choiceResult
   choices-told ds es c d =
-      result-tells (leftTags t) (t .half .leftLabels) (rightTags t) (t .half .rightLabels) (left-tags-distinct t) (right-tags-distinct t) ds es (by-tags ds c) (by-tags es d)
+      result-tells (leftTags t) (t .half .leftLabels) (rightTags t) (t .half .rightLabels) (left-tags-distinct t) (right-tags-distinct t) ds es
+      (by-tags ds c) (by-tags es d)
 
   -- Algorithm 1 keeps of what it goes over just what unify_lists unifies
   pub keeps-unified : algorithm1 t ≡ keepResults unifying (goneOver t)
@@ -79,14 +82,18 @@ module _ (t : Sides) where
   choice-gone-over : (ds : List ℕ) → HalfChoice (t .half) ds → List·Memᴰ (choiceResult t ds) (goneOver t)
   unfolding choiceResult goneOver
   choice-gone-over ds c =
-      choice-over (leftTags t) (t .half .leftLabels) (rightTags t) (t .half .rightLabels) (left-tags-distinct t) (right-tags-distinct t) ds (by-tags ds c)
+      choice-over (leftTags t) (t .half .leftLabels) (rightTags t) (t .half .rightLabels) (left-tags-distinct t) (right-tags-distinct t) ds
+      (by-tags ds c)
 
   -- the outcome decides whether the pairs have a unifier
-  pairs-decided : Posed (problem t) → (ds : List ℕ) → HalfChoice (t .half) ds → outcome (t .nodes) (halfPairs (t .half) ds) ≡ unified ↔ Unifiable (t .nodes) (halfPairs (t .half) ds)
-  pairs-decided g ds c = outcome-unified (t .nodes) (g .well-formed) (halfPairs (t .half) ds) (half-inside (t .half) (one-posed (t .half) (t .nodes) g) ds c)
+  pairs-decided : Posed (problem t) → (ds : List ℕ) → HalfChoice (t .half) ds →
+      outcome (t .nodes) (halfPairs (t .half) ds) ≡ unified ↔ Unifiable (t .nodes) (halfPairs (t .half) ds)
+  pairs-decided g ds c =
+      outcome-unified (t .nodes) (g .well-formed) (halfPairs (t .half) ds) (half-inside (t .half) (one-posed (t .half) (t .nodes) g) ds c)
 
   -- a choice is admissible exactly if unify_terms keeps it
-  pub admissible-kept : Posed (problem t) → (ds : List ℕ) → HalfChoice (t .half) ds → Admissible (problem t) ds ↔ List·Memᴰ (choiceResult t ds) (algorithm1 t)
+  pub admissible-kept : Posed (problem t) → (ds : List ℕ) → HalfChoice (t .half) ds →
+      Admissible (problem t) ds ↔ List·Memᴰ (choiceResult t ds) (algorithm1 t)
   admissible-kept g ds c = (there, back)
     where
       there : Admissible (problem t) ds → List·Memᴰ (choiceResult t ds) (algorithm1 t)
@@ -101,7 +108,8 @@ module _ (t : Sides) where
           one-admissible (t .half) (t .nodes) ds .1 (c, pairs-decided g ds c .0 (sym (choice-unifying ds c) ∙ e))
 
   -- what is kept is that of an admissible choice
-  kept-admissible : Posed (problem t) → (r : Result) → List·Memᴰ r (algorithm1 t) → (ds : List ℕ) × Admissible (problem t) ds × (r ≡ choiceResult t ds)
+  kept-admissible : Posed (problem t) → (r : Result) → List·Memᴰ r (algorithm1 t) →
+      (ds : List ℕ) × Admissible (problem t) ds × (r ≡ choiceResult t ds)
   kept-admissible g r m =
       let s = kept-from (λ q. unifying (q .pairing)) (λ q. q) (goneOver t) r (rw keeps-unified at m) in
       let c = Memᴰ·of-map (choiceResult t) (halfChoices (t .half)) (permuted-member goes-over-choices (s .0) (s .1)) in
@@ -109,11 +117,13 @@ module _ (t : Sides) where
       (c .0, admissible-kept g (c .0) (half-choices (t .half) (c .0) .0 (c .1)) .1 (rw e at m), e)
 
   -- σ_t is a most general unifier of the pairs
-  pub kept-most-general : Posed (problem t) → (r : Result) → List·Memᴰ r (algorithm1 t) → MostGeneral (t .nodes) (nodePairs t (r .pairing)) (unifierOf t r .onTerms)
+  pub kept-most-general : Posed (problem t) → (r : Result) → List·Memᴰ r (algorithm1 t) →
+      MostGeneral (t .nodes) (nodePairs t (r .pairing)) (unifierOf t r .onTerms)
   unfolding unifierOf compose sub
   kept-most-general g r m = go (kept-admissible g r m)
     where
-      go : (ds : List ℕ) × Admissible (problem t) ds × (r ≡ choiceResult t ds) → MostGeneral (t .nodes) (nodePairs t (r .pairing)) (unifier (t .nodes) (nodePairs t (r .pairing)))
+      go : (ds : List ℕ) × Admissible (problem t) ds × (r ≡ choiceResult t ds) →
+          MostGeneral (t .nodes) (nodePairs t (r .pairing)) (unifier (t .nodes) (nodePairs t (r .pairing)))
       go (ds, a, e) =
           let b = one-admissible (t .half) (t .nodes) ds .0 a in
           rw (ap (λ (q : Result). nodePairs t (q .pairing)) e ∙ choice-pairs ds (b .0))
@@ -139,7 +149,9 @@ module _ (t : Sides) where
   listing-results = rw (keeps-unified, listing-kept) (permuted-flat (λ r. kept (unifying (r .pairing)) r) goes-over-choices)
 
 -- demand 2: the entries that a finished call leaves are what Algorithm 1 gives, in document 01's order
-pub finished-results : (t lent : List ℕ) → listed (conditions t) (completeListing (problemOf t)) (length lent) .answer ≡ 0 → List·Permᴰ (algorithm1 (sidesOf t)) (map (entryResult (sidesOf t)) (entriesIn (problemOf t) (listed (conditions t) (completeListing (problemOf t)) (length lent) .entries) (lentAfter (conditions t) (completeListing (problemOf t)) lent)))
+pub finished-results : (t lent : List ℕ) → listed (conditions t) (completeListing (problemOf t)) (length lent) .answer ≡ 0 →
+    List·Permᴰ (algorithm1 (sidesOf t))
+    (map (entryResult (sidesOf t)) (entriesIn (problemOf t) (listed (conditions t) (completeListing (problemOf t)) (length lent) .entries) (lentAfter (conditions t) (completeListing (problemOf t)) lent)))
 finished-results t lent e =
     let f = page14-finished (problemOf t) (conditions t) (table-refusals t) (held-posed t) lent e in
     let g = held-posed t (finished-exactly (conditions t) (completeListing (problemOf t)) (length lent) (table-refusals t) .0 e .0) in

@@ -52,7 +52,8 @@ context-label false M [] = refl
 context-label false M (a ∷ ts) = refl
 
 -- a label is mapped as is said at its place
-image-at : (t : Sides) (b : Bool) (ks : List ℕ) (ps : List (List ℕ)) (cs : Contexts) → length ks ≡ length ps → Different ks → (p : ℕ) → p < length ks → image t (zipWith (context b) ks ps ++ cs) (word ks p) ≡ standing t (context b (word ks p) (getD ps p []) .1)
+image-at : (t : Sides) (b : Bool) (ks : List ℕ) (ps : List (List ℕ)) (cs : Contexts) → length ks ≡ length ps → Different ks → (p : ℕ) →
+    p < length ks → image t (zipWith (context b) ks ps ++ cs) (word ks p) ≡ standing t (context b (word ks p) (getD ps p []) .1)
 unfolding image zipWith
 image-at t b [] ps cs l d p h = absurd (omega arith)
 image-at t b (k ∷ ks) [] cs l d p h = absurd (omega arith)
@@ -62,7 +63,8 @@ image-at t b (k ∷ ks) (P ∷ ps) cs l d (suc p) h =
     (image-at t b ks ps cs (omega arith) (λ i j x y. d (suc i) (suc j) (omega arith) (omega arith)) p (omega arith))
 
 -- another one by what comes after
-image-after : (t : Sides) (b : Bool) (ks : List ℕ) (ps : List (List ℕ)) (cs : Contexts) (x : ℕ) → ((p : ℕ) → p < length ks → x ≡ word ks p → ⊥) → image t (zipWith (context b) ks ps ++ cs) x ≡ image t cs x
+image-after : (t : Sides) (b : Bool) (ks : List ℕ) (ps : List (List ℕ)) (cs : Contexts) (x : ℕ) → ((p : ℕ) → p < length ks → x ≡ word ks p → ⊥) →
+    image t (zipWith (context b) ks ps ++ cs) x ≡ image t cs x
 unfolding image zipWith
 image-after t b [] ps cs x h = refl
 image-after t b (k ∷ ks) [] cs x h = refl
@@ -80,7 +82,8 @@ module _ (t : Sides) (e : List ℕ) where
   mapped M = unifierOf t (entryResult t e) .onVariables (given M)
 
   -- the terms are under the unifier
-  mapped-terms : (M : ℕ) (S : Mmset ℕ) → image t (entryResult t e .contexts) M ≡ standing t S → mapped M .terms ≡ map (value (t .nodes) unifierIn) (map (nodeOf t) (S .terms))
+  mapped-terms : (M : ℕ) (S : Mmset ℕ) → image t (entryResult t e .contexts) M ≡ standing t S →
+      mapped M .terms ≡ map (value (t .nodes) unifierIn) (map (nodeOf t) (S .terms))
   unfolding unifierOf compose apply onContexts standing entryResult choiceResult goneOverAs
   mapped-terms M S h =
       rw (h, itself-alone (S .variables))
@@ -100,7 +103,10 @@ module _ (t : Sides) (e : List ℕ) where
   maps : (exact : Bool) (ks : List ℕ) (tags part : ℕ → List ℕ) → ((p : ℕ) → p < length ks → image t (entryResult t e .contexts) (word ks p) ≡ standing t (context exact (word ks p) (tags p) .1)) → ((p : ℕ) → map (nodeOf t) (tags p) ≡ part p) → Maps exact ks part
   maps exact ks tags part h s =
       record {
-        terms = λ p l. mapped-terms (word ks p) (context exact (word ks p) (tags p) .1) (h p l) ∙ ap (λ (us : List ℕ). map (value (t .nodes) unifierIn) (map (nodeOf t) us)) (context-terms exact (word ks p) (tags p)) ∙ ap (map (value (t .nodes) unifierIn)) (s p);
+        terms =
+            λ p l. mapped-terms (word ks p) (context exact (word ks p) (tags p) .1) (h p l)
+            ∙ ap (λ (us : List ℕ). map (value (t .nodes) unifierIn) (map (nodeOf t) us)) (context-terms exact (word ks p) (tags p))
+            ∙ ap (map (value (t .nodes) unifierIn)) (s p);
         rests = λ p l. rw (mapped-variables (word ks p) (context exact (word ks p) (tags p) .1) (h p l)) (context-rests exact (word ks p) (tags p));
       }
 
@@ -112,16 +118,19 @@ module _ (t : Sides) (e : List ℕ) where
     abbrev rightTagsAt : ℕ → List ℕ
     rightTagsAt = inRight (leftTags t) (rightTags t) (digitsOf (problem t) e)
 
-    left-image : (p : ℕ) → p < length (t .half .leftLabels) → image t (entryResult t e .contexts) (word (t .half .leftLabels) p) ≡ standing t (context (eqb (length (t .half .rightLabels)) 0) (word (t .half .leftLabels) p) (leftTagsAt p) .1)
+    left-image : (p : ℕ) → p < length (t .half .leftLabels) →
+        image t (entryResult t e .contexts) (word (t .half .leftLabels) p) ≡ standing t (context (eqb (length (t .half .rightLabels)) 0) (word (t .half .leftLabels) p) (leftTagsAt p) .1)
     unfolding entryResult choiceResult goneOverAs
     left-image p h =
         let ks = t .half .leftLabels in
         let qs = t .half .rightLabels in
         let b = eqb (length qs) 0 in
-        image-at t b ks (tabulate (length ks) leftTagsAt) _ (sym (tabulate-length (length ks) leftTagsAt)) (left-different ks qs (one-posed (t .half) (t .nodes) ok .once)) p h
+        image-at t b ks (tabulate (length ks) leftTagsAt) _ (sym (tabulate-length (length ks) leftTagsAt))
+        (left-different ks qs (one-posed (t .half) (t .nodes) ok .once)) p h
         ∙ ap (λ (us : List ℕ). standing t (context b (word ks p) us .1)) (tabulate-at (length ks) leftTagsAt [] p h)
 
-    right-image : (q : ℕ) → q < length (t .half .rightLabels) → image t (entryResult t e .contexts) (word (t .half .rightLabels) q) ≡ standing t (context (eqb (length (t .half .leftLabels)) 0) (word (t .half .rightLabels) q) (rightTagsAt q) .1)
+    right-image : (q : ℕ) → q < length (t .half .rightLabels) →
+        image t (entryResult t e .contexts) (word (t .half .rightLabels) q) ≡ standing t (context (eqb (length (t .half .leftLabels)) 0) (word (t .half .rightLabels) q) (rightTagsAt q) .1)
     unfolding entryResult choiceResult goneOverAs
     right-image q h =
         let ks = t .half .leftLabels in
@@ -129,14 +138,17 @@ module _ (t : Sides) (e : List ℕ) where
         let b = eqb (length ks) 0 in
         image-after t (eqb (length qs) 0) ks _ _ (word qs q) (λ p l. sides-different ks qs (one-posed (t .half) (t .nodes) ok .once) p q l h)
         ∙ ap (λ (cs : Contexts). image t cs (word qs q)) (sym (append-nil (zipWith (context b) qs (tabulate (length qs) rightTagsAt))))
-        ∙ image-at t b qs (tabulate (length qs) rightTagsAt) [] (sym (tabulate-length (length qs) rightTagsAt)) (right-different ks qs (one-posed (t .half) (t .nodes) ok .once)) q h
+        ∙ image-at t b qs (tabulate (length qs) rightTagsAt) [] (sym (tabulate-length (length qs) rightTagsAt))
+        (right-different ks qs (one-posed (t .half) (t .nodes) ok .once)) q h
         ∙ ap (λ (us : List ℕ). standing t (context b (word qs q) us .1)) (tabulate-at (length qs) rightTagsAt [] q h)
 
     -- the labels of both sides are mapped to the terms that the digits put there; there is no rest where the other side has no label
-    pub left-maps : Maps (eqb (length (t .half .rightLabels)) 0) (t .half .leftLabels) (inLeft (t .half .left) (t .half .right) (digitsOf (problem t) e))
+    pub left-maps :
+        Maps (eqb (length (t .half .rightLabels)) 0) (t .half .leftLabels) (inLeft (t .half .left) (t .half .right) (digitsOf (problem t) e))
     left-maps = maps _ (t .half .leftLabels) leftTagsAt _ left-image (lefts-stand t (digitsOf (problem t) e))
 
-    pub right-maps : Maps (eqb (length (t .half .leftLabels)) 0) (t .half .rightLabels) (inRight (t .half .left) (t .half .right) (digitsOf (problem t) e))
+    pub right-maps :
+        Maps (eqb (length (t .half .leftLabels)) 0) (t .half .rightLabels) (inRight (t .half .left) (t .half .right) (digitsOf (problem t) e))
     right-maps = maps _ (t .half .rightLabels) rightTagsAt _ right-image (rights-stand t (digitsOf (problem t) e))
 
 rests-none : {M : ℕ} {b : Bool} {vs : List MultisetVariable} → b ≡ true → Rests M b vs → vs ≡ []
@@ -150,26 +162,32 @@ rests-one e kept = inl refl
 rests-one e new = inr refl
 
 -- where the other side has no label, a label has no rest
-pub exact-left : (t : Sides) (e : List ℕ) → Posed (problem t) → t .half .rightLabels ≡ [] → (M : ℕ) → List·Memᴰ M (t .half .leftLabels) → restsIn t e M ≡ []
+pub exact-left : (t : Sides) (e : List ℕ) → Posed (problem t) → t .half .rightLabels ≡ [] → (M : ℕ) → List·Memᴰ M (t .half .leftLabels) →
+    restsIn t e M ≡ []
 exact-left t e ok z M m =
     let s = member-place (t .half .leftLabels) M m in
     rw (s .2) (rests-none (eq-eqb (length (t .half .rightLabels)) 0 (ap length z)) (left-maps t e ok .rests (s .0) (s .1)))
 
-pub exact-right : (t : Sides) (e : List ℕ) → Posed (problem t) → t .half .leftLabels ≡ [] → (M : ℕ) → List·Memᴰ M (t .half .rightLabels) → restsIn t e M ≡ []
+pub exact-right : (t : Sides) (e : List ℕ) → Posed (problem t) → t .half .leftLabels ≡ [] → (M : ℕ) → List·Memᴰ M (t .half .rightLabels) →
+    restsIn t e M ≡ []
 exact-right t e ok z M m =
     let s = member-place (t .half .rightLabels) M m in
     rw (s .2) (rests-none (eq-eqb (length (t .half .leftLabels)) 0 (ap length z)) (right-maps t e ok .rests (s .0) (s .1)))
 
 -- otherwise it has one, for which a variable of its own stands
-pub rest-left : (t : Sides) (e : List ℕ) → Posed (problem t) → (t .half .rightLabels ≡ [] → ⊥) → (M : ℕ) → List·Memᴰ M (t .half .leftLabels) → (restsIn t e M ≡ given M ∷ []) ⊎ (restsIn t e M ≡ fresh M ∷ [])
+pub rest-left : (t : Sides) (e : List ℕ) → Posed (problem t) → (t .half .rightLabels ≡ [] → ⊥) → (M : ℕ) → List·Memᴰ M (t .half .leftLabels) →
+    (restsIn t e M ≡ given M ∷ []) ⊎ (restsIn t e M ≡ fresh M ∷ [])
 rest-left t e ok z M m =
     let s = member-place (t .half .leftLabels) M m in
-    rw (s .2) (rests-one (ne-eqb (length (t .half .rightLabels)) 0 (λ q. z (length-none (t .half .rightLabels) q))) (left-maps t e ok .rests (s .0) (s .1)))
+    rw (s .2)
+    (rests-one (ne-eqb (length (t .half .rightLabels)) 0 (λ q. z (length-none (t .half .rightLabels) q))) (left-maps t e ok .rests (s .0) (s .1)))
 
-pub rest-right : (t : Sides) (e : List ℕ) → Posed (problem t) → (t .half .leftLabels ≡ [] → ⊥) → (M : ℕ) → List·Memᴰ M (t .half .rightLabels) → (restsIn t e M ≡ given M ∷ []) ⊎ (restsIn t e M ≡ fresh M ∷ [])
+pub rest-right : (t : Sides) (e : List ℕ) → Posed (problem t) → (t .half .leftLabels ≡ [] → ⊥) → (M : ℕ) → List·Memᴰ M (t .half .rightLabels) →
+    (restsIn t e M ≡ given M ∷ []) ⊎ (restsIn t e M ≡ fresh M ∷ [])
 rest-right t e ok z M m =
     let s = member-place (t .half .rightLabels) M m in
-    rw (s .2) (rests-one (ne-eqb (length (t .half .leftLabels)) 0 (λ q. z (length-none (t .half .leftLabels) q))) (right-maps t e ok .rests (s .0) (s .1)))
+    rw (s .2)
+    (rests-one (ne-eqb (length (t .half .leftLabels)) 0 (λ q. z (length-none (t .half .leftLabels) q))) (right-maps t e ok .rests (s .0) (s .1)))
 
 -- The label whose rest a variable stands for.
 unfoldable pub labelIn : MultisetVariable → ℕ

@@ -43,12 +43,16 @@ abbrev toX : MmsetSubstitution
 toX = record { onTerms = var; onVariables = λ M. itself (fresh 7) }
 
 -- "σ = σ_i σ'" holds modulo T_σ, and not to the letter: M ↦ { | X} unifies { | M} and {}, but whatever comes after M ↦ { | } has no X
-pub not-to-the-letter : UnifiesSides (sidesOf label-and-none) toX × ((σᵢ : MmsetSubstitution) → List·Memᴰ σᵢ (unifiersOf (sidesOf label-and-none)) → (σ′ : MmsetSubstitution) → compose σᵢ σ′ .onVariables (given 1) .variables ≡ [])
+pub not-to-the-letter :
+    UnifiesSides (sidesOf label-and-none) toX ×
+    ((σᵢ : MmsetSubstitution) → List·Memᴰ σᵢ (unifiersOf (sidesOf label-and-none)) → (σ′ : MmsetSubstitution) → compose σᵢ σ′ .onVariables (given 1) .variables ≡ [])
 unfolding flatMap itself apply compose standing image onContexts unifierOf unifiersOf mmsetOf restsOf
 not-to-the-letter = (record { terms = λ u. refl; variables = λ ρ h. h }, λ σᵢ m σ′. ap (λ (σ : MmsetSubstitution). compose σ σ′ .onVariables (given 1) .variables) (only σᵢ (Memᴰ·of-map (unifierOf (sidesOf label-and-none)) (algorithm1 (sidesOf label-and-none)) m)))
   where
     first : Result
     first = record { pairing = []; contexts = (1, record { terms = []; variables = [] }) ∷ [] }
 
-    only : (σᵢ : MmsetSubstitution) → (r : Result) × List·Memᴰ r (algorithm1 (sidesOf label-and-none)) × (unifierOf (sidesOf label-and-none) r ≡ σᵢ) → σᵢ ≡ unifierOf (sidesOf label-and-none) first
+    only : (σᵢ : MmsetSubstitution) →
+        (r : Result) × List·Memᴰ r (algorithm1 (sidesOf label-and-none)) × (unifierOf (sidesOf label-and-none) r ≡ σᵢ) →
+        σᵢ ≡ unifierOf (sidesOf label-and-none) first
     only σᵢ (r, m, e) = sym e ∙ ap (unifierOf (sidesOf label-and-none)) (List·Memᴰ·eq-of-singleton (rw (three-unifiers .1) at m))

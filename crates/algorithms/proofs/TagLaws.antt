@@ -84,12 +84,14 @@ pairs-stand t ds c =
     pairs-map (nodeOf t) (leftTags t) (rightTags t) ds (λ i h. c .left-digits i (rw (← left-tags-long t) h) .0) ∙ rw (left-nodes t, right-nodes t) refl
 
 -- the tags in each label stand for the terms that the choice puts there
-pub lefts-stand : (t : Sides) (ds : List ℕ) (p : ℕ) → map (nodeOf t) (inLeft (leftTags t) (rightTags t) ds p) ≡ inLeft (t .half .left) (t .half .right) ds p
+pub lefts-stand : (t : Sides) (ds : List ℕ) (p : ℕ) →
+    map (nodeOf t) (inLeft (leftTags t) (rightTags t) ds p) ≡ inLeft (t .half .left) (t .half .right) ds p
 unfolding inLeft
 lefts-stand t ds p =
     with-map (nodeOf t) (suc p) (rightTags t) (drop (length (leftTags t)) ds) ∙ rw (right-nodes t, left-tags-long t) refl
 
-pub rights-stand : (t : Sides) (ds : List ℕ) (q : ℕ) → map (nodeOf t) (inRight (leftTags t) (rightTags t) ds q) ≡ inRight (t .half .left) (t .half .right) ds q
+pub rights-stand : (t : Sides) (ds : List ℕ) (q : ℕ) →
+    map (nodeOf t) (inRight (leftTags t) (rightTags t) ds q) ≡ inRight (t .half .left) (t .half .right) ds q
 unfolding inRight
 rights-stand t ds q =
     with-map (nodeOf t) (length (rightTags t) + suc q) (leftTags t) ds ∙ rw (left-nodes t, right-tags-long t) refl

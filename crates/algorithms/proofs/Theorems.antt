@@ -30,7 +30,8 @@ use Rattle.algorithms.proofs.MappedLaws.{restsIn, exact-left, exact-rig
 use Rattle.algorithms.proofs.AllowsLaws.{rests-flat, instance-allowed}
 
 -- an assignment that makes the sides equal has room in the unifier of some entry
-equal-allowed : (t : Sides) → Posed (problem t) → (A : Assignment) → EqualSides (problem t) A → (e : List ℕ) × List·Memᴰ e (admissibleListing (problem t)) × Allows t (unifierOf t (entryResult t e)) A
+equal-allowed : (t : Sides) → Posed (problem t) → (A : Assignment) → EqualSides (problem t) A →
+    (e : List ℕ) × List·Memᴰ e (admissibleListing (problem t)) × Allows t (unifierOf t (entryResult t e)) A
 equal-allowed t r A s =
     let i = page14-admissible (problem t) r A .0 s in
     (i .0, i .1, instance-allowed t (i .0) (r) (i .1) A .0 (i .2))
@@ -42,7 +43,8 @@ entry-unifier t e m =
     Memᴰ·map (unifierOf t) (permuted-member (Permᴰ·symm (listing-results t)) (entryResult t e) (Memᴰ·map (entryResult t) m))
 
 -- and each of Algorithm 1's is that of an entry
-unifier-entry : (t : Sides) (σ : MmsetSubstitution) → List·Memᴰ σ (unifiersOf t) → (e : List ℕ) × List·Memᴰ e (admissibleListing (problem t)) × (unifierOf t (entryResult t e) ≡ σ)
+unifier-entry : (t : Sides) (σ : MmsetSubstitution) → List·Memᴰ σ (unifiersOf t) →
+    (e : List ℕ) × List·Memᴰ e (admissibleListing (problem t)) × (unifierOf t (entryResult t e) ≡ σ)
 unfolding unifiersOf
 unifier-entry t σ m =
     let r = Memᴰ·of-map (unifierOf t) (algorithm1 t) m in
@@ -50,7 +52,8 @@ unifier-entry t σ m =
     (i .0, i .1, ap (unifierOf t) (i .2) ∙ r .2)
 
 -- page 14, of Algorithm 1: an assignment makes the sides equal exactly if one of its unifiers leaves room for it
-pub algorithm-page14 : (t : Sides) → Posed (problem t) → (A : Assignment) → EqualSides (problem t) A ↔ ((σ : MmsetSubstitution) × List·Memᴰ σ (unifiersOf t) × Allows t σ A)
+pub algorithm-page14 : (t : Sides) → Posed (problem t) → (A : Assignment) →
+    EqualSides (problem t) A ↔ ((σ : MmsetSubstitution) × List·Memᴰ σ (unifiersOf t) × Allows t σ A)
 algorithm-page14 t z A = (
   (λ s. let i = equal-allowed t z A s in (unifierOf t (entryResult t (i .0)), entry-unifier t (i .0) (i .1), i .2)),
   (λ s.
@@ -74,7 +77,9 @@ module _ (t : Sides) (σ : MmsetSubstitution) where
   side-variables ts Ms = flat-map (λ M. σ .onVariables M .variables) given Ms
 
   -- so equal terms of the sides under the one are equal sides under the other
-  sides-equal : Same (apply σ (mmsetOf t (t .half .left) (t .half .leftLabels)) .terms) (apply σ (mmsetOf t (t .half .right) (t .half .rightLabels)) .terms) ↔ EqualSides (problem t) (assignmentOf σ)
+  sides-equal :
+      Same (apply σ (mmsetOf t (t .half .left) (t .half .leftLabels)) .terms) (apply σ (mmsetOf t (t .half .right) (t .half .rightLabels)) .terms) ↔
+      EqualSides (problem t) (assignmentOf σ)
   sides-equal =
       let l = side-terms (t .half .left) (t .half .leftLabels) in
       let r = side-terms (t .half .right) (t .half .rightLabels) in
@@ -107,7 +112,9 @@ module _ (t : Sides) (σ : MmsetSubstitution) where
           (append-nil _ ∙ terms-unchanged ts)
 
 -- only what a substitution gives to the variables present and to the labels matters
-pub unifies-agree : (t : Sides) → Posed (problem t) → (σ τ : MmsetSubstitution) → ((x : ℕ) → Present (t .nodes) x → σ .onTerms x ≡ τ .onTerms x) → ((M : ℕ) → List·Memᴰ M (halfLabels (t .half)) → σ .onVariables (given M) ≡ τ .onVariables (given M)) → UnifiesSides t σ → UnifiesSides t τ
+pub unifies-agree : (t : Sides) → Posed (problem t) → (σ τ : MmsetSubstitution) →
+    ((x : ℕ) → Present (t .nodes) x → σ .onTerms x ≡ τ .onTerms x) →
+    ((M : ℕ) → List·Memᴰ M (halfLabels (t .half)) → σ .onVariables (given M) ≡ τ .onVariables (given M)) → UnifiesSides t σ → UnifiesSides t τ
 unifies-agree t ok σ τ x l s =
     let g : Agree (problem t) (assignmentOf σ) (assignmentOf τ) = record { variables = x; labels = λ h k. rw (List·Memᴰ·eq-of-singleton k) (λ M i u. ap (λ (S : Mmset Term). occurrences u (S .terms)) (l M i)) } in
     unifies t τ (equal-agree (problem t) ok (assignmentOf σ) (assignmentOf τ) g .0 (sides-equal t σ .0 (s .terms)))
@@ -153,7 +160,8 @@ module _ (σ : MmsetSubstitution) where
 
   module _ (t : Sides) (ok : Posed (problem t)) (e : List ℕ) where
     -- the substitution has for the rest of a label what it has for what stands for it, modulo its theory,
-    rest-entailed : (M : ℕ) → List·Memᴰ M (t .half .leftLabels) ⊎ List·Memᴰ M (t .half .rightLabels) → Entails (theoryOf t σ) (restsBy M, restsFor (restsIn t e M))
+    rest-entailed : (M : ℕ) → List·Memᴰ M (t .half .leftLabels) ⊎ List·Memᴰ M (t .half .rightLabels) →
+        Entails (theoryOf t σ) (restsBy M, restsFor (restsIn t e M))
     rest-entailed M (inl i) ρ h =
         rests-kept (t .half .leftLabels) (t .half .rightLabels) M i _ (λ z. exact-left t e ok z M i) (λ z. rest-left t e ok z M i) ρ
         (rw (rests-flat σ ρ (t .half .leftLabels), rests-flat σ ρ (t .half .rightLabels)) at h)
@@ -162,7 +170,8 @@ module _ (σ : MmsetSubstitution) where
         (same-sym _ _ (rw (rests-flat σ ρ (t .half .leftLabels), rests-flat σ ρ (t .half .rightLabels)) at h))
 
     -- and to the letter where both sides have labels
-    rest-plain : (t .half .leftLabels ≡ [] → ⊥) → (t .half .rightLabels ≡ [] → ⊥) → (M : ℕ) → List·Memᴰ M (t .half .leftLabels) ⊎ List·Memᴰ M (t .half .rightLabels) → restsBy M ≡ restsFor (restsIn t e M)
+    rest-plain : (t .half .leftLabels ≡ [] → ⊥) → (t .half .rightLabels ≡ [] → ⊥) → (M : ℕ) →
+        List·Memᴰ M (t .half .leftLabels) ⊎ List·Memᴰ M (t .half .rightLabels) → restsBy M ≡ restsFor (restsIn t e M)
     rest-plain l r M (inl i) = sym (one-rest M (restsIn t e M) (rest-left t e ok r M i))
     rest-plain l r M (inr i) = sym (one-rest M (restsIn t e M) (rest-right t e ok l M i))
 
@@ -181,22 +190,28 @@ module _ (σ : MmsetSubstitution) where
           }
 
       -- and have its variables, to the letter, where both sides have labels
-      follows-plain : (t .half .leftLabels ≡ [] → ⊥) → (t .half .rightLabels ≡ [] → ⊥) → (M : ℕ) → List·Memᴰ M (halfLabels (t .half)) → restsBy M ≡ compose (unifierOf t (entryResult t e)) follower .onVariables (given M) .variables
+      follows-plain : (t .half .leftLabels ≡ [] → ⊥) → (t .half .rightLabels ≡ [] → ⊥) → (M : ℕ) → List·Memᴰ M (halfLabels (t .half)) →
+          restsBy M ≡ compose (unifierOf t (entryResult t e)) follower .onVariables (given M) .variables
       unfolding compose apply
       follows-plain l r M i = rest-plain l r M (List·Memᴰ·append-cases (t .half .leftLabels) i)
 
 -- a substitution that unifies the sides is an assignment that some entry's unifier leaves room for
-unifies-allowed : (t : Sides) → Posed (problem t) → (σ : MmsetSubstitution) → UnifiesSides t σ → (e : List ℕ) × List·Memᴰ e (admissibleListing (problem t)) × Allows t (unifierOf t (entryResult t e)) (assignmentOf σ)
+unifies-allowed : (t : Sides) → Posed (problem t) → (σ : MmsetSubstitution) → UnifiesSides t σ →
+    (e : List ℕ) × List·Memᴰ e (admissibleListing (problem t)) × Allows t (unifierOf t (entryResult t e)) (assignmentOf σ)
 unifies-allowed t z σ s = equal-allowed t z (assignmentOf σ) (sides-equal t σ .0 (s .terms))
 
 -- Theorem 2: "Completeness. If ∃σ. M σ =_{T_σ} N σ then unify(M, N) ↦ {σ_1, .., σ_n} and ∃σ_i such that σ = σ_i σ'."
-pub completeness : (t : Sides) → Posed (problem t) → (σ : MmsetSubstitution) → UnifiesSides t σ → (σᵢ : MmsetSubstitution) × List·Memᴰ σᵢ (unifiersOf t) × ((σ′ : MmsetSubstitution) × SameOn t (theoryOf t σ) σ (compose σᵢ σ′))
+pub completeness : (t : Sides) → Posed (problem t) → (σ : MmsetSubstitution) → UnifiesSides t σ →
+    (σᵢ : MmsetSubstitution) × List·Memᴰ σᵢ (unifiersOf t) × ((σ′ : MmsetSubstitution) × SameOn t (theoryOf t σ) σ (compose σᵢ σ′))
 completeness t z σ s =
     let i = unifies-allowed t z σ s in
     (unifierOf t (entryResult t (i .0)), entry-unifier t (i .0) (i .1), (follower σ t z (i .0) (i .2), follows σ t z (i .0) (i .2)))
 
 -- where both sides have labels, σ and σ_i σ' also have the same variables, to the letter
-pub completeness-plain : (t : Sides) → Posed (problem t) → (t .half .leftLabels ≡ [] → ⊥) → (t .half .rightLabels ≡ [] → ⊥) → (σ : MmsetSubstitution) → UnifiesSides t σ → (σᵢ : MmsetSubstitution) × List·Memᴰ σᵢ (unifiersOf t) × ((σ′ : MmsetSubstitution) × SameOn t (theoryOf t σ) σ (compose σᵢ σ′) × ((M : ℕ) → List·Memᴰ M (halfLabels (t .half)) → σ .onVariables (given M) .variables ≡ compose σᵢ σ′ .onVariables (given M) .variables))
+pub completeness-plain : (t : Sides) → Posed (problem t) → (t .half .leftLabels ≡ [] → ⊥) → (t .half .rightLabels ≡ [] → ⊥) →
+    (σ : MmsetSubstitution) → UnifiesSides t σ →
+    (σᵢ : MmsetSubstitution) × List·Memᴰ σᵢ (unifiersOf t) ×
+    ((σ′ : MmsetSubstitution) × SameOn t (theoryOf t σ) σ (compose σᵢ σ′) × ((M : ℕ) → List·Memᴰ M (halfLabels (t .half)) → σ .onVariables (given M) .variables ≡ compose σᵢ σ′ .onVariables (given M) .variables))
 completeness-plain t z l r σ s =
     let i = unifies-allowed t z σ s in
     (unifierOf t (entryResult t (i .0)), entry-unifier t (i .0) (i .1), (follower σ t z (i .0) (i .2), follows σ t z (i .0) (i .2), follows-plain σ t z (i .0) (i .2) l r))

@@ -49,7 +49,8 @@ algorithm1 t =
 unfoldable pub goneOver : Sides → List Result
 goneOver t = unify (λ ps. unified) (leftTags t) (t .half .leftLabels) (rightTags t) (t .half .rightLabels)
 
--- What Algorithm 4 makes of parts p for the left labels and q for the right ones: M ↦ {ts | ..} for each part ts, with no rest where the other side has no label.
+-- What Algorithm 4 makes of parts p for the left labels and q for the right ones: M ↦ {ts | ..} for each part ts, with no rest where the other
+-- side has no label.
 abbrev pub contextsOf : List ℕ → List ℕ → List (List ℕ) → List (List ℕ) → Contexts
 contextsOf ks qs p q = zipWith (context (eqb (length qs) 0)) ks p ++ zipWith (context (eqb (length ks) 0)) qs q
 

@@ -54,7 +54,8 @@ theoryOf t σ = (restsOf σ (t .half .leftLabels), restsOf σ (t .half .rightLab
 -- "M σ =_{T_σ} N σ", where M and N are the two sides
 abbrev pub UnifiesSides : Sides → MmsetSubstitution → Type 0
 UnifiesSides t σ =
-    EqualModulo (theoryOf t σ) (apply σ (mmsetOf t (t .half .left) (t .half .leftLabels))) (apply σ (mmsetOf t (t .half .right) (t .half .rightLabels)))
+    EqualModulo (theoryOf t σ) (apply σ (mmsetOf t (t .half .left) (t .half .leftLabels)))
+    (apply σ (mmsetOf t (t .half .right) (t .half .rightLabels)))
 
 -- "σ = τ", for the variables of the problem, modulo a theory
 pub record SameOn (t : Sides) (T : Theory) (σ τ : MmsetSubstitution) : Type 0 where
@@ -67,4 +68,5 @@ pub record Allows (t : Sides) (σ : MmsetSubstitution) (A : Assignment) : Type 0
   pub rests : MultisetVariable → List Term
   pub holds : Holds rests (theoryOf t σ)
   pub variables : (x : ℕ) → Present (t .nodes) x → A .variables x ≡ sub after (σ .onTerms x)
-  pub labels : (M : ℕ) → List·Memᴰ M (halfLabels (t .half)) → Same (A .labels M) (map (sub after) (σ .onVariables (given M) .terms) ++ flatMap rests (σ .onVariables (given M) .variables))
+  pub labels : (M : ℕ) → List·Memᴰ M (halfLabels (t .half)) →
+      Same (A .labels M) (map (sub after) (σ .onVariables (given M) .terms) ++ flatMap rests (σ .onVariables (given M) .variables))

@@ -77,13 +77,15 @@ module _ (nodes arguments list : List ℕ) (e : list ≡ leastNodes (nodesFrom n
             rw (list-at k (rw list-long at h)) (rw (nodes-long nodes arguments) at (l .holds .0));
       }
 
-  module _ (heads names : List ℕ) (m : HeadNames nodes arguments heads names) (ps : List (ℕ × ℕ)) (c : IsClosure ns ps (classOf heads)) (by all : List ℕ) (a : ApplicationsNoted nodes heads names by) (f : FreeFrom nodes heads names list by all 0) where
+  module _ (heads names : List ℕ) (m : HeadNames nodes arguments heads names) (ps : List (ℕ × ℕ)) (c : IsClosure ns ps (classOf heads))
+      (by all : List ℕ) (a : ApplicationsNoted nodes heads names by) (f : FreeFrom nodes heads names list by all 0) where
     -- What stands at the name of variable x is its word by names.
     abbrev IsFound : ℕ → Type 0
     IsFound x = IsNamed ns (classOf heads) (valueName heads names) x (word all (valueName heads names (nodeOf ns x)))
 
     -- where the head is an application
-    named-bound : (x i g : ℕ) (us : List ℕ) → i < length ns → nodeAt ns i ≡ variable x → nodeAt ns (classOf heads i) ≡ application g us → IsNamed ns (classOf heads) (valueName heads names) x (word all (valueName heads names i))
+    named-bound : (x i g : ℕ) (us : List ℕ) → i < length ns → nodeAt ns i ≡ variable x → nodeAt ns (classOf heads i) ≡ application g us →
+        IsNamed ns (classOf heads) (valueName heads names) x (word all (valueName heads names i))
     named-bound x i g us p v d =
         let n = counted nodes arguments i p in
         let k = from-application nodes arguments (classOf heads i) (m .readable .partition .below i n) g us d .0 in
@@ -93,8 +95,10 @@ module _ (nodes arguments list : List ℕ) (e : list ≡ leastNodes (nodesFrom n
         rw q
         (bound {i = i} {f = g} {w = w} {us = us} p v d
         (record {
-          holds = (nameOf nodes w, run nodes arguments w, is-node nodes arguments w (r .holds .0), application-from nodes arguments w (r .holds .0) (r .holds .1), r .holds .2);
-          least = λ j t. r .least j (counted nodes arguments j (t .2), from-application nodes arguments j (counted nodes arguments j (t .2)) (t .0) (t .1) (t .3) .0, t .4);
+          holds =
+              (nameOf nodes w, run nodes arguments w, is-node nodes arguments w (r .holds .0), application-from nodes arguments w (r .holds .0) (r .holds .1), r .holds .2);
+          least =
+              λ j t. r .least j (counted nodes arguments j (t .2), from-application nodes arguments j (counted nodes arguments j (t .2)) (t .0) (t .1) (t .3) .0, t .4);
         }))
 
     -- where it is a variable
@@ -117,7 +121,8 @@ module _ (nodes arguments list : List ℕ) (e : list ≡ leastNodes (nodesFrom n
               absurd (m .named .application (word list k) (least-nodes .node k h) y (ap (kindOf nodes) (n ∙ head-free .1) ∙ head-free .0))
 
       -- a variable with its name has a place with its name
-      named-place : (y : ℕ) → NamedVariable ns (valueName heads names) (valueName heads names (nodeOf ns x)) y → (k : ℕ) × (k < length list) × (y ≡ word (variablesOf ns) k) × (nameAt heads names list k ≡ valueName heads names (nodeOf ns x))
+      named-place : (y : ℕ) → NamedVariable ns (valueName heads names) (valueName heads names (nodeOf ns x)) y →
+          (k : ℕ) × (k < length list) × (y ≡ word (variablesOf ns) k) × (nameAt heads names list k ≡ valueName heads names (nodeOf ns x))
       named-place y (j, b, v, n) =
           let r = place-of y (j, b, v) in
           let l = node-of ns y (j, b, v) in
@@ -125,7 +130,9 @@ module _ (nodes arguments list : List ℕ) (e : list ≡ leastNodes (nodesFrom n
           (r .0, r .1, r .2, ap (valueName heads names) (r .3) ∙ ap (word names) g ∙ n)
 
       -- so the variable at the least such place is the lowest with its name
-      named-lowest : (k : ℕ) → Least (WrittenAt (IsFree nodes heads list) (nameAt heads names list) 0 (length list) (valueName heads names (nodeOf ns x))) k → word all (valueName heads names (nodeOf ns x)) ≡ word list k → IsFound x
+      named-lowest : (k : ℕ) →
+          Least (WrittenAt (IsFree nodes heads list) (nameAt heads names list) 0 (length list) (valueName heads names (nodeOf ns x))) k →
+          word all (valueName heads names (nodeOf ns x)) ≡ word list k → IsFound x
       named-lowest k r q =
           let h : k < length list = r .holds .1 in
           let w : word list k ≡ nodeOf ns (word (variablesOf ns) k) = list-at k (rw list-long at h) in
@@ -138,7 +145,9 @@ module _ (nodes arguments list : List ℕ) (e : list ≡ leastNodes (nodesFrom n
           })
           l)
         where
-          lowest : (y : ℕ) → (j : ℕ) × (j < length list) × (y ≡ word (variablesOf ns) j) × (nameAt heads names list j ≡ valueName heads names (nodeOf ns x)) → word (variablesOf ns) k ≤ y
+          lowest : (y : ℕ) →
+              (j : ℕ) × (j < length list) × (y ≡ word (variablesOf ns) j) × (nameAt heads names list j ≡ valueName heads names (nodeOf ns x)) →
+              word (variablesOf ns) k ≤ y
           lowest y (j, h, e, n) = pick (r .least j (omega arith, h, place-free j h n, n)) (ℕ-discrete k j)
             where
               pick : k ≤ j → Dec (k ≡ j) → word (variablesOf ns) k ≤ y
@@ -160,7 +169,8 @@ module _ (nodes arguments list : List ℕ) (e : list ≡ leastNodes (nodesFrom n
         let p = variables-present ns x k in
         pick p (node-of ns x p) (nodeAt ns (classOf heads (nodeOf ns x))) refl
       where
-        pick : Present ns x → Least (λ j. (j < length ns) × (nodeAt ns j ≡ variable x)) (nodeOf ns x) → (n : Node) → nodeAt ns (classOf heads (nodeOf ns x)) ≡ n → IsFound x
+        pick : Present ns x → Least (λ j. (j < length ns) × (nodeAt ns j ≡ variable x)) (nodeOf ns x) → (n : Node) →
+            nodeAt ns (classOf heads (nodeOf ns x)) ≡ n → IsFound x
         pick p l (variable z) d = named-free x z p d
         pick p l (application g us) d =
             named-bound x (nodeOf ns x) g us (l .holds .0) (l .holds .1) d
@@ -173,11 +183,14 @@ module _ (nodes arguments list : List ℕ) (e : list ≡ leastNodes (nodesFrom n
         (matched-by (λ x. word all (valueName heads names (nodeOf ns x))) (variablesOf ns) named-present)
 
 -- the sections, heads and their names
-pub heads-named : (nodes arguments heads names : List ℕ) → Named nodes arguments heads names → Sections nodes arguments → Partition (nodeCount nodes) heads → length names ≡ nodeCount nodes → HeadNames nodes arguments heads names
+pub heads-named : (nodes arguments heads names : List ℕ) → Named nodes arguments heads names → Sections nodes arguments →
+    Partition (nodeCount nodes) heads → length names ≡ nodeCount nodes → HeadNames nodes arguments heads names
 heads-named nodes arguments heads names m s p l = record { readable = record { sections = s; partition = p; long = l }; named = m }
 
 -- the name of an application names itself
-name-itself : (nodes arguments counts heads names : List ℕ) → HeadNames nodes arguments heads names → NamesLeast nodes arguments counts heads names → (ps : List (ℕ × ℕ)) → IsClosure (nodesFrom nodes arguments) ps (classOf heads) → (i : ℕ) → i < nodeCount nodes → Applied nodes heads i → valueName heads names (valueName heads names i) ≡ valueName heads names i
+name-itself : (nodes arguments counts heads names : List ℕ) → HeadNames nodes arguments heads names →
+    NamesLeast nodes arguments counts heads names → (ps : List (ℕ × ℕ)) → IsClosure (nodesFrom nodes arguments) ps (classOf heads) → (i : ℕ) →
+    i < nodeCount nodes → Applied nodes heads i → valueName heads names (valueName heads names i) ≡ valueName heads names i
 name-itself nodes arguments counts heads names m t ps c i h n =
     let v = valueName heads names i in
     let l = m .named .node i h in
@@ -185,7 +198,10 @@ name-itself nodes arguments counts heads names m t ps c i h n =
     sym (m .named .composed i v h l n (x .0) (alike-on (alike-back (t .alike i h n)) (x .1)))
 
 -- the words found are the binding words
-pub found-leaves : (nodes arguments counts heads names opens list out out′ : List ℕ) → WordsFound nodes heads names opens list out out′ → HeadNames nodes arguments heads names → NamesLeast nodes arguments counts heads names → Counts nodes arguments counts (nodeCount nodes) → OpenListed nodes counts opens → Formed nodes arguments counts heads → list ≡ leastNodes (nodesFrom nodes arguments) → Leaves nodes arguments heads out out′
+pub found-leaves : (nodes arguments counts heads names opens list out out′ : List ℕ) → WordsFound nodes heads names opens list out out′ →
+    HeadNames nodes arguments heads names → NamesLeast nodes arguments counts heads names → Counts nodes arguments counts (nodeCount nodes) →
+    OpenListed nodes counts opens → Formed nodes arguments counts heads → list ≡ leastNodes (nodesFrom nodes arguments) →
+    Leaves nodes arguments heads out out′
 found-leaves nodes arguments counts heads names opens list out out′ f m l k o g e ps t =
     let s = m .readable .sections in
     let p = m .readable .partition in
@@ -193,7 +209,9 @@ found-leaves nodes arguments counts heads names opens list out out′ f m l k o 
     let c = t .closure in
     let a = noted-all nodes arguments heads names m opens counts (f .applications) o l (name-itself nodes arguments counts heads names m l ps c) (f .noted) in
     let d : wordsOf (nodesFrom nodes arguments) ps ≡ readAt heads names (f .all) list = names-decide (nodesFrom nodes arguments) (sections-well-formed nodes arguments s) ps h (classOf heads) (rank nodes counts (g .order)) (ordered-solved nodes arguments s counts k heads p (g .closed) ps h c (g .order) (g .ordered)) (suc (nodeCount nodes + suc (length (g .order)))) (ordered-enough nodes arguments s counts k heads p (g .closed) ps h c (g .order) (g .ordered)) (valueName heads names) (named-valued nodes arguments heads names s p (m .named)) (readAt heads names (f .all) list) (named-read nodes arguments list e heads names m ps c (f .applications) (f .all) a (f .free)) in
-    f .words-read ∙ ap (λ (n : List ℕ). n ++ drop (length list) out) (sym d) ∙ ap (λ (n : ℕ). wordsOf (nodesFrom nodes arguments) ps ++ drop n out) (ap length e ∙ least-long (nodesFrom nodes arguments))
+    f .words-read
+    ∙ ap (λ (n : List ℕ). n ++ drop (length list) out) (sym d)
+    ∙ ap (λ (n : ℕ). wordsOf (nodesFrom nodes arguments) ps ++ drop n out) (ap length e ∙ least-long (nodesFrom nodes arguments))
 
 -- the search for an order starts with no node placed
 pub nothing-placed : (n m : ℕ) → n ≡ m → n ≤ maxNodes → Starting m (take (n - 0) (replicate maxNodes 0)) (take (n - 0) (replicate maxNodes 0))
@@ -205,15 +223,18 @@ nothing-placed n m e l =
     }
 
 -- the order is the first part of a longer list
-pub ordered-part : (nodes arguments : List ℕ) (due : ℕ → ℕ) (heads xs ys : List ℕ) (k : ℕ) → k ≤ length xs → Ordered nodes arguments due heads (take k xs) → Ordered nodes arguments due heads (take (k - 0) (xs ++ ys))
+pub ordered-part : (nodes arguments : List ℕ) (due : ℕ → ℕ) (heads xs ys : List ℕ) (k : ℕ) → k ≤ length xs →
+    Ordered nodes arguments due heads (take k xs) → Ordered nodes arguments due heads (take (k - 0) (xs ++ ys))
 ordered-part nodes arguments due heads xs ys k h o = rw (sub-zero k, take-append-le k xs ys h) o
 
 -- where no variable is present there are no words, and nothing is written
-pub leaves-nothing : (nodes arguments heads list out : List ℕ) → list ≡ leastNodes (nodesFrom nodes arguments) → length list ≡ 0 → Leaves nodes arguments heads out out
+pub leaves-nothing : (nodes arguments heads list out : List ℕ) → list ≡ leastNodes (nodesFrom nodes arguments) → length list ≡ 0 →
+    Leaves nodes arguments heads out out
 unfolding wordsOf bindingWords
 leaves-nothing nodes arguments heads list out e z ps s =
     pick (variablesOf (nodesFrom nodes arguments)) (sym (ap length e ∙ least-long (nodesFrom nodes arguments)) ∙ z)
   where
-    pick : (xs : List ℕ) → length xs ≡ 0 → out ≡ map (wordOf (nodesFrom nodes arguments) (unifier (nodesFrom nodes arguments) ps)) xs ++ drop (length xs) out
+    pick : (xs : List ℕ) → length xs ≡ 0 →
+        out ≡ map (wordOf (nodesFrom nodes arguments) (unifier (nodesFrom nodes arguments) ps)) xs ++ drop (length xs) out
     pick [] e = refl
     pick (x ∷ xs) e = absurd (omega (arith, e))

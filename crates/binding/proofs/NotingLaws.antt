@@ -20,14 +20,16 @@ use Rattle.binding.specs.Code.Binding.{HeadNames, AreApplied, NamesLeast
 use Rattle.values.proofs.KeptLaws.{kept-none, kept-skip, kept-set}
 
 -- an application is noted at its name, where a greater node stands there
-pub application-noted : (heads names by : List ℕ) (i s m : ℕ) → s ≡ valueName heads names i → m ≡ word by s → i < m → set by s i ≡ applicationNoted heads names by i
+pub application-noted : (heads names by : List ℕ) (i s m : ℕ) → s ≡ valueName heads names i → m ≡ word by s → i < m →
+    set by s i ≡ applicationNoted heads names by i
 unfolding applicationNoted
 application-noted heads names by i s m e d l =
     let y : ltb i (word by (valueName heads names i)) ≡ true = rw (d, e) at (lt-ltb i m l) in
     rw (y, e)
 
 -- and is not, where none does
-pub application-other : (heads names by : List ℕ) (i s m : ℕ) → s ≡ valueName heads names i → m ≡ word by s → m ≤ i → by ≡ applicationNoted heads names by i
+pub application-other : (heads names by : List ℕ) (i s m : ℕ) → s ≡ valueName heads names i → m ≡ word by s → m ≤ i →
+    by ≡ applicationNoted heads names by i
 unfolding applicationNoted
 application-other heads names by i s m e d l =
     let y : ltb i (word by (valueName heads names i)) ≡ false = rw (d, e) at (le-ltb i m l) in
@@ -38,14 +40,16 @@ pub open-applied : (nodes counts opens : List ℕ) → OpenListed nodes counts o
 open-applied nodes counts opens o = record { node = o .node; applied = o .applied }
 
 -- a node whose head is an application is not noted as a free variable
-pub free-other : (nodes heads names list by : List ℕ) (k v h : ℕ) → v ≡ word list k → h ≡ classOf heads v → eqb (kindOf nodes h) 0 ≡ false → by ≡ freeNoted nodes heads names list by k
+pub free-other : (nodes heads names list by : List ℕ) (k v h : ℕ) → v ≡ word list k → h ≡ classOf heads v → eqb (kindOf nodes h) 0 ≡ false →
+    by ≡ freeNoted nodes heads names list by k
 unfolding freeNoted
 free-other nodes heads names list by k v h d e z =
     let y : eqb (kindOf nodes (classOf heads (word list k))) 0 ≡ false = rw (e ∙ ap (classOf heads) d) at z in
     rw y
 
 -- one whose head is a variable is, at its name
-pub free-noted : (nodes heads names list by : List ℕ) (k v h s : ℕ) → v ≡ word list k → h ≡ classOf heads v → eqb (kindOf nodes h) 0 ≡ true → s ≡ valueName heads names v → set by s v ≡ freeNoted nodes heads names list by k
+pub free-noted : (nodes heads names list by : List ℕ) (k v h s : ℕ) → v ≡ word list k → h ≡ classOf heads v → eqb (kindOf nodes h) 0 ≡ true →
+    s ≡ valueName heads names v → set by s v ≡ freeNoted nodes heads names list by k
 unfolding freeNoted
 free-noted nodes heads names list by k v h s d e z q =
     let y : eqb (kindOf nodes (classOf heads (word list k))) 0 ≡ true = rw (e ∙ ap (classOf heads) d) at z in
@@ -103,10 +107,14 @@ module _ (nodes arguments heads names : List ℕ) (m : HeadNames nodes arguments
           record {
             long = length-set by name node ∙ r .long;
             named = λ s b a e. named-at s b a e (ℕ-discrete s name);
-            least = below-more (λ p. word (set by name node) (valueName heads names (word opens p)) ≤ word opens p) k (λ p b. least-at p b (ℕ-discrete (valueName heads names (word opens p)) name)) (omega (arith, here));
+            least =
+                below-more (λ p. word (set by name node) (valueName heads names (word opens p)) ≤ word opens p) k
+                (λ p b. least-at p b (ℕ-discrete (valueName heads names (word opens p)) name)) (omega (arith, here));
           }
         where
-          named-at : (s : ℕ) → s < nodeCount nodes → IsApplied nodes s → valueName heads names s ≡ s → Dec (s ≡ name) → (word (set by name node) s < nodeCount nodes) × IsApplied nodes (word (set by name node) s) × (valueName heads names (word (set by name node) s) ≡ s) × (word (set by name node) s ≤ s)
+          named-at : (s : ℕ) → s < nodeCount nodes → IsApplied nodes s → valueName heads names s ≡ s → Dec (s ≡ name) →
+              (word (set by name node) s < nodeCount nodes) × IsApplied nodes (word (set by name node) s) ×
+              (valueName heads names (word (set by name node) s) ≡ s) × (word (set by name node) s ≤ s)
           named-at s b a e (yes z) =
               let d : word (set by name node) s ≡ node = ap (word (set by name node)) z ∙ here in
               let n = o .node k h in
@@ -115,7 +123,8 @@ module _ (nodes arguments heads names : List ℕ) (m : HeadNames nodes arguments
               (omega (arith, d, n), rw d (o .applied k h), ap (valueName heads names) d ∙ sym z, omega (arith, d, u, w, l))
           named-at s b a e (no z) = rw (elsewhere s z) (r .named s b a e)
 
-          least-at : (p : ℕ) → p < k → Dec (valueName heads names (word opens p) ≡ name) → word (set by name node) (valueName heads names (word opens p)) ≤ word opens p
+          least-at : (p : ℕ) → p < k → Dec (valueName heads names (word opens p) ≡ name) →
+              word (set by name node) (valueName heads names (word opens p)) ≤ word opens p
           least-at p b (yes z) =
               let d : word (set by name node) (valueName heads names (word opens p)) ≡ node = ap (word (set by name node)) z ∙ here in
               let u = r .least p b in
@@ -140,7 +149,9 @@ module _ (nodes arguments heads names : List ℕ) (m : HeadNames nodes arguments
               })
 
     -- where all are, and names of applications name themselves, each stands at its name
-    pub noted-all : (counts by : List ℕ) → OpenListed nodes counts opens → NamesLeast nodes arguments counts heads names → ((i : ℕ) → i < nodeCount nodes → Applied nodes heads i → valueName heads names (valueName heads names i) ≡ valueName heads names i) → OpenNoted nodes heads names opens by (length opens) → ApplicationsNoted nodes heads names by
+    pub noted-all : (counts by : List ℕ) → OpenListed nodes counts opens → NamesLeast nodes arguments counts heads names →
+        ((i : ℕ) → i < nodeCount nodes → Applied nodes heads i → valueName heads names (valueName heads names i) ≡ valueName heads names i) →
+        OpenNoted nodes heads names opens by (length opens) → ApplicationsNoted nodes heads names by
     noted-all counts by o t itself r =
         record {
           least = λ i h n.
@@ -151,7 +162,8 @@ module _ (nodes arguments heads names : List ℕ) (m : HeadNames nodes arguments
               };
         }
       where
-        lower : (s k : ℕ) → k < nodeCount nodes → IsApplied nodes k → valueName heads names k ≡ s → word by s ≤ s → Dec (word counts k ≡ 0) → word by s ≤ k
+        lower : (s k : ℕ) → k < nodeCount nodes → IsApplied nodes k → valueName heads names k ≡ s → word by s ≤ s → Dec (word counts k ≡ 0) →
+            word by s ≤ k
         lower s k h a e l (yes z) =
             let x = t .least k (record { node = h; applied = a; none = z }) in
             omega (arith, x, e, l)
@@ -175,11 +187,14 @@ module _ (nodes arguments heads names : List ℕ) (m : HeadNames nodes arguments
     free-name k s h f a e =
         a (ap (kindOf nodes) (e ∙ m .named .variable (word list k) (inside .node k h) f) ∙ f)
 
-    free-next : (by′ : List ℕ) (k : ℕ) → k < length list → FreeFrom nodes heads names list by by′ (suc k) → FreeFrom nodes heads names list by (freeNoted nodes heads names list by′ k) k
+    free-next : (by′ : List ℕ) (k : ℕ) → k < length list → FreeFrom nodes heads names list by by′ (suc k) →
+        FreeFrom nodes heads names list by (freeNoted nodes heads names list by′ k) k
     unfolding freeNoted
     free-next by′ k h r = pick (ℕ-discrete (kindOf nodes (classOf heads (word list k))) 0)
       where
-        pick : Dec (IsFree nodes heads list k) → FreeFrom nodes heads names list by (cond (eqb (kindOf nodes (classOf heads (word list k))) 0) (set by′ (nameAt heads names list k) (word list k)) by′) k
+        pick : Dec (IsFree nodes heads list k) →
+            FreeFrom nodes heads names list by
+            (cond (eqb (kindOf nodes (classOf heads (word list k))) 0) (set by′ (nameAt heads names list k) (word list k)) by′) k
         pick (yes f) =
             let b = m .named .node (word list k) (inside .node k h) in
             let l = r .long in
@@ -198,7 +213,8 @@ module _ (nodes arguments heads names : List ℕ) (m : HeadNames nodes arguments
             })
 
     -- one place more
-    pub free-down : (by′ : List ℕ) (k : ℕ) → 0 < k → k ≤ length list → FreeFrom nodes heads names list by by′ k → FreeFrom nodes heads names list by (freeNoted nodes heads names list by′ (k - 1)) (k - 1)
+    pub free-down : (by′ : List ℕ) (k : ℕ) → 0 < k → k ≤ length list → FreeFrom nodes heads names list by by′ k →
+        FreeFrom nodes heads names list by (freeNoted nodes heads names list by′ (k - 1)) (k - 1)
     free-down by′ k h l r =
         let e : k ≡ suc (k - 1) = omega arith in
         free-next by′ (k - 1) (omega arith) (rw e at r)
@@ -218,7 +234,8 @@ module _ (heads names by list out : List ℕ) where
   read-none = refl
 
   -- one word more
-  pub read-next : (k u : ℕ) → k < length list → k < length out → u ≡ word by (valueName heads names (word list k)) → set (readTo k) k u ≡ readTo (k + 1)
+  pub read-next : (k u : ℕ) → k < length list → k < length out → u ≡ word by (valueName heads names (word list k)) →
+      set (readTo k) k u ≡ readTo (k + 1)
   unfolding readTo readAt
   read-next k u a b e =
       let f : ℕ → ℕ = λ v. word by (valueName heads names v) in

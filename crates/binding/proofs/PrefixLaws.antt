@@ -33,7 +33,8 @@ use Rattle.binding.proofs.BindingLaws.{heads-named}
 nodes-few : (nodes arguments : List ℕ) → Sections nodes arguments → nodeCount nodes ≤ maxNodes
 nodes-few nodes arguments s = let z = s .limit in omega (arith, z)
 
-module _ (nodes arguments : List ℕ) (s : Sections nodes arguments) (counts heads : List ℕ) (k : Counts nodes arguments counts (nodeCount nodes)) (f : Formed nodes arguments counts heads) where
+module _ (nodes arguments : List ℕ) (s : Sections nodes arguments) (counts heads : List ℕ) (k : Counts nodes arguments counts (nodeCount nodes))
+    (f : Formed nodes arguments counts heads) where
   -- The term of a node.
   abbrev termAt : ℕ → Term
   termAt = value (nodesFrom nodes arguments) var
@@ -48,20 +49,28 @@ module _ (nodes arguments : List ℕ) (s : Sections nodes arguments) (counts hea
     own-name i h = let b = f .partition .below i h in t .itself (classOf heads i) (omega (arith, b, l))
 
     -- closed applications that are alike have one head
-    closed-alike : (g h : ℕ) → IsClosed nodes counts g → IsClosed nodes counts h → Alike nodes arguments heads names g h → classOf heads g ≡ classOf heads h
+    closed-alike : (g h : ℕ) → IsClosed nodes counts g → IsClosed nodes counts h → Alike nodes arguments heads names g h →
+        classOf heads g ≡ classOf heads h
     closed-alike g h p q a =
         let e : each termAt (run nodes arguments g) ≡ each termAt (run nodes arguments h) = each-equal termAt termAt (run nodes arguments g) (run nodes arguments h) (run-long nodes arguments s g (p .node) ∙ a .count ∙ sym (run-long nodes arguments s h (q .node))) (λ x y m. at x y (pair-place nodes arguments s g h (p .node) (q .node) x y .0 m)) in
-        f .closed .shared g h p q (spelt g p ∙ ap (λ (n : ℕ). app n (each termAt (run nodes arguments g))) (a .name) ∙ ap (app (nameOf nodes h)) e ∙ sym (spelt h q))
+        f .closed .shared g h p q
+        (spelt g p ∙ ap (λ (n : ℕ). app n (each termAt (run nodes arguments g))) (a .name) ∙ ap (app (nameOf nodes h)) e ∙ sym (spelt h q))
       where
         spelt : (i : ℕ) → IsClosed nodes counts i → termAt i ≡ app (nameOf nodes i) (each termAt (run nodes arguments i))
         spelt i m =
-            value-application (nodesFrom nodes arguments) (sections-well-formed nodes arguments s) var i (nameOf nodes i) (run nodes arguments i) (is-node nodes arguments i (m .node)) (application-from nodes arguments i (m .node) (m .applied))
+            value-application (nodesFrom nodes arguments) (sections-well-formed nodes arguments s) var i (nameOf nodes i) (run nodes arguments i)
+            (is-node nodes arguments i (m .node)) (application-from nodes arguments i (m .node) (m .applied))
 
-        at : (x y : ℕ) → (j : ℕ) × (j < countOf nodes g) × (j < countOf nodes h) × (x ≡ argumentOf nodes arguments g j) × (y ≡ argumentOf nodes arguments h j) → termAt x ≡ termAt y
+        at : (x y : ℕ) →
+            (j : ℕ) × (j < countOf nodes g) × (j < countOf nodes h) × (x ≡ argumentOf nodes arguments g j) × (y ≡ argumentOf nodes arguments h j) →
+            termAt x ≡ termAt y
         at x y (j, i, i′, u, v) =
             let b = k .below g (p .node) p j i in
             let c = k .below h (q .node) q j i′ in
-            ap termAt u ∙ one-term (argumentOf nodes arguments g j) (argumentOf nodes arguments h j) b c (sym (own-name (argumentOf nodes arguments g j) (b .node)) ∙ a .per-argument j i ∙ own-name (argumentOf nodes arguments h j) (c .node)) ∙ ap termAt (sym v)
+            ap termAt u
+            ∙ one-term (argumentOf nodes arguments g j) (argumentOf nodes arguments h j) b c
+            (sym (own-name (argumentOf nodes arguments g j) (b .node)) ∙ a .per-argument j i ∙ own-name (argumentOf nodes arguments h j) (c .node))
+            ∙ ap termAt (sym v)
 
     -- Where no argument of a head is looked at.
     module _ (z : (i : ℕ) → i < nodeCount nodes → word counts (classOf heads i) ≡ 0) where
@@ -77,7 +86,8 @@ module _ (nodes arguments : List ℕ) (s : Sections nodes arguments) (counts hea
             variable = λ i h e. own-name i h;
             application = λ i h n. rw (own-name i h) n;
             composed = λ i j h b n m a.
-                ap (word names) (sym (f .partition .own i h) ∙ closed-alike (classOf heads i) (classOf heads j) (head-closed i h n) (head-closed j b m) a ∙ f .partition .own j b);
+                ap (word names)
+                (sym (f .partition .own i h) ∙ closed-alike (classOf heads i) (classOf heads j) (head-closed i h n) (head-closed j b m) a ∙ f .partition .own j b);
             taken-apart = λ i j h b n m e.
                 let d : classOf heads i ≡ classOf heads j = sym (own-name i h) ∙ e ∙ own-name j b in
                 rw d (alike-same (classOf heads j));
@@ -157,7 +167,8 @@ module _ (nodes arguments : List ℕ) (s : Sections nodes arguments) (counts hea
         o .listed .once r v (omega (arith, h, u, w)) m (sym e ∙ z ∙ d)
 
     -- the head of an argument of a closed application stands before it, if it stands there
-    closed-first : (q g j : ℕ) → q < length closed → word order q ≡ word closed q → j < countOf nodes (word order q) → classOf heads (argumentOf nodes arguments (word order q) j) ≡ g → IsClosed nodes counts g × (g < word order q)
+    closed-first : (q g j : ℕ) → q < length closed → word order q ≡ word closed q → j < countOf nodes (word order q) →
+        classOf heads (argumentOf nodes arguments (word order q) j) ≡ g → IsClosed nodes counts g × (g < word order q)
     closed-first q g j l e h d =
         let m = front-closed q l e in
         let a = k .below (word order q) (m .node) m j h in
@@ -165,7 +176,8 @@ module _ (nodes arguments : List ℕ) (s : Sections nodes arguments) (counts hea
         let y = s .smaller (word order q) j (m .node) h in
         (rw d at (f .closed .closed (argumentOf nodes arguments (word order q) j) a), omega (arith, x, y, d))
 
-    part-first : (p q j : ℕ) → q ≤ p → Part p → Part q → j < countOf nodes (word order q) → classOf heads (argumentOf nodes arguments (word order q) j) ≡ word order p → ⊥
+    part-first : (p q j : ℕ) → q ≤ p → Part p → Part q → j < countOf nodes (word order q) →
+        classOf heads (argumentOf nodes arguments (word order q) j) ≡ word order p → ⊥
     part-first p q j b (front l e) (front m d) h z = go (ℕ-discrete q p)
       where
         go : Dec (q ≡ p) → ⊥
@@ -277,7 +289,8 @@ module _ (nodes arguments : List ℕ) (s : Sections nodes arguments) (counts hea
             apart = λ q r h b x y. closed-apart q r h b;
           }
 
-      first-naming : (buckets earlier : List ℕ) → ClosedTable nodes arguments heads closed buckets earlier → Naming nodes arguments heads (closed ++ placed) names buckets earlier (length closed)
+      first-naming : (buckets earlier : List ℕ) → ClosedTable nodes arguments heads closed buckets earlier →
+          Naming nodes arguments heads (closed ++ placed) names buckets earlier (length closed)
       unfolding keyAt
       first-naming buckets earlier x =
           record {
@@ -300,7 +313,9 @@ module _ (nodes arguments : List ℕ) (s : Sections nodes arguments) (counts hea
     named-least names m =
         record { alike = m .alike; least = λ i q. go i q (m .outside i (q .node)) }
       where
-        at : (i p : ℕ) → IsClosed nodes counts i → word order p ≡ classOf heads i → Part p → (r : ℕ) × (r ≤ p) × (word names (word order p) ≡ word order r) × (word names (word order r) ≡ word order r) → valueName heads names i ≤ i
+        at : (i p : ℕ) → IsClosed nodes counts i → word order p ≡ classOf heads i → Part p →
+            (r : ℕ) × (r ≤ p) × (word names (word order p) ≡ word order r) × (word names (word order r) ≡ word order r) →
+            valueName heads names i ≤ i
         at i p q e (back v b w d) x =
             let y = back-counts p v b d in
             let z = f .closed .closed i q .none in
@@ -322,14 +337,17 @@ module _ (nodes arguments : List ℕ) (s : Sections nodes arguments) (counts hea
                 let g = List·getD-append closed placed 0 r (omega (arith, v, b)) in
                 omega (arith, n, g, w, d, e, z)
 
-        go : (i : ℕ) → IsClosed nodes counts i → IsPlaced order (classOf heads i) ⊎ (valueName heads names i ≡ classOf heads i) → valueName heads names i ≤ i
+        go : (i : ℕ) → IsClosed nodes counts i → IsPlaced order (classOf heads i) ⊎ (valueName heads names i ≡ classOf heads i) →
+            valueName heads names i ≤ i
         go i q (inr e) = let x = f .closed .least i q in omega (arith, e, x)
         go i q (inl (p, l, e)) = at i p q e (part p l) (m .along .earlier p l)
 
     -- The same for an order that is both.
     module _ (xs : List ℕ) (e : xs ≡ closed ++ placed) where
       -- naming goes on behind the closed ones
-      pub prefix-naming : (names : List ℕ) → length names ≡ nodeCount nodes → Themselves names → (buckets earlier : List ℕ) → ClosedTable nodes arguments heads closed buckets earlier → Naming nodes arguments heads xs names buckets earlier (length closed) × (length closed ≤ length xs)
+      pub prefix-naming : (names : List ℕ) → length names ≡ nodeCount nodes → Themselves names → (buckets earlier : List ℕ) →
+          ClosedTable nodes arguments heads closed buckets earlier →
+          Naming nodes arguments heads xs names buckets earlier (length closed) × (length closed ≤ length xs)
       prefix-naming names l t buckets earlier x =
           let z = ap length e ∙ length-append closed placed in
           (rw e (first-naming names l t buckets earlier x), omega (arith, z))
@@ -350,7 +368,8 @@ none-open nodes counts opens o z i h = go (ℕ-discrete (word counts i) 0)
         absurd (omega (arith, l, z))
 
 -- nor where none of an order is taken
-pub none-placed : (nodes arguments counts heads order : List ℕ) (r : ℕ) → Ordered nodes arguments (word counts) heads (take r order) → r ≡ 0 → (i : ℕ) → i < nodeCount nodes → word counts (classOf heads i) ≡ 0
+pub none-placed : (nodes arguments counts heads order : List ℕ) (r : ℕ) → Ordered nodes arguments (word counts) heads (take r order) → r ≡ 0 →
+    (i : ℕ) → i < nodeCount nodes → word counts (classOf heads i) ≡ 0
 none-placed nodes arguments counts heads order r o z i h = met (o .whole i h)
   where
     none : length (take r order) ≡ 0
@@ -368,7 +387,8 @@ order-put closed placed xs ys zs start end e d f g =
     ap (take (end - 0)) (g ∙ ap (λ (l : List ℕ). l ++ placed ++ drop (start + length placed) ys) h) ∙ take-at (closed ++ placed) (drop (start + length placed) ys) (end - 0) (sym z)
 
 -- where there are no prepared words there are no open applications
-pub prepared-none : (nodes arguments counts heads prepared : List ℕ) → Prepared nodes arguments counts heads prepared → length prepared ≡ 0 → OpenListed nodes counts prepared
+pub prepared-none : (nodes arguments counts heads prepared : List ℕ) → Prepared nodes arguments counts heads prepared → length prepared ≡ 0 →
+    OpenListed nodes counts prepared
 prepared-none nodes arguments counts heads prepared (with-open f) z = let s = f .size in absurd (omega (arith, s, z))
 prepared-none nodes arguments counts heads prepared (nothing e n) z =
     record {
@@ -378,7 +398,8 @@ prepared-none nodes arguments counts heads prepared (nothing e n) z =
     }
 
 -- and otherwise there are open applications
-pub prepared-open : (nodes arguments counts heads prepared : List ℕ) → Prepared nodes arguments counts heads prepared → (length prepared ≡ 0 → ⊥) → PreparedOpen nodes arguments counts heads prepared
+pub prepared-open : (nodes arguments counts heads prepared : List ℕ) → Prepared nodes arguments counts heads prepared →
+    (length prepared ≡ 0 → ⊥) → PreparedOpen nodes arguments counts heads prepared
 prepared-open nodes arguments counts heads prepared (with-open f) n = f
 prepared-open nodes arguments counts heads prepared (nothing e z) n = absurd (n e)
 
@@ -392,7 +413,9 @@ module _ (nodes arguments counts heads prepared : List ℕ) (f : PreparedOpen no
       rw d (f .open-listed)
 
   -- the closed ones, and the table of them
-  pub prepared-closed : (r : ℕ) → r ≡ word prepared 1025 → ClosedListed nodes counts heads (take (768 + r - 768) (drop 768 prepared)) × ClosedTable nodes arguments heads (take (768 + r - 768) (drop 768 prepared)) (take 256 prepared) (take 256 (drop 256 prepared))
+  pub prepared-closed : (r : ℕ) → r ≡ word prepared 1025 →
+      ClosedListed nodes counts heads (take (768 + r - 768) (drop 768 prepared)) ×
+      ClosedTable nodes arguments heads (take (768 + r - 768) (drop 768 prepared)) (take 256 prepared) (take 256 (drop 256 prepared))
   unfolding closedIn bucketsIn earlierIn
   prepared-closed r e =
       let d : 768 + r - 768 ≡ word prepared 1025 = omega (arith, e) in

@@ -266,7 +266,8 @@ module _ (ns : List Node) (f : WellFormed ns) (k : Half) (g : HalfPosed (length 
       go (inr n) = n
 
   -- of a choice both keep the same entry
-  choice-kept : (es : List ℕ) → HalfChoice k es → kept (outcome ns (met es)) (es ++ wordsOf ns (met es)) ≡ kept (outcome ns (halfPairs k es)) (es ++ wordsOf ns (halfPairs k es))
+  choice-kept : (es : List ℕ) → HalfChoice k es →
+      kept (outcome ns (met es)) (es ++ wordsOf ns (met es)) ≡ kept (outcome ns (halfPairs k es)) (es ++ wordsOf ns (halfPairs k es))
   choice-kept es c =
       let i = half-inside k g es c in
       let h : Inside ns (met es) = λ a b m. i a b (met-from es (a, b) m) in
@@ -280,15 +281,18 @@ module _ (ns : List Node) (f : WellFormed ns) (k : Half) (g : HalfPosed (length 
   none-unified = outcome-unified ns f [] (inside-none ns) .1 (var, λ a b m. absurd (List·Memᴰ·not-nil m))
 
   -- what is below the branch without digits are the entries of the half's choices
-  pub below-half : below ns (k .right) (length (k .leftLabels)) (length (k .rightLabels)) (k .left) [] [] (replicate (length (k .right)) 1) ≡ flatMap (λ ds. kept (outcome ns (halfPairs k ds)) (ds ++ wordsOf ns (halfPairs k ds))) (halfChoices k)
+  pub below-half :
+      below ns (k .right) (length (k .leftLabels)) (length (k .rightLabels)) (k .left) [] [] (replicate (length (k .right)) 1) ≡ flatMap (λ ds. kept (outcome ns (halfPairs k ds)) (ds ++ wordsOf ns (halfPairs k ds))) (halfChoices k)
   unfolding halfChoices choices
   below-half =
-      kept-below ns f (k .right) (g .right-node) (length (k .leftLabels)) (length (k .rightLabels)) (k .left) (g .left-node) [] [] (replicate (length (k .right)) 1) [] (inside-none ns) none-unified (marks-first (length (k .right)))
+      kept-below ns f (k .right) (g .right-node) (length (k .leftLabels)) (length (k .rightLabels)) (k .left) (g .left-node) [] []
+      (replicate (length (k .right)) 1) [] (inside-none ns) none-unified (marks-first (length (k .right)))
       ∙ flat-same _ (λ es. kept (outcome ns (halfPairs k es)) (es ++ wordsOf ns (halfPairs k es))) (halfChoices k)
       (λ es m. choice-kept es (half-choices k es .0 m))
 
   -- and so document 01's listing of a problem of this half
-  pub below-listing : below ns (k .right) (length (k .leftLabels)) (length (k .rightLabels)) (k .left) [] [] (replicate (length (k .right)) 1) ≡ admissibleListing (oneHalf ns k)
+  pub below-listing :
+      below ns (k .right) (length (k .leftLabels)) (length (k .rightLabels)) (k .left) [] [] (replicate (length (k .right)) 1) ≡ admissibleListing (oneHalf ns k)
   below-listing = below-half ∙ sym (one-listing k ns)
 
 -- what holds of each entry that a digit has holds of each that several have
@@ -356,7 +360,8 @@ module _ (ns : List Node) where
   same-more p ps qs e σ = (one-more p ps qs σ (e σ .0), one-more p qs ps σ (e σ .1))
 
   -- both are unified or neither is
-  pub same-unified : WellFormed ns → (ps qs : List (ℕ × ℕ)) → Inside ns ps → Inside ns qs → SameUnifiers ps qs → outcome ns ps ≡ unified ↔ (outcome ns qs ≡ unified)
+  pub same-unified : WellFormed ns → (ps qs : List (ℕ × ℕ)) → Inside ns ps → Inside ns qs → SameUnifiers ps qs →
+      outcome ns ps ≡ unified ↔ (outcome ns qs ≡ unified)
   same-unified w ps qs h i e =
       let a = outcome-unified ns w ps h in
       let b = outcome-unified ns w qs i in

@@ -104,7 +104,8 @@ module _ (left right entry : List ℕ) (p d : ℕ) (e : p ≡ length left + d - 
 pub keeps-again : {left right : List ℕ} {i : ℕ} {e₀ e₁ e₂ : List ℕ} → KeepsBranch left right i e₀ e₁ → KeepsBranch left right i e₁ e₂ → KeepsBranch left right i e₀ e₂
 keeps-again x y = record { digits = y .digits ∙ x .digits; marks = y .marks ∙ x .marks }
 
-module _ {nodes arguments left right entry : List ℕ} {key weight unpaired i : ℕ} (g : Branching nodes arguments left right entry key weight unpaired i) where
+module _ {nodes arguments left right entry : List ℕ} {key weight unpaired i : ℕ}
+    (g : Branching nodes arguments left right entry key weight unpaired i) where
   -- an entry has room for the digits and the marks
   pub branch-room : length left + length right ≤ length entry
   branch-room = omega (arith, g .size)
@@ -122,7 +123,8 @@ module _ {nodes arguments left right entry : List ℕ} {key weight unpaired i : 
       rw (getD-take i entry j 0 h) (g .positive j h)
 
   -- a branch that is kept
-  pub branching-kept : {entry′ : List ℕ} → length entry′ ≡ length entry → KeepsBranch left right i entry entry′ → Branching nodes arguments left right entry′ key weight unpaired i
+  pub branching-kept : {entry′ : List ℕ} → length entry′ ≡ length entry → KeepsBranch left right i entry entry′ →
+      Branching nodes arguments left right entry′ key weight unpaired i
   branching-kept {entry′} l k =
       record {
         size = l ∙ g .size;
@@ -139,7 +141,9 @@ module _ {nodes arguments left right entry : List ℕ} {key weight unpaired i : 
           rw e (g .positive j h)
 
   -- one with a digit more
-  pub branching-next : {entry′ : List ℕ} {d key′ unpaired′ : ℕ} → i < length left → 0 < d → length entry′ ≡ length entry → take (i + 1) entry′ ≡ take i entry ++ d ∷ [] → key′ ≡ keyOfDigits (length right) (take i entry ++ d ∷ []) → unpaired′ ≡ unpairedIn (marksIn left right entry′) → Branching nodes arguments left right entry′ key′ (weight * 16) unpaired′ (i + 1)
+  pub branching-next : {entry′ : List ℕ} {d key′ unpaired′ : ℕ} → i < length left → 0 < d → length entry′ ≡ length entry →
+      take (i + 1) entry′ ≡ take i entry ++ d ∷ [] → key′ ≡ keyOfDigits (length right) (take i entry ++ d ∷ []) →
+      unpaired′ ≡ unpairedIn (marksIn left right entry′) → Branching nodes arguments left right entry′ key′ (weight * 16) unpaired′ (i + 1)
   branching-next {entry′} {d} {key′} {unpaired′} h p l t k u =
       record {
         size = l ∙ g .size;

@@ -58,7 +58,10 @@ if-empty clash es h = refl
 if-empty occurs es h = refl
 
 -- a digit has no entry if neither the label that it may stand for has one, nor its pair where that is unified
-pub digit-empty : (ns : List Node) (rs : List ℕ) (f : List ℕ → List (ℕ × ℕ) → List ℕ → List (List ℕ)) (ds : List ℕ) (ps : List (ℕ × ℕ)) (marks : List ℕ) (a d : ℕ) → (d ≤ length rs → (word marks (d - 1) ≡ 0 → ⊥) → outcome ns ((a, word rs (d - 1)) ∷ ps) ≡ unified → f (ds ++ d ∷ []) ((a, word rs (d - 1)) ∷ ps) (set marks (d - 1) 0) ≡ []) → (length rs < d → f (ds ++ d ∷ []) ps marks ≡ []) → onDigit ns rs f ds ps marks a d ≡ []
+pub digit-empty :
+    (ns : List Node) (rs : List ℕ) (f : List ℕ → List (ℕ × ℕ) → List ℕ → List (List ℕ)) (ds : List ℕ) (ps : List (ℕ × ℕ)) (marks : List ℕ) (a d : ℕ) →
+    (d ≤ length rs → (word marks (d - 1) ≡ 0 → ⊥) → outcome ns ((a, word rs (d - 1)) ∷ ps) ≡ unified → f (ds ++ d ∷ []) ((a, word rs (d - 1)) ∷ ps) (set marks (d - 1) 0) ≡ []) →
+    (length rs < d → f (ds ++ d ∷ []) ps marks ≡ []) → onDigit ns rs f ds ps marks a d ≡ []
 unfolding onDigit
 digit-empty ns rs f ds ps marks a d h k =
     pick (leb d (length rs)) refl (eqb (word marks (d - 1)) 0) refl

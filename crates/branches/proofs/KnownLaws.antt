@@ -39,7 +39,8 @@ module _ {nodes arguments known : List ℕ} (k : KnownOf nodes arguments known) 
       omega (arith, e, t, length-drop 320 known, k .size, least-long (nodesFrom nodes arguments))
 
   -- their least nodes, as they are lent
-  pub listed-least : (end : ℕ) → end ≡ 320 + length (variablesOf (nodesFrom nodes arguments)) → take (end - 320) (drop 320 known) ≡ leastNodes (nodesFrom nodes arguments)
+  pub listed-least : (end : ℕ) → end ≡ 320 + length (variablesOf (nodesFrom nodes arguments)) →
+      take (end - 320) (drop 320 known) ≡ leastNodes (nodesFrom nodes arguments)
   listed-least end e =
       let c : end - 320 ≡ length (leastNodes (nodesFrom nodes arguments)) = omega (arith, e, least-long (nodesFrom nodes arguments)) in
       ap (λ (n : ℕ). take n (drop 320 known)) c ∙ k .lists
@@ -55,7 +56,8 @@ module _ {nodes counts counts′ : List ℕ} (kept : (i : ℕ) → i < nodeCount
   was-closed i m = record { node = m .node; applied = m .applied; none = sym (kept i (m .node)) ∙ m .none }
 
   -- so they are right as well
-  pub counts-kept : {arguments : List ℕ} → nodeCount nodes ≤ length counts′ → Counts nodes arguments counts (nodeCount nodes) → Counts nodes arguments counts′ (nodeCount nodes)
+  pub counts-kept : {arguments : List ℕ} → nodeCount nodes ≤ length counts′ → Counts nodes arguments counts (nodeCount nodes) →
+      Counts nodes arguments counts′ (nodeCount nodes)
   counts-kept l c =
       record {
         enough = l;
@@ -64,7 +66,8 @@ module _ {nodes counts counts′ : List ℕ} (kept : (i : ℕ) → i < nodeCount
         above = λ i h f. kept i h ∙ c .above i h (λ j q. was-closed _ (f j q));
       }
     where
-      pick : (i : ℕ) → i < nodeCount nodes → (word counts i ≡ 0) ⊎ (word counts i ≡ countOf nodes i) → (word counts′ i ≡ 0) ⊎ (word counts′ i ≡ countOf nodes i)
+      pick : (i : ℕ) → i < nodeCount nodes → (word counts i ≡ 0) ⊎ (word counts i ≡ countOf nodes i) →
+          (word counts′ i ≡ 0) ⊎ (word counts′ i ≡ countOf nodes i)
       pick i h (inl e) = inl (kept i h ∙ e)
       pick i h (inr e) = inr (kept i h ∙ e)
 
@@ -109,14 +112,16 @@ may-set : (known : List ℕ) (m v : ℕ) → m < 64 → mayIn (set known (256 + 
 may-set known m v h = ap (take 64) (drop-set-add 256 known m v) ∙ take-set-lt 64 (drop 256 known) m v h
 
 -- the mark of a pair is written
-module _ {nodes arguments left right known : List ℕ} {labels : Labels} (g : Listable nodes arguments left right labels) (k : PairsKnown nodes arguments left right known) (i j v : ℕ) (left-term : i < length left) (right-term : j < length right) where
+module _ {nodes arguments left right known : List ℕ} {labels : Labels} (g : Listable nodes arguments left right labels)
+    (k : PairsKnown nodes arguments left right known) (i j v : ℕ) (left-term : i < length left) (right-term : j < length right) where
   -- the counts stay
   pub mark-keeps : KeepsCounts nodes known (set known (256 + maxTerms * i + j) v)
   mark-keeps q h =
       getD-set-other known (256 + maxTerms * i + j) q v 0 (λ z. omega (arith, z, h, g .sections .limit))
 
   -- and what is known of pairs stays right, where the mark is 0 only if the pair never has a unifier
-  pub mark-known : {a b : ℕ} → a ≡ word left i → b ≡ word right j → (v ≡ 0 → Never (nodesFrom nodes arguments) a b) → PairsKnown nodes arguments left right (set known (256 + maxTerms * i + j) v)
+  pub mark-known : {a b : ℕ} → a ≡ word left i → b ≡ word right j → (v ≡ 0 → Never (nodesFrom nodes arguments) a b) →
+      PairsKnown nodes arguments left right (set known (256 + maxTerms * i + j) v)
   mark-known {a} {b} x y n =
       let p : 256 + maxTerms * i + j ≡ 256 + (maxTerms * i + j) = omega arith in
       let l = length-set known (256 + maxTerms * i + j) v in
@@ -128,7 +133,9 @@ module _ {nodes arguments left right known : List ℕ} {labels : Labels} (g : Li
       }
 
 -- least nodes of variables are put behind the counts and the marks
-module _ {nodes arguments left right : List ℕ} (s : Sections nodes arguments) (known list known′ : List ℕ) (k : PairsKnown nodes arguments left right known) (l : list ≡ leastNodes (nodesFrom nodes arguments)) (few : length list ≤ 64) (e : known′ ≡ take 320 known ++ list ++ drop (320 + length list) known) where
+module _ {nodes arguments left right : List ℕ} (s : Sections nodes arguments) (known list known′ : List ℕ)
+    (k : PairsKnown nodes arguments left right known) (l : list ≡ leastNodes (nodesFrom nodes arguments)) (few : length list ≤ 64)
+    (e : known′ ≡ take 320 known ++ list ++ drop (320 + length list) known) where
   -- they are put
   is-put : known′ ≡ put 320 list known
   unfolding put

@@ -110,7 +110,8 @@ paired-none (a ∷ ls) rs (d ∷ ds) ps p z =
     rw q (paired-none ls rs ds ps (λ j h. p (suc j) (omega arith)) (omega (arith, z)))
 
 -- digits with one key add the same pairs
-paired-same : (ls rs ds es : List ℕ) (ps : List (ℕ × ℕ)) → length rs ≤ 8 → Positive ds → Positive es → keyOfDigits (length rs) ds ≡ keyOfDigits (length rs) es → pairedBy ls rs ds ps ≡ pairedBy ls rs es ps
+paired-same : (ls rs ds es : List ℕ) (ps : List (ℕ × ℕ)) → length rs ≤ 8 → Positive ds → Positive es →
+    keyOfDigits (length rs) ds ≡ keyOfDigits (length rs) es → pairedBy ls rs ds ps ≡ pairedBy ls rs es ps
 unfolding pairedBy keyOfDigits
 paired-same [] rs ds es ps m p q k = refl
 paired-same (a ∷ ls) rs [] es ps m p q k = sym (paired-none (a ∷ ls) rs es ps q (sym k))
@@ -210,7 +211,9 @@ remembers-none nodes arguments left right lent =
     }
 
 -- what is written later leaves an entry where it lies
-lies-later : {nodes arguments left right : List ℕ} {key place : ℕ} {lent : List ℕ} {at : ℕ} {es : List (List ℕ)} {lent′ : List ℕ} {w : Written} → at ≤ length lent → Writes es lent at lent′ w → Lies nodes arguments left right key place lent at → Lies nodes arguments left right key place lent′ (w .used)
+lies-later : {nodes arguments left right : List ℕ} {key place : ℕ} {lent : List ℕ} {at : ℕ} {es : List (List ℕ)} {lent′ : List ℕ} {w : Written} →
+    at ≤ length lent → Writes es lent at lent′ w → Lies nodes arguments left right key place lent at →
+    Lies nodes arguments left right key place lent′ (w .used)
 lies-later {nodes} {arguments} {left} {right} {key} {place} {lent} {at} {es} {lent′} {w} h r l =
     let v = length (variablesOf (nodesFrom nodes arguments)) in
     record {
@@ -227,7 +230,8 @@ lies-later {nodes} {arguments} {left} {right} {key} {place} {lent} {at} {es} {le
     }
 
 -- so all that is remembered stays right
-remembers-later : {nodes arguments left right memory lent : List ℕ} {at : ℕ} {es : List (List ℕ)} {lent′ : List ℕ} {w : Written} → Remembers nodes arguments left right memory lent at → Writes es lent at lent′ w → Remembers nodes arguments left right memory lent′ (w .used)
+remembers-later : {nodes arguments left right memory lent : List ℕ} {at : ℕ} {es : List (List ℕ)} {lent′ : List ℕ} {w : Written} →
+    Remembers nodes arguments left right memory lent at → Writes es lent at lent′ w → Remembers nodes arguments left right memory lent′ (w .used)
 remembers-later g r =
     let m = writes-room (g .room) r in
     record {
@@ -246,7 +250,12 @@ first-fits room (e ∷ es) h = pick (leb (length e) room) h
     pick true q = (e, flatten (fitting (room - length e) es), List·Memᴰ·head refl, refl)
     pick false q = absurd (omega (arith, q))
 
-module _ {nodes arguments left right memory lent : List ℕ} {at : ℕ} {es : List (List ℕ)} {lent′ : List ℕ} {w : Written} {memory′ : List ℕ} (entry : List ℕ) (i key : ℕ) (g : Remembers nodes arguments left right memory lent at) (k : Keyed left right entry i key) (depth : i ≤ length left) (long : i ≤ length entry) (positive : (j : ℕ) → j < i → 0 < word entry j) (unifiable : outcome (nodesFrom nodes arguments) (pairsIn left right entry i) ≡ unified) (each : (e : List ℕ) → List·Memᴰ e es → (length e ≡ widthOf nodes arguments left right) × (drop (length left + length right) e ≡ wordsOf (nodesFrom nodes arguments) (pairsIn left right entry i))) (r : Writes es lent at lent′ w) (n : Notes memory key at (w .used) memory′) where
+module _ {nodes arguments left right memory lent : List ℕ} {at : ℕ} {es : List (List ℕ)} {lent′ : List ℕ} {w : Written} {memory′ : List ℕ}
+    (entry : List ℕ) (i key : ℕ) (g : Remembers nodes arguments left right memory lent at) (k : Keyed left right entry i key)
+    (depth : i ≤ length left) (long : i ≤ length entry) (positive : (j : ℕ) → j < i → 0 < word entry j)
+    (unifiable : outcome (nodesFrom nodes arguments) (pairsIn left right entry i) ≡ unified)
+    (each : (e : List ℕ) → List·Memᴰ e es → (length e ≡ widthOf nodes arguments left right) × (drop (length left + length right) e ≡ wordsOf (nodesFrom nodes arguments) (pairsIn left right entry i)))
+    (r : Writes es lent at lent′ w) (n : Notes memory key at (w .used) memory′) where
   -- the first entry that was written lies where the lent words were used from
   lies-here : at < w .used → Lies nodes arguments left right (suc key) at lent′ (w .used)
   lies-here h =
@@ -289,7 +298,8 @@ module _ {nodes arguments left right memory lent : List ℕ} {at : ℕ} {es : Li
       at-slot : (j : ℕ) → word memory′ j ≡ word (set (set memory (slotOf key) (suc key)) (slots + slotOf key) at) j
       at-slot j = ap (λ (xs : List ℕ). word xs j) (n .noted h)
 
-      go : Remembers nodes arguments left right memory lent′ (w .used) → (s : ℕ) → s < slots → Dec (s ≡ slotOf key) → (word memory′ s ≡ 0 → ⊥) → Lies nodes arguments left right (word memory′ s) (word memory′ (slots + s)) lent′ (w .used)
+      go : Remembers nodes arguments left right memory lent′ (w .used) → (s : ℕ) → s < slots → Dec (s ≡ slotOf key) → (word memory′ s ≡ 0 → ⊥) →
+          Lies nodes arguments left right (word memory′ s) (word memory′ (slots + s)) lent′ (w .used)
       go later s l (yes e) z =
           let one = set memory (slotOf key) (suc key) in
           let s₁ = length-set memory (slotOf key) (suc key) in
@@ -311,35 +321,48 @@ module _ {nodes arguments left right memory lent : List ℕ} {at : ℕ} {es : Li
       pick (no h) = rw (n .none (omega (arith, h))) (remembers-later g r)
 
 -- the pairs of an entry are pairs of nodes
-pub pairable-inside : {nodes left right entry : List ℕ} {i : ℕ} (arguments : List ℕ) → Pairable nodes left right entry i → Inside (nodesFrom nodes arguments) (pairsIn left right entry i)
+pub pairable-inside : {nodes left right entry : List ℕ} {i : ℕ} (arguments : List ℕ) → Pairable nodes left right entry i →
+    Inside (nodesFrom nodes arguments) (pairsIn left right entry i)
 pairable-inside {nodes} {left} {right} {entry} {i} arguments p =
-    paired-inside (nodesFrom nodes arguments) right (λ j h. is-node nodes arguments (word right j) (p .right-nodes j h)) left (λ j h. is-node nodes arguments (word left j) (p .left-nodes j h)) (take i entry) (first-positive entry i (p .positive)) [] (λ x y m. absurd (List·Memᴰ·not-nil m))
+    paired-inside (nodesFrom nodes arguments) right (λ j h. is-node nodes arguments (word right j) (p .right-nodes j h)) left
+    (λ j h. is-node nodes arguments (word left j) (p .left-nodes j h)) (take i entry) (first-positive entry i (p .positive)) []
+    (λ x y m. absurd (List·Memᴰ·not-nil m))
 
 -- they have a unifier where classes stand for them
-pub standing-unified : {nodes arguments left right entry counts heads : List ℕ} {i : ℕ} → Sections nodes arguments → Counts nodes arguments counts (nodeCount nodes) → Formed nodes arguments counts heads → Standing nodes arguments left right heads entry i → Pairable nodes left right entry i → outcome (nodesFrom nodes arguments) (pairsIn left right entry i) ≡ unified
+pub standing-unified : {nodes arguments left right entry counts heads : List ℕ} {i : ℕ} → Sections nodes arguments →
+    Counts nodes arguments counts (nodeCount nodes) → Formed nodes arguments counts heads → Standing nodes arguments left right heads entry i →
+    Pairable nodes left right entry i → outcome (nodesFrom nodes arguments) (pairsIn left right entry i) ≡ unified
 standing-unified {nodes} {arguments} {left} {right} {entry} {counts} {heads} {i} s c f g p =
-    same-unified (nodesFrom nodes arguments) (sections-well-formed nodes arguments s) (g .pairs) (pairsIn left right entry i) (g .stands .inside) (pairable-inside arguments p) (g .unifiers) .0 (formed-unified nodes arguments counts heads s f c (g .pairs) (g .stands))
+    same-unified (nodesFrom nodes arguments) (sections-well-formed nodes arguments s) (g .pairs) (pairsIn left right entry i) (g .stands .inside)
+    (pairable-inside arguments p) (g .unifiers) .0 (formed-unified nodes arguments counts heads s f c (g .pairs) (g .stands))
 
 -- an entry that lies there for the key of other digits has their pairs
-lies-paired : {nodes arguments left right : List ℕ} {kept place : ℕ} {lent : List ℕ} {at : ℕ} (l : Lies nodes arguments left right kept place lent at) {entry : List ℕ} {i key : ℕ} → Pairable nodes left right entry i → Keyed left right entry i key → length right ≤ 8 → kept ≡ key + 1 → pairedBy left right (l .digits) [] ≡ pairsIn left right entry i
+lies-paired :
+    {nodes arguments left right : List ℕ} {kept place : ℕ} {lent : List ℕ} {at : ℕ} (l : Lies nodes arguments left right kept place lent at) {entry : List ℕ} {i key : ℕ} →
+    Pairable nodes left right entry i → Keyed left right entry i key → length right ≤ 8 → kept ≡ key + 1 →
+    pairedBy left right (l .digits) [] ≡ pairsIn left right entry i
 lies-paired {left = left} {right = right} l {entry} {i} p k m e =
     paired-same left right (l .digits) (take i entry) [] m (l .positive) (first-positive entry i (p .positive)) (omega (arith, k, e, l .keyed))
 
 -- so pairs have a unifier for whose key words are kept
-pub kept-unified : {nodes arguments left right entry memory lent : List ℕ} {i at key : ℕ} → Pairable nodes left right entry i → Keyed left right entry i key → Remembers nodes arguments left right memory lent at → length right ≤ 8 → word memory (slotOf key) ≡ key + 1 → outcome (nodesFrom nodes arguments) (pairsIn left right entry i) ≡ unified
+pub kept-unified : {nodes arguments left right entry memory lent : List ℕ} {i at key : ℕ} → Pairable nodes left right entry i →
+    Keyed left right entry i key → Remembers nodes arguments left right memory lent at → length right ≤ 8 → word memory (slotOf key) ≡ key + 1 →
+    outcome (nodesFrom nodes arguments) (pairsIn left right entry i) ≡ unified
 kept-unified {nodes} {arguments} {key = key} p k g m e =
     let l = g .lies (slotOf key) (omega arith) (λ z. omega (arith, e, z)) in
     ap (outcome (nodesFrom nodes arguments)) (sym (lies-paired l p k m e)) ∙ l .unifiable
 
 -- an entry that is remembered lies in the lent words
-pub lies-within : {nodes arguments left right memory lent : List ℕ} {at : ℕ} → Remembers nodes arguments left right memory lent at → (s key : ℕ) → s < slots → word memory s ≡ key + 1 → word memory (slots + s) + widthOf nodes arguments left right ≤ length lent
+pub lies-within : {nodes arguments left right memory lent : List ℕ} {at : ℕ} → Remembers nodes arguments left right memory lent at →
+    (s key : ℕ) → s < slots → word memory s ≡ key + 1 → word memory (slots + s) + widthOf nodes arguments left right ≤ length lent
 lies-within g s key h e =
     let l = g .lies s h (λ z. omega (arith, e, z)) in
     omega (arith, l .room, g .room)
 
 module _ {nodes arguments left right entry : List ℕ} {i : ℕ} (long : length entry ≡ widthOf nodes arguments left right) where
   -- words put behind the digits, if they are those of the pairs
-  put-bound : {entry′ : List ℕ} (ws : List ℕ) → ws ≡ wordsOf (nodesFrom nodes arguments) (pairsIn left right entry i) → entry′ ≡ put (length left + length right) ws entry → Bound nodes arguments left right entry i entry′
+  put-bound : {entry′ : List ℕ} (ws : List ℕ) → ws ≡ wordsOf (nodesFrom nodes arguments) (pairsIn left right entry i) →
+      entry′ ≡ put (length left + length right) ws entry → Bound nodes arguments left right entry i entry′
   unfolding put
   put-bound ws e q =
       let a = words-counted (nodesFrom nodes arguments) (pairsIn left right entry i) in
@@ -356,7 +379,10 @@ module _ {nodes arguments left right entry : List ℕ} {i : ℕ} (long : length 
       put-bound [] (sym b) (sym (put-none (length left + length right) entry))
 
   -- words of an earlier entry with the same key are those of the pairs
-  pub bound-again : {memory lent : List ℕ} {at key : ℕ} {entry′ : List ℕ} → Pairable nodes left right entry i → Keyed left right entry i key → Remembers nodes arguments left right memory lent at → length right ≤ 8 → (s : ℕ) → s < slots → word memory s ≡ key + 1 → (from to : ℕ) → from ≡ word memory (slots + s) + (length left + length right) → to ≡ from + length (variablesOf (nodesFrom nodes arguments)) → entry′ ≡ put (length left + length right) (take (to - from) (drop from lent)) entry → Bound nodes arguments left right entry i entry′
+  pub bound-again : {memory lent : List ℕ} {at key : ℕ} {entry′ : List ℕ} → Pairable nodes left right entry i → Keyed left right entry i key →
+      Remembers nodes arguments left right memory lent at → length right ≤ 8 → (s : ℕ) → s < slots → word memory s ≡ key + 1 → (from to : ℕ) →
+      from ≡ word memory (slots + s) + (length left + length right) → to ≡ from + length (variablesOf (nodesFrom nodes arguments)) →
+      entry′ ≡ put (length left + length right) (take (to - from) (drop from lent)) entry → Bound nodes arguments left right entry i entry′
   bound-again {memory} {lent} {at} {key} {entry′} p k g m s h e from to a b q =
       let l = g .lies s h (λ z. omega (arith, e, z)) in
       let c : to - from ≡ length (variablesOf (nodesFrom nodes arguments)) = omega (arith, b) in
@@ -366,7 +392,11 @@ module _ {nodes arguments left right entry : List ℕ} {i : ℕ} (long : length 
       q
 
   -- words of the classes are those of the pairs
-  pub bound-new : {counts heads : List ℕ} → Sections nodes arguments → Counts nodes arguments counts (nodeCount nodes) → Formed nodes arguments counts heads → Standing nodes arguments left right heads entry i → Pairable nodes left right entry i → (part : List ℕ) → Leaves nodes arguments heads (midOf (length left + length right) (length entry - (length left + length right)) entry) part → Bound nodes arguments left right entry i (putMid (length left + length right) (length entry - (length left + length right)) entry part)
+  pub bound-new : {counts heads : List ℕ} → Sections nodes arguments → Counts nodes arguments counts (nodeCount nodes) →
+      Formed nodes arguments counts heads → Standing nodes arguments left right heads entry i → Pairable nodes left right entry i →
+      (part : List ℕ) →
+      Leaves nodes arguments heads (midOf (length left + length right) (length entry - (length left + length right)) entry) part →
+      Bound nodes arguments left right entry i (putMid (length left + length right) (length entry - (length left + length right)) entry part)
   bound-new {counts} {heads} s c f g p part l =
       let ns = nodesFrom nodes arguments in
       let n = length left + length right in

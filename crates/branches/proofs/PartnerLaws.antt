@@ -39,7 +39,8 @@ stays-nought (z ∷ zs) (suc i) (suc j) h = stays-nought zs i j h
 
 module _ (ns : List Node) (rs : List ℕ) (right : Nodes ns rs) where
   -- without right labels, a left term without a partner stops every string
-  left-alone : (k : ℕ) (ls : List ℕ) → Nodes ns ls → (q : ℕ) → q < length ls → (ds : List ℕ) (ps : List (ℕ × ℕ)) (marks : List ℕ) → Inside ns ps → ((j : ℕ) → j < length rs → (word marks j ≡ 0 → ⊥) → Never ns (word ls q) (word rs j)) → below ns rs k 0 ls ds ps marks ≡ []
+  left-alone : (k : ℕ) (ls : List ℕ) → Nodes ns ls → (q : ℕ) → q < length ls → (ds : List ℕ) (ps : List (ℕ × ℕ)) (marks : List ℕ) →
+      Inside ns ps → ((j : ℕ) → j < length rs → (word marks j ≡ 0 → ⊥) → Never ns (word ls q) (word rs j)) → below ns rs k 0 ls ds ps marks ≡ []
   unfolding below
   left-alone k [] left q p ds ps marks h n = absurd (omega arith)
   left-alone k (a ∷ ls) left zero p ds ps marks h n =
@@ -57,7 +58,8 @@ module _ (ns : List Node) (rs : List ℕ) (right : Nodes ns rs) where
       (λ t. absurd (omega arith)))
 
   -- without left labels, an unpaired right term without a partner stops every string
-  right-alone : (l : ℕ) (ls : List ℕ) → Nodes ns ls → (j : ℕ) → j < length rs → (ds : List ℕ) (ps : List (ℕ × ℕ)) (marks : List ℕ) → Inside ns ps → (word marks j ≡ 0 → ⊥) → ((q : ℕ) → q < length ls → Never ns (word ls q) (word rs j)) → below ns rs 0 l ls ds ps marks ≡ []
+  right-alone : (l : ℕ) (ls : List ℕ) → Nodes ns ls → (j : ℕ) → j < length rs → (ds : List ℕ) (ps : List (ℕ × ℕ)) (marks : List ℕ) →
+      Inside ns ps → (word marks j ≡ 0 → ⊥) → ((q : ℕ) → q < length ls → Never ns (word ls q) (word rs j)) → below ns rs 0 l ls ds ps marks ≡ []
   unfolding below
   right-alone l [] left j p ds ps marks h m n =
       let u = unpaired-set marks j m in
@@ -79,7 +81,8 @@ and-right-true : (a b : Bool) → (a && b) ≡ false → b ≡ true → a ≡ fa
 and-right-true true b e p = absurd (false≢true (sym e ∙ p))
 and-right-true false b e p = refl
 
-module _ (nodes arguments left right may : List ℕ) (labels : Labels) (i : ℕ) (ds : List ℕ) (ps : List (ℕ × ℕ)) (marks : List ℕ) (able : Listable nodes arguments left right labels) (pairs : MayPair nodes arguments left right may) where
+module _ (nodes arguments left right may : List ℕ) (labels : Labels) (i : ℕ) (ds : List ℕ) (ps : List (ℕ × ℕ)) (marks : List ℕ)
+    (able : Listable nodes arguments left right labels) (pairs : MayPair nodes arguments left right may) where
   -- The left terms from i on are nodes.
   left-nodes : (q : ℕ) → q < length (drop i left) → word (drop i left) q < length (nodesFrom nodes arguments)
   left-nodes q h =
@@ -112,24 +115,38 @@ module _ (nodes arguments left right may : List ℕ) (labels : Labels) (i : ℕ)
         let r = some-means (rightStuck may i (length left) marks) (length marks) .0 e in
         let m : eqb (word marks (r .0)) 0 ≡ false = not-true _ (and-true-left _ _ (r .2)) in
         let x : someLeft may i (length left) (r .0) ≡ false = not-true _ (and-true-right (not (eqb (word marks (r .0)) 0)) _ (r .2)) in
-        right-alone (nodesFrom nodes arguments) right right-nodes l (drop i left) left-nodes (r .0) (omega (arith, size)) ds ps marks inside (eqb-false _ _ m)
+        right-alone (nodesFrom nodes arguments) right right-nodes l (drop i left) left-nodes (r .0) (omega (arith, size)) ds ps marks inside
+        (eqb-false _ _ m)
         (λ q p.
         let v : eqb (word may (maxTerms * (i + q) + r .0)) 0 ≡ true = not-false _ (none-some (leftAt may i (r .0)) (length left - i) x q (omega (arith, s))) in
         rw (getD-drop i left q 0) (pairs .never (i + q) (r .0) (omega (arith, s)) (omega (arith, size)) (eqb-true _ _ v)))
 
 -- nothing is below a branch where a term that must be paired has no partner
-pub below-stuck : (nodes arguments left right may : List ℕ) (labels : Labels) (i : ℕ) (ds : List ℕ) (ps : List (ℕ × ℕ)) (marks : List ℕ) → Listable nodes arguments left right labels → MayPair nodes arguments left right may → i ≤ length left → length marks ≡ length right → Inside (nodesFrom nodes arguments) ps → stuck (labels .left) (labels .right) may i (length left) marks ≡ true → below (nodesFrom nodes arguments) right (labels .left) (labels .right) (drop i left) ds ps marks ≡ []
+pub below-stuck : (nodes arguments left right may : List ℕ) (labels : Labels) (i : ℕ) (ds : List ℕ) (ps : List (ℕ × ℕ)) (marks : List ℕ) →
+    Listable nodes arguments left right labels → MayPair nodes arguments left right may → i ≤ length left → length marks ≡ length right →
+    Inside (nodesFrom nodes arguments) ps → stuck (labels .left) (labels .right) may i (length left) marks ≡ true →
+    below (nodesFrom nodes arguments) right (labels .left) (labels .right) (drop i left) ds ps marks ≡ []
 unfolding stuck
 below-stuck nodes arguments left right may labels i ds ps marks able pairs h size inside e =
     pick (eqb (labels .right) 0) refl (eqb (labels .left) 0) refl e
   where
-    pick : (a : Bool) → eqb (labels .right) 0 ≡ a → (b : Bool) → eqb (labels .left) 0 ≡ b → cond a (leftsStuck may i (length left) marks) (cond b (rightsStuck may i (length left) marks) false) ≡ true → below (nodesFrom nodes arguments) right (labels .left) (labels .right) (drop i left) ds ps marks ≡ []
-    pick true p b q f = rw (eqb-true (labels .right) 0 p) (lefts-none nodes arguments left right may labels i ds ps marks able pairs size inside (labels .left) f)
-    pick false p true q f = rw (eqb-true (labels .left) 0 q) (rights-none nodes arguments left right may labels i ds ps marks able pairs size inside (labels .right) f)
+    pick : (a : Bool) → eqb (labels .right) 0 ≡ a → (b : Bool) → eqb (labels .left) 0 ≡ b →
+        cond a (leftsStuck may i (length left) marks) (cond b (rightsStuck may i (length left) marks) false) ≡ true →
+        below (nodesFrom nodes arguments) right (labels .left) (labels .right) (drop i left) ds ps marks ≡ []
+    pick true p b q f =
+        rw (eqb-true (labels .right) 0 p)
+        (lefts-none nodes arguments left right may labels i ds ps marks able pairs size inside (labels .left) f)
+    pick false p true q f =
+        rw (eqb-true (labels .left) 0 q)
+        (rights-none nodes arguments left right may labels i ds ps marks able pairs size inside (labels .right) f)
     pick false p false q f = absurd (false≢true f)
 
 -- a digit that pairs two terms whose mark is 0 has no entry
-pub may-none : (nodes arguments left right may : List ℕ) (labels : Labels) (i d : ℕ) (f : List ℕ → List (ℕ × ℕ) → List ℕ → List (List ℕ)) (ds : List ℕ) (ps : List (ℕ × ℕ)) (marks : List ℕ) → Listable nodes arguments left right labels → MayPair nodes arguments left right may → i < length left → 0 < d → d ≤ length right → Inside (nodesFrom nodes arguments) ps → word may (maxTerms * i + (d - 1)) ≡ 0 → onDigit (nodesFrom nodes arguments) right f ds ps marks (word left i) d ≡ []
+pub may-none :
+    (nodes arguments left right may : List ℕ) (labels : Labels) (i d : ℕ) (f : List ℕ → List (ℕ × ℕ) → List ℕ → List (List ℕ)) (ds : List ℕ) (ps : List (ℕ × ℕ)) (marks : List ℕ) →
+    Listable nodes arguments left right labels → MayPair nodes arguments left right may → i < length left → 0 < d → d ≤ length right →
+    Inside (nodesFrom nodes arguments) ps → word may (maxTerms * i + (d - 1)) ≡ 0 →
+    onDigit (nodesFrom nodes arguments) right f ds ps marks (word left i) d ≡ []
 may-none nodes arguments left right may labels i d f ds ps marks able pairs h p q inside z =
     digit-empty (nodesFrom nodes arguments) right f ds ps marks (word left i) d
     (λ r n u. absurd (pairs .never i (d - 1) h (omega arith) z ps inside u))
@@ -209,7 +226,8 @@ module _ (may : List ℕ) (i n : ℕ) (marks : List ℕ) (j : ℕ) (b : Bool) (e
   rights-next f t = some-next (rightStuck may i n marks) j f (sym e ∙ t)
 
 -- a pair can be tried by itself, with any counts that are right
-pub triable : {nodes arguments heads next counts : List ℕ} → Trying nodes arguments heads next → Counts nodes arguments counts (nodeCount nodes) → Triable nodes arguments counts heads next
+pub triable : {nodes arguments heads next counts : List ℕ} → Trying nodes arguments heads next →
+    Counts nodes arguments counts (nodeCount nodes) → Triable nodes arguments counts heads next
 triable {counts = counts} t c =
     record {
       sections = t .sections;
@@ -220,11 +238,14 @@ triable {counts = counts} t c =
     }
 
 -- a pair marked with 0 only if it never has a unifier leaves the marks right
-pub pair-marked : (nodes arguments left right may : List ℕ) (i j a b v : ℕ) → length left ≤ maxTerms → length right ≤ maxTerms → j < length right → a ≡ word left i → b ≡ word right j → (v ≡ 0 → Never (nodesFrom nodes arguments) a b) → MayPair nodes arguments left right may → MayPair nodes arguments left right (set may (maxTerms * i + j) v)
+pub pair-marked : (nodes arguments left right may : List ℕ) (i j a b v : ℕ) → length left ≤ maxTerms → length right ≤ maxTerms →
+    j < length right → a ≡ word left i → b ≡ word right j → (v ≡ 0 → Never (nodesFrom nodes arguments) a b) →
+    MayPair nodes arguments left right may → MayPair nodes arguments left right (set may (maxTerms * i + j) v)
 pair-marked nodes arguments left right may i j a b v few-left few-right h x y n m =
     record { size = length-set may (maxTerms * i + j) v ∙ m .size; never = λ q r p s z. go q r p s z (ℕ-discrete (maxTerms * q + r) (maxTerms * i + j)) }
   where
-    go : (q r : ℕ) → q < length left → r < length right → word (set may (maxTerms * i + j) v) (maxTerms * q + r) ≡ 0 → Dec (maxTerms * q + r ≡ maxTerms * i + j) → Never (nodesFrom nodes arguments) (word left q) (word right r)
+    go : (q r : ℕ) → q < length left → r < length right → word (set may (maxTerms * i + j) v) (maxTerms * q + r) ≡ 0 →
+        Dec (maxTerms * q + r ≡ maxTerms * i + j) → Never (nodesFrom nodes arguments) (word left q) (word right r)
     go q r p s z (yes e) =
         let c : q ≡ i = omega (arith, few-right, h, e) in
         let d : r ≡ j = omega (arith, few-right, h, e) in

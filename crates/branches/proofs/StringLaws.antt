@@ -97,7 +97,8 @@ other (inl e) n = absurd (n e)
 other (inr e) n = e
 
 -- a branch that stands in an entry
-module _ {nodes arguments left right entry : List ℕ} {labels : Labels} {key weight unpaired i : ℕ} (l : Listable nodes arguments left right labels) (g : Branching nodes arguments left right entry key weight unpaired i) where
+module _ {nodes arguments left right entry : List ℕ} {labels : Labels} {key weight unpaired i : ℕ}
+    (l : Listable nodes arguments left right labels) (g : Branching nodes arguments left right entry key weight unpaired i) where
   -- its digits pair nodes
   pub branch-pairable : Pairable nodes left right entry i
   branch-pairable =
@@ -148,7 +149,9 @@ module _ {nodes arguments left right entry : List ℕ} {labels : Labels} {key we
         ∙ ap (λ (ds : List ℕ). wordsOf (nodesFrom nodes arguments) (pairedBy left right ds [])) (sym (bound-keeps .digits))
 
     -- so the entries can be written
-    pub bound-ending : {memory lent : List ℕ} {at : ℕ} → outcome (nodesFrom nodes arguments) (pairsIn left right entry i) ≡ unified → Remembers nodes arguments left right memory lent at → Ending nodes arguments left right labels key weight unpaired i entry₁ memory lent at
+    pub bound-ending : {memory lent : List ℕ} {at : ℕ} → outcome (nodesFrom nodes arguments) (pairsIn left right entry i) ≡ unified →
+        Remembers nodes arguments left right memory lent at →
+        Ending nodes arguments left right labels key weight unpaired i entry₁ memory lent at
     bound-ending u r =
         record {
           listable = l;
@@ -160,7 +163,9 @@ module _ {nodes arguments left right entry : List ℕ} {labels : Labels} {key we
         }
 
     -- and they are those of the branch
-    pub bound-walked : {memory lent : List ℕ} {at : ℕ} {entry₂ memory′ lent′ : List ℕ} {w : Written} → Walked nodes arguments left right labels i entry₁ memory lent at entry₂ memory′ lent′ w → Walked nodes arguments left right labels i entry memory lent at entry₂ memory′ lent′ w
+    pub bound-walked : {memory lent : List ℕ} {at : ℕ} {entry₂ memory′ lent′ : List ℕ} {w : Written} →
+        Walked nodes arguments left right labels i entry₁ memory lent at entry₂ memory′ lent′ w →
+        Walked nodes arguments left right labels i entry memory lent at entry₂ memory′ lent′ w
     bound-walked y =
         record {
           writes = rw (bound-keeps .digits, bound-keeps .marks) at (y .writes);
@@ -170,14 +175,16 @@ module _ {nodes arguments left right entry : List ℕ} {labels : Labels} {key we
         }
 
 -- a branch whose binding words stand behind its digits
-module _ {nodes arguments left right : List ℕ} {labels : Labels} {key weight unpaired i : ℕ} {entry memory lent : List ℕ} {at : ℕ} (g : Ending nodes arguments left right labels key weight unpaired i entry memory lent at) where
+module _ {nodes arguments left right : List ℕ} {labels : Labels} {key weight unpaired i : ℕ} {entry memory lent : List ℕ} {at : ℕ}
+    (g : Ending nodes arguments left right labels key weight unpaired i entry memory lent at) where
   -- the marks stand before the binding words
   marks-before : drop (length left) entry ≡ marksIn left right entry ++ wordsOf (nodesFrom nodes arguments) (pairsIn left right entry i)
   marks-before =
       sym (take-append-drop (length right) (drop (length left) entry)) ∙ ap (λ (ws : List ℕ). marksIn left right entry ++ ws) (drop-drop (length right) (length left) entry ∙ g .bound)
 
   -- its right digits give the entries of a whole string of left digits
-  string-entries : i ≡ length left → rightEntries (labels .left) entry (length left) (length left + length right) ≡ branchEntries nodes arguments left right labels entry i
+  string-entries : i ≡ length left →
+      rightEntries (labels .left) entry (length left) (length left + length right) ≡ branchEntries nodes arguments left right labels entry i
   unfolding rightEntries below
   string-entries q =
       let m : length left + length right - length left ≡ length right = omega arith in
@@ -186,7 +193,8 @@ module _ {nodes arguments left right : List ℕ} {labels : Labels} {key weight u
       rw (m, t, g .bound, z) refl
 
   -- its strings of labels those of a branch in which every right term is paired
-  label-entries : unpaired ≡ 0 → labelEntries (length right) (labels .right) entry i (length left) ≡ branchEntries nodes arguments left right labels entry i
+  label-entries : unpaired ≡ 0 →
+      labelEntries (length right) (labels .right) entry i (length left) ≡ branchEntries nodes arguments left right labels entry i
   unfolding labelEntries
   label-entries q =
       let x = below-labels (nodesFrom nodes arguments) right (labels .left) (labels .right) (drop i left) (take i entry) (pairsIn left right entry i) (marksIn left right entry) (sym (g .branching .counted) ∙ q) in
@@ -194,14 +202,18 @@ module _ {nodes arguments left right : List ℕ} {labels : Labels} {key weight u
 
   module _ {lent′ : List ℕ} {w : Written} {memory′ : List ℕ} (n : Notes memory key at (w .used) memory′) where
     -- entries with these binding words are remembered
-    noted : {es : List (List ℕ)} → ((e : List ℕ) → List·Memᴰ e es → (length e ≡ length entry) × (drop (length left + length right) e ≡ drop (length left + length right) entry)) → Writes es lent at lent′ w → Remembers nodes arguments left right memory′ lent′ (w .used)
+    noted : {es : List (List ℕ)} →
+        ((e : List ℕ) → List·Memᴰ e es → (length e ≡ length entry) × (drop (length left + length right) e ≡ drop (length left + length right) entry)) →
+        Writes es lent at lent′ w → Remembers nodes arguments left right memory′ lent′ (w .used)
     noted f x =
         let d = g .branching .depth in
         remembers-noted entry i key (g .remembers) (g .branching .keyed) d (omega (arith, branch-room (g .branching), d)) (g .branching .positive) (g .unifiable)
         (λ e m. (f e m .0 ∙ g .branching .size, f e m .1 ∙ g .bound)) x n
 
     -- every left term has its digit
-    pub string-walked : {entry′ : List ℕ} → i ≡ length left → Writes (rightEntries (labels .left) entry (length left) (length left + length right)) lent at lent′ w → Restored entry w entry′ → Walked nodes arguments left right labels i entry memory lent at entry′ memory′ lent′ w
+    pub string-walked : {entry′ : List ℕ} → i ≡ length left →
+        Writes (rightEntries (labels .left) entry (length left) (length left + length right)) lent at lent′ w → Restored entry w entry′ →
+        Walked nodes arguments left right labels i entry memory lent at entry′ memory′ lent′ w
     string-walked q x r =
         record {
           writes = rw (string-entries q) at x;
@@ -211,7 +223,9 @@ module _ {nodes arguments left right : List ℕ} {labels : Labels} {key weight u
         }
 
     -- every right term is paired
-    pub label-walked : {entry′ : List ℕ} → unpaired ≡ 0 → Writes (labelEntries (length right) (labels .right) entry i (length left)) lent at lent′ w → Relabelled entry i (length left) entry′ → Walked nodes arguments left right labels i entry memory lent at entry′ memory′ lent′ w
+    pub label-walked : {entry′ : List ℕ} → unpaired ≡ 0 →
+        Writes (labelEntries (length right) (labels .right) entry i (length left)) lent at lent′ w → Relabelled entry i (length left) entry′ →
+        Walked nodes arguments left right labels i entry memory lent at entry′ memory′ lent′ w
     label-walked q x r =
         record {
           writes = rw (label-entries q) at x;

@@ -41,7 +41,8 @@ module _ (t : List ℕ) (pairs k at end : ℕ) (here : at ≡ offset t k) (so-fa
             some-next (offsetIsWrong ss t) k (so-far .right ss l) (rw f);
       }
 
-pub pairs-end : (t : List ℕ) (pairs k end : ℕ) → PairsRight t pairs k end → k ≤ pairs → pairs ≤ k → (ss : List Section) → length ss ≡ pairs → not (eqb end (length t)) ≡ brokenPair ss t
+pub pairs-end : (t : List ℕ) (pairs k end : ℕ) → PairsRight t pairs k end → k ≤ pairs → pairs ≤ k → (ss : List Section) → length ss ≡ pairs →
+    not (eqb end (length t)) ≡ brokenPair ss t
 unfolding brokenPair
 pairs-end t pairs k end r a b ss l =
     let s : k ≡ length ss = omega arith in
@@ -49,7 +50,8 @@ pairs-end t pairs k end r a b ss l =
     rw (some-end (offsetIsWrong ss t) k (length ss) (omega arith) (omega arith) (r .right ss l), d)
 
 -- Refusal 3, at section k.
-pub size-tested : (ss : List Section) (t : List ℕ) (k : ℕ) {words : ℕ} {r : Bool} → words ≡ size t k → r ≡ wordsAreWrong (sectionAt ss k) words → r ≡ sizeIsWrong ss t k
+pub size-tested : (ss : List Section) (t : List ℕ) (k : ℕ) {words : ℕ} {r : Bool} → words ≡ size t k → r ≡ wordsAreWrong (sectionAt ss k) words →
+    r ≡ sizeIsWrong ss t k
 unfolding sizeIsWrong
 size-tested ss t k e f = f ∙ ap (wordsAreWrong (sectionAt ss k)) e
 
@@ -84,7 +86,8 @@ module _ {ns : List ℕ} {i count earlier : ℕ} {r : Bool} (s : NodeTested ns i
   unfolding countsBefore
   earlier-next = rw (add-one, s .the-sum, s .the-count)
 
-pub nodes-end : (ns args : List ℕ) (i earlier : ℕ) → earlier ≡ countsBefore ns i → i ≤ nodeCount ns → nodeCount ns ≤ i → someBelow i (nodeIsWrong ns) ≡ false → not (eqb earlier (length args)) ≡ wrongNode ns args
+pub nodes-end : (ns args : List ℕ) (i earlier : ℕ) → earlier ≡ countsBefore ns i → i ≤ nodeCount ns → nodeCount ns ≤ i →
+    someBelow i (nodeIsWrong ns) ≡ false → not (eqb earlier (length args)) ≡ wrongNode ns args
 unfolding wrongNode
 nodes-end ns args i earlier e a b f =
     let s : earlier ≡ countsBefore ns (nodeCount ns) = e ∙ ap (countsBefore ns) (let q : i ≡ nodeCount ns = omega arith in q) in

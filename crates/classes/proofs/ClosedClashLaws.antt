@@ -22,7 +22,8 @@ use Rattle.nodes.specs.Code.Open.{IsClosed, Counts}
 abbrev pub SameTerm : List ℕ → List ℕ → ℕ → ℕ → Type 0
 SameTerm nodes arguments i j = value (nodesFrom nodes arguments) var i ≡ value (nodesFrom nodes arguments) var j
 
-module _ (nodes arguments counts : List ℕ) (s : Sections nodes arguments) (r : Counts nodes arguments counts (nodeCount nodes)) (ps : List (ℕ × ℕ)) where
+module _ (nodes arguments counts : List ℕ) (s : Sections nodes arguments) (r : Counts nodes arguments counts (nodeCount nodes))
+    (ps : List (ℕ × ℕ)) where
   -- The nodes.
   abbrev ns : List Node
   ns = nodesFrom nodes arguments
@@ -52,7 +53,8 @@ module _ (nodes arguments counts : List ℕ) (s : Sections nodes arguments) (r :
           (pair-place nodes arguments s i j (m .node) (n .node) (argumentOf nodes arguments i k) (argumentOf nodes arguments j k) .1 (k, l, rw (← as-many) l, refl, refl))
 
       -- with arguments of one term each they are of one term
-      made : ((k : ℕ) → k < countOf nodes i → SameTerm nodes arguments (argumentOf nodes arguments i k) (argumentOf nodes arguments j k)) → SameTerm nodes arguments i j
+      made : ((k : ℕ) → k < countOf nodes i → SameTerm nodes arguments (argumentOf nodes arguments i k) (argumentOf nodes arguments j k)) →
+          SameTerm nodes arguments i j
       made f =
           let w = sections-well-formed nodes arguments s in
           value-application ns w var i (nameOf nodes i) (run nodes arguments i) (is-node nodes arguments i (m .node)) first-node
@@ -64,32 +66,45 @@ module _ (nodes arguments counts : List ℕ) (s : Sections nodes arguments) (r :
           pairs a b k = let p = pair-place nodes arguments s i j (m .node) (n .node) a b .0 k in ap (value ns var) (p .3) ∙ f (p .0) (p .1) ∙ sym (ap (value ns var) (p .4))
 
       -- the first k pairs of arguments are of one term each, or some clash
-      firsts : ((a b : ℕ) → a < i → IsClosed nodes counts a → IsClosed nodes counts b → Joined ns ps a b → Clash ns ps ⊎ SameTerm nodes arguments a b) → (k : ℕ) → ((p : ℕ) → p < k → p < countOf nodes i) → Clash ns ps ⊎ ((p : ℕ) → p < k → SameTerm nodes arguments (argumentOf nodes arguments i p) (argumentOf nodes arguments j p))
+      firsts :
+          ((a b : ℕ) → a < i → IsClosed nodes counts a → IsClosed nodes counts b → Joined ns ps a b → Clash ns ps ⊎ SameTerm nodes arguments a b) →
+          (k : ℕ) → ((p : ℕ) → p < k → p < countOf nodes i) →
+          Clash ns ps ⊎ ((p : ℕ) → p < k → SameTerm nodes arguments (argumentOf nodes arguments i p) (argumentOf nodes arguments j p))
       firsts f zero h = inr (λ p l. absurd (omega arith))
       firsts f (suc k) h =
           let l : k < countOf nodes i = h k (omega arith) in
           go (firsts f k (λ p b. h p (omega arith)))
           (f (argumentOf nodes arguments i k) (argumentOf nodes arguments j k) (s .smaller i k (m .node) l) (r .below i (m .node) m k l) (r .below j (n .node) n k (rw (← as-many) l)) (paired k l))
         where
-          last : ((p : ℕ) → p < k → SameTerm nodes arguments (argumentOf nodes arguments i p) (argumentOf nodes arguments j p)) → SameTerm nodes arguments (argumentOf nodes arguments i k) (argumentOf nodes arguments j k) → (p : ℕ) → p < suc k → Dec (p ≡ k) → SameTerm nodes arguments (argumentOf nodes arguments i p) (argumentOf nodes arguments j p)
+          last : ((p : ℕ) → p < k → SameTerm nodes arguments (argumentOf nodes arguments i p) (argumentOf nodes arguments j p)) →
+              SameTerm nodes arguments (argumentOf nodes arguments i k) (argumentOf nodes arguments j k) → (p : ℕ) → p < suc k → Dec (p ≡ k) →
+              SameTerm nodes arguments (argumentOf nodes arguments i p) (argumentOf nodes arguments j p)
           last e d p b (yes z) = rw z d
           last e d p b (no z) = e p (omega (arith, b, z))
 
-          go : Clash ns ps ⊎ ((p : ℕ) → p < k → SameTerm nodes arguments (argumentOf nodes arguments i p) (argumentOf nodes arguments j p)) → Clash ns ps ⊎ SameTerm nodes arguments (argumentOf nodes arguments i k) (argumentOf nodes arguments j k) → Clash ns ps ⊎ ((p : ℕ) → p < suc k → SameTerm nodes arguments (argumentOf nodes arguments i p) (argumentOf nodes arguments j p))
+          go : Clash ns ps ⊎ ((p : ℕ) → p < k → SameTerm nodes arguments (argumentOf nodes arguments i p) (argumentOf nodes arguments j p)) →
+              Clash ns ps ⊎ SameTerm nodes arguments (argumentOf nodes arguments i k) (argumentOf nodes arguments j k) →
+              Clash ns ps ⊎ ((p : ℕ) → p < suc k → SameTerm nodes arguments (argumentOf nodes arguments i p) (argumentOf nodes arguments j p))
           go (inl c) d = inl c
           go (inr e) (inl c) = inl c
           go (inr e) (inr d) = inr (λ p b. last e d p b (ℕ-discrete p k))
 
       -- all pairs are of one term each, or some clash
-      all : ((a b : ℕ) → a < i → IsClosed nodes counts a → IsClosed nodes counts b → Joined ns ps a b → Clash ns ps ⊎ SameTerm nodes arguments a b) → Clash ns ps ⊎ SameTerm nodes arguments i j
+      all :
+          ((a b : ℕ) → a < i → IsClosed nodes counts a → IsClosed nodes counts b → Joined ns ps a b → Clash ns ps ⊎ SameTerm nodes arguments a b) →
+          Clash ns ps ⊎ SameTerm nodes arguments i j
       all f = go (firsts f (countOf nodes i) (λ p l. l))
         where
-          go : Clash ns ps ⊎ ((p : ℕ) → p < countOf nodes i → SameTerm nodes arguments (argumentOf nodes arguments i p) (argumentOf nodes arguments j p)) → Clash ns ps ⊎ SameTerm nodes arguments i j
+          go :
+              Clash ns ps ⊎ ((p : ℕ) → p < countOf nodes i → SameTerm nodes arguments (argumentOf nodes arguments i p) (argumentOf nodes arguments j p)) →
+              Clash ns ps ⊎ SameTerm nodes arguments i j
           go (inl c) = inl c
           go (inr e) = inr (made e)
 
     -- the symbols are one or not
-    step : ((a b : ℕ) → a < i → IsClosed nodes counts a → IsClosed nodes counts b → Joined ns ps a b → Clash ns ps ⊎ SameTerm nodes arguments a b) → Clash ns ps ⊎ SameTerm nodes arguments i j
+    step :
+        ((a b : ℕ) → a < i → IsClosed nodes counts a → IsClosed nodes counts b → Joined ns ps a b → Clash ns ps ⊎ SameTerm nodes arguments a b) →
+        Clash ns ps ⊎ SameTerm nodes arguments i j
     step f = pick (symbolTest nodes i j) refl
       where
         pick : (b : Bool) → symbolTest nodes i j ≡ b → Clash ns ps ⊎ SameTerm nodes arguments i j

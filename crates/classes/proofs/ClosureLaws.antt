@@ -26,11 +26,13 @@ abbrev pub Wanted : List Node → List (ℕ × ℕ) → List (ℕ × ℕ) → Ty
 Wanted ns ps todo = (a b : ℕ) → List·Memᴰ (a, b) todo → Joined ns ps a b
 
 -- what is linked stays so in coarser classes
-linked-on : (heads heads′ : List ℕ) (todo todo′ : List (ℕ × ℕ)) → length heads′ ≡ length heads → Coarser heads heads′ → Covers heads′ todo todo′ → (a b : ℕ) → Linked heads todo a b → Linked heads′ todo′ a b
+linked-on : (heads heads′ : List ℕ) (todo todo′ : List (ℕ × ℕ)) → length heads′ ≡ length heads → Coarser heads heads′ →
+    Covers heads′ todo todo′ → (a b : ℕ) → Linked heads todo a b → Linked heads′ todo′ a b
 linked-on heads heads′ todo todo′ l h k a b s ds c u = s ds (λ i j p q e. c i j (rw l p) (rw l q) (h i j p q e)) (k ds c u)
 
 -- other pairs may stand for those that are still to be joined
-pub retold : (ns : List Node) (ps : List (ℕ × ℕ)) (heads : List ℕ) (todo todo′ : List (ℕ × ℕ)) → Covers heads todo todo′ → Wanted ns ps todo′ → ClosureUpTo ns ps heads todo → ClosureUpTo ns ps heads todo′
+pub retold : (ns : List Node) (ps : List (ℕ × ℕ)) (heads : List ℕ) (todo todo′ : List (ℕ × ℕ)) → Covers heads todo todo′ → Wanted ns ps todo′ →
+    ClosureUpTo ns ps heads todo → ClosureUpTo ns ps heads todo′
 retold ns ps heads todo todo′ k w c =
     record {
       joined = c .joined;
@@ -43,24 +45,32 @@ retold ns ps heads todo todo′ k w c =
     }
 
 -- a pair of one class is done
-pub already : (ns : List Node) (ps : List (ℕ × ℕ)) (heads : List ℕ) (a b : ℕ) (todo : List (ℕ × ℕ)) → a < length heads → b < length heads → classOf heads a ≡ classOf heads b → ClosureUpTo ns ps heads ((a, b) ∷ todo) → ClosureUpTo ns ps heads todo
+pub already : (ns : List Node) (ps : List (ℕ × ℕ)) (heads : List ℕ) (a b : ℕ) (todo : List (ℕ × ℕ)) → a < length heads → b < length heads →
+    classOf heads a ≡ classOf heads b → ClosureUpTo ns ps heads ((a, b) ∷ todo) → ClosureUpTo ns ps heads todo
 already ns ps heads a b todo p q e c =
     retold ns ps heads ((a, b) ∷ todo) todo (λ ds h u. unites-front ds a b todo (h a b p q e) u) (λ x y m. c .wanted x y (List·Memᴰ·tail m)) c
 
 -- two applications of different symbols in the classes of a pair clash
-pub heads-clash : (ns : List Node) (ps : List (ℕ × ℕ)) (heads : List ℕ) (a b : ℕ) (todo : List (ℕ × ℕ)) → a < length ns → b < length ns → (f g : ℕ) (us vs : List ℕ) → nodeAt ns (classOf heads a) ≡ application f us → nodeAt ns (classOf heads b) ≡ application g vs → (OneSymbol f us g vs → ⊥) → ClosureUpTo ns ps heads ((a, b) ∷ todo) → Clash ns ps
+pub heads-clash : (ns : List Node) (ps : List (ℕ × ℕ)) (heads : List ℕ) (a b : ℕ) (todo : List (ℕ × ℕ)) → a < length ns → b < length ns →
+    (f g : ℕ) (us vs : List ℕ) → nodeAt ns (classOf heads a) ≡ application f us → nodeAt ns (classOf heads b) ≡ application g vs →
+    (OneSymbol f us g vs → ⊥) → ClosureUpTo ns ps heads ((a, b) ∷ todo) → Clash ns ps
 heads-clash ns ps heads a b todo p q f g us vs d e n c =
     different (on (on (back (c .joined a p)) (c .wanted a b (List·Memᴰ·head refl))) (c .joined b q)) d e n
 
 -- The class of node y becomes a part of the class of node x: what their heads have to be.
 abbrev pub HeadsMeet : List Node → List ℕ → ℕ → ℕ → List (ℕ × ℕ) → Type 0
-HeadsMeet ns heads x y todo = (f : ℕ) (us : List ℕ) → nodeAt ns (classOf heads y) ≡ application f us → (vs : List ℕ) × (nodeAt ns (classOf heads x) ≡ application f vs) × (length us ≡ length vs) × ((a b : ℕ) → List·Memᴰ (a, b) (zip us vs) → Linked (join heads (x, y)) todo a b)
+HeadsMeet ns heads x y todo =
+    (f : ℕ) (us : List ℕ) → nodeAt ns (classOf heads y) ≡ application f us →
+    (vs : List ℕ) × (nodeAt ns (classOf heads x) ≡ application f vs) × (length us ≡ length vs) ×
+    ((a b : ℕ) → List·Memᴰ (a, b) (zip us vs) → Linked (join heads (x, y)) todo a b)
 
 -- nodes that are joined have one class
 pub united : (heads : List ℕ) (x y : ℕ) → x < length heads → y < length heads → classOf (join heads (x, y)) x ≡ classOf (join heads (x, y)) y
 united heads x y p q = join-first heads x y x p refl ∙ sym (join-second heads x y y q refl)
 
-module _ (ns : List Node) (ps : List (ℕ × ℕ)) (heads : List ℕ) (x y : ℕ) (todo todo′ : List (ℕ × ℕ)) (l : length heads ≡ length ns) (hx : x < length ns) (hy : y < length ns) (link : Joined ns ps x y) (meet : HeadsMeet ns heads x y todo′) (k : Covers (join heads (x, y)) todo todo′) (w : Wanted ns ps todo′) (c : ClosureUpTo ns ps heads todo) where
+module _ (ns : List Node) (ps : List (ℕ × ℕ)) (heads : List ℕ) (x y : ℕ) (todo todo′ : List (ℕ × ℕ)) (l : length heads ≡ length ns)
+    (hx : x < length ns) (hy : y < length ns) (link : Joined ns ps x y) (meet : HeadsMeet ns heads x y todo′)
+    (k : Covers (join heads (x, y)) todo todo′) (w : Wanted ns ps todo′) (c : ClosureUpTo ns ps heads todo) where
   in-list : (i : ℕ) → i < length ns → i < length heads
   in-list i p = rw l p
 
@@ -73,7 +83,9 @@ module _ (ns : List Node) (ps : List (ℕ × ℕ)) (heads : List ℕ) (x y : ℕ
       go : HeadLinks ns heads todo i f us → Dec (classOf heads i ≡ classOf heads y) → HeadLinks ns (join heads (x, y)) todo′ i f us
       go h (yes z) = through (meet f (h .arguments) (ap (nodeAt ns) (sym z) ∙ h .applied))
         where
-          through : ((vs : List ℕ) × (nodeAt ns (classOf heads x) ≡ application f vs) × (length (h .arguments) ≡ length vs) × ((a b : ℕ) → List·Memᴰ (a, b) (zip (h .arguments) vs) → Linked (join heads (x, y)) todo′ a b)) → HeadLinks ns (join heads (x, y)) todo′ i f us
+          through :
+              ((vs : List ℕ) × (nodeAt ns (classOf heads x) ≡ application f vs) × (length (h .arguments) ≡ length vs) × ((a b : ℕ) → List·Memᴰ (a, b) (zip (h .arguments) vs) → Linked (join heads (x, y)) todo′ a b)) →
+              HeadLinks ns (join heads (x, y)) todo′ i f us
           through (vs, e, n, r) =
               record {
                 arguments = vs;
@@ -103,14 +115,16 @@ module _ (ns : List Node) (ps : List (ℕ × ℕ)) (heads : List ℕ) (x y : ℕ
       }
 
 -- a class whose head is a variable has no application in it
-pub variable-meets : (ns : List Node) (heads : List ℕ) (x y v : ℕ) (todo : List (ℕ × ℕ)) → nodeAt ns (classOf heads y) ≡ variable v → HeadsMeet ns heads x y todo
+pub variable-meets : (ns : List Node) (heads : List ℕ) (x y v : ℕ) (todo : List (ℕ × ℕ)) → nodeAt ns (classOf heads y) ≡ variable v →
+    HeadsMeet ns heads x y todo
 variable-meets ns heads x y v todo e f us d =
     let q : variable v ≡ application f us = sym e ∙ d in
     let z : _≡_ {A = ℕ} 0 1 = cc in
     absurd (omega arith)
 
 -- the closure of a list of pairs is that of one pair more but for this pair
-pub opened : (ns : List Node) → WellFormed ns → (ps : List (ℕ × ℕ)) → Inside ns ps → (heads : List ℕ) → Partition (length ns) heads → (a b : ℕ) → IsClosure ns ps (classOf heads) → ClosureUpTo ns ((a, b) ∷ ps) heads ((a, b) ∷ [])
+pub opened : (ns : List Node) → WellFormed ns → (ps : List (ℕ × ℕ)) → Inside ns ps → (heads : List ℕ) → Partition (length ns) heads → (a b : ℕ) →
+    IsClosure ns ps (classOf heads) → ClosureUpTo ns ((a, b) ∷ ps) heads ((a, b) ∷ [])
 opened ns w ps inside heads p a b s =
     record {
       joined = λ i h. more i (classOf heads i) (s .joined i h);
@@ -134,7 +148,8 @@ opened ns w ps inside heads p a b s =
     of-given c d (List·Memᴰ·head z) = λ ds v u. u c d (List·Memᴰ·head z)
     of-given c d (List·Memᴰ·tail m) = linked-now c d (inside c d m .0) (inside c d m .1) (s .given c d m)
 
-    fits : (i f : ℕ) (us : List ℕ) → i < length ns → nodeAt ns i ≡ application f us → HeadFits ns (classOf heads) i f us → HeadLinks ns heads ((a, b) ∷ []) i f us
+    fits : (i f : ℕ) (us : List ℕ) → i < length ns → nodeAt ns i ≡ application f us → HeadFits ns (classOf heads) i f us →
+        HeadLinks ns heads ((a, b) ∷ []) i f us
     fits i f us h e x =
         record {
           arguments = x .arguments;

@@ -44,7 +44,8 @@ module _ (nodes : List ℕ) (g h : ℕ) (r s : Bool) (p : r ≡ eqb (kindOf node
   applied-tested e =
       (eqb-false (kindOf nodes g) 0 (sym p ∙ or-false-left r s e), eqb-false (kindOf nodes h) 0 (sym q ∙ or-false-right r s e))
 
-module _ (nodes counts : List ℕ) (g h : ℕ) (hg : g < nodeCount nodes) (hh : h < nodeCount nodes) (r s : Bool) (p : r ≡ symbolTest nodes g h) (q : s ≡ (closedTest nodes counts g && closedTest nodes counts h)) where
+module _ (nodes counts : List ℕ) (g h : ℕ) (hg : g < nodeCount nodes) (hh : h < nodeCount nodes) (r s : Bool) (p : r ≡ symbolTest nodes g h)
+    (q : s ≡ (closedTest nodes counts g && closedTest nodes counts h)) where
   -- what the test of two heads that are applications tells: of different symbols, or both closed
   pub clash-tested : (not r || s) ≡ true → (symbolTest nodes g h ≡ false) ⊎ (IsClosed nodes counts g × IsClosed nodes counts h)
   clash-tested e = go r s refl refl e
@@ -53,7 +54,8 @@ module _ (nodes counts : List ℕ) (g h : ℕ) (hg : g < nodeCount nodes) (hh : 
       go false y a b z = inl (sym p ∙ a)
       go true true a b z =
           let k : (closedTest nodes counts g && closedTest nodes counts h) ≡ true = sym q ∙ b in
-          inr (closed-true nodes counts g hg (and-true-left (closedTest nodes counts g) (closedTest nodes counts h) k), closed-true nodes counts h hh (and-true-right (closedTest nodes counts g) (closedTest nodes counts h) k))
+          inr
+          (closed-true nodes counts g hg (and-true-left (closedTest nodes counts g) (closedTest nodes counts h) k), closed-true nodes counts h hh (and-true-right (closedTest nodes counts g) (closedTest nodes counts h) k))
       go true false a b z = absurd (false≢true z)
 
   -- and where they are neither
@@ -61,7 +63,8 @@ module _ (nodes counts : List ℕ) (g h : ℕ) (hg : g < nodeCount nodes) (hh : 
   alike-tested e =
       (sym p ∙ not-false r (or-false-left (not r) s e), λ m n. go (closedTest nodes counts g) (closedTest nodes counts h) refl refl (sym q ∙ or-false-right (not r) s e) m n)
     where
-      go : (x y : Bool) → closedTest nodes counts g ≡ x → closedTest nodes counts h ≡ y → (x && y) ≡ false → IsClosed nodes counts g → IsClosed nodes counts h → ⊥
+      go : (x y : Bool) → closedTest nodes counts g ≡ x → closedTest nodes counts h ≡ y → (x && y) ≡ false → IsClosed nodes counts g →
+          IsClosed nodes counts h → ⊥
       go false y a b z m n = closed-false nodes counts g a m
       go true y a b z m n = closed-false nodes counts h (b ∙ z) n
 
@@ -73,20 +76,24 @@ tested-by f x y g h r d e q = q ∙ ap (λ (k : ℕ). f k y) d ∙ ap (f g) e
 pub argument-of : (nodes arguments : List ℕ) (j : ℕ) {g h x : ℕ} → x ≡ argumentOf nodes arguments g j → g ≡ h → x ≡ argumentOf nodes arguments h j
 argument-of nodes arguments j e d = e ∙ ap (λ (k : ℕ). argumentOf nodes arguments k j) d
 
-module _ (nodes arguments : List ℕ) (s : Sections nodes arguments) (g h : ℕ) (hg : g < nodeCount nodes) (hh : h < nodeCount nodes) (e : countOf nodes g ≡ countOf nodes h) where
+module _ (nodes arguments : List ℕ) (s : Sections nodes arguments) (g h : ℕ) (hg : g < nodeCount nodes) (hh : h < nodeCount nodes)
+    (e : countOf nodes g ≡ countOf nodes h) where
   -- arguments at one place are a pair
-  placed-pair : (j : ℕ) → j < countOf nodes g → (a b : ℕ) → a ≡ argumentOf nodes arguments g j → b ≡ argumentOf nodes arguments h j → List·Memᴰ (a, b) (argumentPairs nodes arguments g h)
+  placed-pair : (j : ℕ) → j < countOf nodes g → (a b : ℕ) → a ≡ argumentOf nodes arguments g j → b ≡ argumentOf nodes arguments h j →
+      List·Memᴰ (a, b) (argumentPairs nodes arguments g h)
   unfolding argumentPairs argumentPair
   placed-pair j l a b x y = rw (x, y) (tabulate-member (countOf nodes g) (argumentPair nodes arguments g h) j l)
 
   -- the pairs of arguments are those of the two lists of arguments
-  zip-pairs : (a b : ℕ) → List·Memᴰ (a, b) (zip (run nodes arguments g) (run nodes arguments h)) → List·Memᴰ (a, b) (argumentPairs nodes arguments g h)
+  zip-pairs : (a b : ℕ) → List·Memᴰ (a, b) (zip (run nodes arguments g) (run nodes arguments h)) →
+      List·Memᴰ (a, b) (argumentPairs nodes arguments g h)
   zip-pairs a b m =
       let r = pair-place nodes arguments s g h hg hh a b .0 m in
       placed-pair (r .0) (r .1) a b (r .3) (r .4)
 
   -- and the other way round
-  pairs-zip : (a b : ℕ) → List·Memᴰ (a, b) (argumentPairs nodes arguments g h) → List·Memᴰ (a, b) (zip (run nodes arguments g) (run nodes arguments h))
+  pairs-zip : (a b : ℕ) → List·Memᴰ (a, b) (argumentPairs nodes arguments g h) →
+      List·Memᴰ (a, b) (zip (run nodes arguments g) (run nodes arguments h))
   unfolding argumentPairs argumentPair
   pairs-zip a b m =
       let r = tabulate-from (countOf nodes g) (argumentPair nodes arguments g h) (a, b) m in
@@ -101,7 +108,8 @@ pub record Advances (nodes arguments counts heads next : List ℕ) (new : List (
   pub fewer : roots (nodeCount nodes) heads′ ≤ roots (nodeCount nodes) heads
   pub stay : (i : ℕ) → i < nodeCount nodes → classOf heads (classOf heads′ i) ≡ classOf heads′ i
   pub kept : KeepsClosed nodes counts heads heads′
-  pub done : (ps todo : List (ℕ × ℕ)) → ClosureUpTo (nodesFrom nodes arguments) ps heads (new ++ todo) → ClosureUpTo (nodesFrom nodes arguments) ps heads′ todo
+  pub done : (ps todo : List (ℕ × ℕ)) → ClosureUpTo (nodesFrom nodes arguments) ps heads (new ++ todo) →
+      ClosureUpTo (nodesFrom nodes arguments) ps heads′ todo
 
 -- Classes ds come of others when those of nodes a and b are made one: the pair is traded for the pairs of new.
 pub record Trades (nodes arguments counts heads next : List ℕ) (a b : ℕ) (new : List (ℕ × ℕ)) (ds next′ : List ℕ) : Type 0 where
@@ -110,16 +118,21 @@ pub record Trades (nodes arguments counts heads next : List ℕ) (a b : ℕ) (ne
   pub fewer : roots (nodeCount nodes) ds < roots (nodeCount nodes) heads
   pub stay : (i : ℕ) → i < nodeCount nodes → classOf heads (classOf ds i) ≡ classOf ds i
   pub kept : KeepsClosed nodes counts heads ds
-  pub trades : (ps todo : List (ℕ × ℕ)) → ClosureUpTo (nodesFrom nodes arguments) ps heads ((a, b) ∷ todo) → ClosureUpTo (nodesFrom nodes arguments) ps ds (new ++ todo)
+  pub trades : (ps todo : List (ℕ × ℕ)) → ClosureUpTo (nodesFrom nodes arguments) ps heads ((a, b) ∷ todo) →
+      ClosureUpTo (nodesFrom nodes arguments) ps ds (new ++ todo)
 
 -- heads that were heads before, and before that
-heads-on : (n : ℕ) (heads heads′ heads″ : List ℕ) → Partition n heads″ → ((i : ℕ) → i < n → classOf heads (classOf heads′ i) ≡ classOf heads′ i) → ((i : ℕ) → i < n → classOf heads′ (classOf heads″ i) ≡ classOf heads″ i) → (i : ℕ) → i < n → classOf heads (classOf heads″ i) ≡ classOf heads″ i
+heads-on : (n : ℕ) (heads heads′ heads″ : List ℕ) → Partition n heads″ →
+    ((i : ℕ) → i < n → classOf heads (classOf heads′ i) ≡ classOf heads′ i) →
+    ((i : ℕ) → i < n → classOf heads′ (classOf heads″ i) ≡ classOf heads″ i) → (i : ℕ) → i < n →
+    classOf heads (classOf heads″ i) ≡ classOf heads″ i
 heads-on n heads heads′ heads″ p f g i h =
     let e : classOf heads′ (classOf heads″ i) ≡ classOf heads″ i = g i h in
     ap (classOf heads) (sym e) ∙ f (classOf heads″ i) (p .below i h) ∙ e
 
 -- a head that is left was a head before
-join-heads : {n : ℕ} {heads : List ℕ} → Partition n heads → (x y : ℕ) → x < n → (i : ℕ) → i < n → classOf heads (classOf (join heads (x, y)) i) ≡ classOf (join heads (x, y)) i
+join-heads : {n : ℕ} {heads : List ℕ} → Partition n heads → (x y : ℕ) → x < n → (i : ℕ) → i < n →
+    classOf heads (classOf (join heads (x, y)) i) ≡ classOf (join heads (x, y)) i
 join-heads {n} {heads} p x y hx i h = go (ℕ-discrete (classOf heads i) (classOf heads y))
   where
     go : Dec (classOf heads i ≡ classOf heads y) → classOf heads (classOf (join heads (x, y)) i) ≡ classOf (join heads (x, y)) i
@@ -134,7 +147,8 @@ firstPairs nodes arguments g h j = tabulate j (argumentPair nodes arguments g h)
 module _ (nodes arguments counts : List ℕ) (g h : ℕ) where
   module _ (heads next : List ℕ) where
     -- no pair is joined yet
-    pub arguments-none : (a b : ℕ) (new : List (ℕ × ℕ)) (bs nextb : List ℕ) → Trades nodes arguments counts bs nextb a b new heads next → Advances nodes arguments counts heads next (firstPairs nodes arguments g h 0) heads next
+    pub arguments-none : (a b : ℕ) (new : List (ℕ × ℕ)) (bs nextb : List ℕ) → Trades nodes arguments counts bs nextb a b new heads next →
+        Advances nodes arguments counts heads next (firstPairs nodes arguments g h 0) heads next
     unfolding tabulate
     arguments-none a b new bs nextb t =
         record {
@@ -146,9 +160,12 @@ module _ (nodes arguments counts : List ℕ) (g h : ℕ) where
           done = λ ps todo c. c;
         }
 
-    module _ (j : ℕ) (heads′ next′ : List ℕ) (v : Advances nodes arguments counts heads next (firstPairs nodes arguments g h j) heads′ next′) (a b : ℕ) (fine : Bool) (heads″ next″ : List ℕ) (d : a ≡ argumentOf nodes arguments g j) (e : b ≡ argumentOf nodes arguments h j) (w : Joins nodes arguments counts heads′ next′ a b fine heads″ next″) where
+    module _ (j : ℕ) (heads′ next′ : List ℕ) (v : Advances nodes arguments counts heads next (firstPairs nodes arguments g h j) heads′ next′)
+        (a b : ℕ) (fine : Bool) (heads″ next″ : List ℕ) (d : a ≡ argumentOf nodes arguments g j) (e : b ≡ argumentOf nodes arguments h j)
+        (w : Joins nodes arguments counts heads′ next′ a b fine heads″ next″) where
       -- the pair that comes next
-      next-waits : (ps todo : List (ℕ × ℕ)) → ClosureUpTo (nodesFrom nodes arguments) ps heads (firstPairs nodes arguments g h (j + 1) ++ todo) → ClosureUpTo (nodesFrom nodes arguments) ps heads′ ((a, b) ∷ todo)
+      next-waits : (ps todo : List (ℕ × ℕ)) → ClosureUpTo (nodesFrom nodes arguments) ps heads (firstPairs nodes arguments g h (j + 1) ++ todo) →
+          ClosureUpTo (nodesFrom nodes arguments) ps heads′ ((a, b) ∷ todo)
       unfolding tabulate argumentPair
       next-waits ps todo c = v .done ps ((a, b) ∷ todo) (rw (d, e) (rw (append-assoc (firstPairs nodes arguments g h j)) at (rw (add-one j) at c)))
 
@@ -167,7 +184,8 @@ module _ (nodes arguments counts : List ℕ) (g h : ℕ) where
           }
 
       -- a pair clashes
-      arguments-clash : fine ≡ false → (ps todo : List (ℕ × ℕ)) → j < countOf nodes g → ClosureUpTo (nodesFrom nodes arguments) ps heads (argumentPairs nodes arguments g h ++ todo) → Clash (nodesFrom nodes arguments) ps
+      arguments-clash : fine ≡ false → (ps todo : List (ℕ × ℕ)) → j < countOf nodes g →
+          ClosureUpTo (nodesFrom nodes arguments) ps heads (argumentPairs nodes arguments g h ++ todo) → Clash (nodesFrom nodes arguments) ps
       unfolding argumentPairs
       arguments-clash t ps todo l c =
           w .clashes t ps (argumentPairs nodes arguments g h ++ todo)
@@ -182,7 +200,8 @@ module _ (nodes arguments counts : List ℕ) (g h : ℕ) where
           wanted-all : Wanted (nodesFrom nodes arguments) ps (firstPairs nodes arguments g h (j + 1) ++ (argumentPairs nodes arguments g h ++ todo))
           wanted-all x y m = go (List·Memᴰ·append-cases (firstPairs nodes arguments g h (j + 1)) m)
             where
-              go : List·Memᴰ (x, y) (firstPairs nodes arguments g h (j + 1)) ⊎ List·Memᴰ (x, y) (argumentPairs nodes arguments g h ++ todo) → Joined (nodesFrom nodes arguments) ps x y
+              go : List·Memᴰ (x, y) (firstPairs nodes arguments g h (j + 1)) ⊎ List·Memᴰ (x, y) (argumentPairs nodes arguments g h ++ todo) →
+                  Joined (nodesFrom nodes arguments) ps x y
               go (inl q) = c .wanted x y (Memᴰ·append-left todo (first-among (x, y) q))
               go (inr q) = c .wanted x y q
 
@@ -227,7 +246,8 @@ pub record OneSymbolHeads (nodes arguments counts heads : List ℕ) (a b : ℕ) 
   pub not-both : IsClosed nodes counts (classOf heads a) → IsClosed nodes counts (classOf heads b) → ⊥
 
 -- the two nodes are of one class
-pub join-already : {nodes arguments counts heads next : List ℕ} (a b : ℕ) → Joinable nodes arguments counts heads next → a < nodeCount nodes → b < nodeCount nodes → classOf heads a ≡ classOf heads b → Joins nodes arguments counts heads next a b true heads next
+pub join-already : {nodes arguments counts heads next : List ℕ} (a b : ℕ) → Joinable nodes arguments counts heads next → a < nodeCount nodes →
+    b < nodeCount nodes → classOf heads a ≡ classOf heads b → Joins nodes arguments counts heads next a b true heads next
 join-already {nodes} {arguments} {counts} {heads} {next} a b w ha hb e =
     record {
       partition = w .partition;
@@ -280,10 +300,12 @@ module _ {nodes arguments counts heads next : List ℕ} {a b : ℕ} (m : Meeting
 
     -- so are their heads
     heads-joined : Joined ns ps (classOf heads a) (classOf heads b)
-    heads-joined = on (on (back (c .joined a (is-node nodes arguments a (m .first)))) pair-joined) (c .joined b (is-node nodes arguments b (m .second)))
+    heads-joined =
+        on (on (back (c .joined a (is-node nodes arguments a (m .first)))) pair-joined) (c .joined b (is-node nodes arguments b (m .second)))
 
   -- no classes are changed where the heads clash
-  refused : ((ps todo : List (ℕ × ℕ)) → ClosureUpTo ns ps heads ((a, b) ∷ todo) → Clash ns ps) → Joins nodes arguments counts heads next a b false heads next
+  refused : ((ps todo : List (ℕ × ℕ)) → ClosureUpTo ns ps heads ((a, b) ∷ todo) → Clash ns ps) →
+      Joins nodes arguments counts heads next a b false heads next
   refused f =
       record {
         partition = partition;
@@ -296,7 +318,8 @@ module _ {nodes arguments counts heads next : List ℕ} {a b : ℕ} (m : Meeting
       }
 
   -- heads of different symbols
-  join-differ : (kindOf nodes (classOf heads a) ≡ 0 → ⊥) → (kindOf nodes (classOf heads b) ≡ 0 → ⊥) → symbolTest nodes (classOf heads a) (classOf heads b) ≡ false → Joins nodes arguments counts heads next a b false heads next
+  join-differ : (kindOf nodes (classOf heads a) ≡ 0 → ⊥) → (kindOf nodes (classOf heads b) ≡ 0 → ⊥) →
+      symbolTest nodes (classOf heads a) (classOf heads b) ≡ false → Joins nodes arguments counts heads next a b false heads next
   join-differ ka kb e =
       refused (λ ps todo c.
       heads-clash ns ps heads a b todo (is-node nodes arguments a (m .first)) (is-node nodes arguments b (m .second)) _ _ _ _
@@ -306,17 +329,22 @@ module _ {nodes arguments counts heads next : List ℕ} {a b : ℕ} (m : Meeting
       c)
 
   -- heads that are closed applications: of one term they would be of one class
-  join-closed : IsClosed nodes counts (classOf heads a) → IsClosed nodes counts (classOf heads b) → Joins nodes arguments counts heads next a b false heads next
+  join-closed : IsClosed nodes counts (classOf heads a) → IsClosed nodes counts (classOf heads b) →
+      Joins nodes arguments counts heads next a b false heads next
   join-closed p q =
-      refused (λ ps todo c. go (closed-joined nodes arguments counts (m .joinable .sections) (m .joinable .counts-right) ps (classOf heads a) (classOf heads b) p q (heads-joined ps todo c)))
+      refused
+      (λ ps todo c. go (closed-joined nodes arguments counts (m .joinable .sections) (m .joinable .counts-right) ps (classOf heads a) (classOf heads b) p q (heads-joined ps todo c)))
     where
       go : {ps : List (ℕ × ℕ)} → Clash ns ps ⊎ SameTerm nodes arguments (classOf heads a) (classOf heads b) → Clash ns ps
       go (inl c) = c
       go (inr e) =
-          absurd (m .apart (sym (partition .own a (m .first)) ∙ m .joinable .closed .shared (classOf heads a) (classOf heads b) p q e ∙ partition .own b (m .second)))
+          absurd
+          (m .apart (sym (partition .own a (m .first)) ∙ m .joinable .closed .shared (classOf heads a) (classOf heads b) p q e ∙ partition .own b (m .second)))
 
   -- heads that clash
-  pub join-clash : (kindOf nodes (classOf heads a) ≡ 0 → ⊥) × (kindOf nodes (classOf heads b) ≡ 0 → ⊥) → (symbolTest nodes (classOf heads a) (classOf heads b) ≡ false) ⊎ (IsClosed nodes counts (classOf heads a) × IsClosed nodes counts (classOf heads b)) → Joins nodes arguments counts heads next a b false heads next
+  pub join-clash : (kindOf nodes (classOf heads a) ≡ 0 → ⊥) × (kindOf nodes (classOf heads b) ≡ 0 → ⊥) →
+      (symbolTest nodes (classOf heads a) (classOf heads b) ≡ false) ⊎ (IsClosed nodes counts (classOf heads a) × IsClosed nodes counts (classOf heads b)) →
+      Joins nodes arguments counts heads next a b false heads next
   join-clash k (inl e) = join-differ (k .0) (k .1) e
   join-clash k (inr r) = join-closed (r .0) (r .1)
 
@@ -350,12 +378,15 @@ module _ {nodes arguments counts heads next : List ℕ} {a b : ℕ} (m : Meeting
         go (no e) = rw joined-so (join-other heads x y i (in-list partition i (k .node)) e)
 
     -- the pair is done
-    pair-done : (es : List ℕ) → ((i j : ℕ) → i < length (join heads (x, y)) → j < length (join heads (x, y)) → classOf (join heads (x, y)) i ≡ classOf (join heads (x, y)) j → classOf es i ≡ classOf es j) → classOf es a ≡ classOf es b
+    pair-done : (es : List ℕ) →
+        ((i j : ℕ) → i < length (join heads (x, y)) → j < length (join heads (x, y)) → classOf (join heads (x, y)) i ≡ classOf (join heads (x, y)) j → classOf es i ≡ classOf es j) →
+        classOf es a ≡ classOf es b
     pair-done es v =
         either-between (λ i j. classOf es i ≡ classOf es j) (λ i j e. sym e) (either-back o)
         (v x y (rw (join-length heads (x, y)) (in-list partition x hx)) (rw (join-length heads (x, y)) (in-list partition y hy)) (united heads x y (in-list partition x hx) (in-list partition y hy)))
 
-    module _ (new : List (ℕ × ℕ)) (meet : (todo : List (ℕ × ℕ)) → HeadsMeet ns heads x y (new ++ todo)) (want : (ps : List (ℕ × ℕ)) → Joined ns ps (classOf heads a) (classOf heads b) → Wanted ns ps new) where
+    module _ (new : List (ℕ × ℕ)) (meet : (todo : List (ℕ × ℕ)) → HeadsMeet ns heads x y (new ++ todo))
+        (want : (ps : List (ℕ × ℕ)) → Joined ns ps (classOf heads a) (classOf heads b) → Wanted ns ps new) where
       -- the new pairs are joined
       wanted-after : (ps todo : List (ℕ × ℕ)) → ClosureUpTo ns ps heads ((a, b) ∷ todo) → Wanted ns ps (new ++ todo)
       wanted-after ps todo c i j k = go (List·Memᴰ·append-cases new k)
@@ -375,7 +406,8 @@ module _ {nodes arguments counts heads next : List ℕ} {a b : ℕ} (m : Meeting
           c
 
       -- the classes are made one
-      made-one : (IsClosed nodes counts (classOf heads y) → IsClosed nodes counts (classOf heads x) → ⊥) → Trades nodes arguments counts heads next a b new ds next′
+      made-one : (IsClosed nodes counts (classOf heads y) → IsClosed nodes counts (classOf heads x) → ⊥) →
+          Trades nodes arguments counts heads next a b new ds next′
       made-one f =
           record {
             partition = rw joined-so (join-keeps (nodeCount nodes) heads x y hx hy partition);
@@ -387,38 +419,46 @@ module _ {nodes arguments counts heads next : List ℕ} {a b : ℕ} (m : Meeting
           }
 
     -- one of the heads is a variable
-    variable-goes : (kindOf nodes (classOf heads a) ≡ 0) ⊎ (kindOf nodes (classOf heads b) ≡ 0) → Trades nodes arguments counts heads next a b [] ds next′
+    variable-goes : (kindOf nodes (classOf heads a) ≡ 0) ⊎ (kindOf nodes (classOf heads b) ≡ 0) →
+        Trades nodes arguments counts heads next a b [] ds next′
     variable-goes r = go (either-one (λ i. kindOf nodes (classOf heads i) ≡ 0) o r)
       where
         goes : kindOf nodes (classOf heads y) ≡ 0 → Trades nodes arguments counts heads next a b [] ds next′
         goes k =
-            made-one [] (λ todo. variable-meets ns heads x y (nameOf nodes (classOf heads y)) todo (variable-from nodes arguments (classOf heads y) (partition .below y hy) k)) (λ ps q i j n. absurd (List·Memᴰ·not-nil n)) (λ p q. p .applied k)
+            made-one []
+            (λ todo. variable-meets ns heads x y (nameOf nodes (classOf heads y)) todo (variable-from nodes arguments (classOf heads y) (partition .below y hy) k))
+            (λ ps q i j n. absurd (List·Memᴰ·not-nil n)) (λ p q. p .applied k)
 
         go : (kindOf nodes (classOf heads x) ≡ 0) ⊎ (kindOf nodes (classOf heads y) ≡ 0) → Trades nodes arguments counts heads next a b [] ds next′
         go (inl k) = goes (weaker-variable nodes counts (classOf heads y) (classOf heads x) (z .weaker) k)
         go (inr k) = goes k
 
-  module _ (ds next′ : List ℕ) (u : Goes nodes counts heads next (classOf heads a) (classOf heads b) ds next′ ⊎ Goes nodes counts heads next (classOf heads b) (classOf heads a) ds next′) where
-    -- one of the heads is a variable
-    pub join-variable : (kindOf nodes (classOf heads a) ≡ 0) ⊎ (kindOf nodes (classOf heads b) ≡ 0) → Joins nodes arguments counts heads next a b true ds next′
-    join-variable k = done (go u)
-      where
-        go : Goes nodes counts heads next (classOf heads a) (classOf heads b) ds next′ ⊎ Goes nodes counts heads next (classOf heads b) (classOf heads a) ds next′ → Trades nodes arguments counts heads next a b [] ds next′
-        go (inl z) = variable-goes b a swapped ds next′ z k
-        go (inr z) = variable-goes a b straight ds next′ z k
+  module _ (ds next′ : List ℕ)
+      (u : Goes nodes counts heads next (classOf heads a) (classOf heads b) ds next′ ⊎ Goes nodes counts heads next (classOf heads b) (classOf heads a) ds next′)
+    where
+      -- one of the heads is a variable
+      pub join-variable : (kindOf nodes (classOf heads a) ≡ 0) ⊎ (kindOf nodes (classOf heads b) ≡ 0) →
+          Joins nodes arguments counts heads next a b true ds next′
+      join-variable k = done (go u)
+        where
+          go :
+              Goes nodes counts heads next (classOf heads a) (classOf heads b) ds next′ ⊎ Goes nodes counts heads next (classOf heads b) (classOf heads a) ds next′ →
+              Trades nodes arguments counts heads next a b [] ds next′
+          go (inl z) = variable-goes b a swapped ds next′ z k
+          go (inr z) = variable-goes a b straight ds next′ z k
 
-        done : Trades nodes arguments counts heads next a b [] ds next′ → Joins nodes arguments counts heads next a b true ds next′
-        done t =
-            let f = t .fewer in
-            record {
-              partition = t .partition;
-              merges = t .merges;
-              fewer = omega (arith, f);
-              stay = t .stay;
-              kept = t .kept;
-              done = λ e ps todo c. t .trades ps todo c;
-              clashes = λ e. absurd (false≢true (sym e));
-            }
+          done : Trades nodes arguments counts heads next a b [] ds next′ → Joins nodes arguments counts heads next a b true ds next′
+          done t =
+              let f = t .fewer in
+              record {
+                partition = t .partition;
+                merges = t .merges;
+                fewer = omega (arith, f);
+                stay = t .stay;
+                kept = t .kept;
+                done = λ e ps todo c. t .trades ps todo c;
+                clashes = λ e. absurd (false≢true (sym e));
+              }
 
   -- The heads are applications of one symbol.
   module _ (s : OneSymbolHeads nodes arguments counts heads a b) where
@@ -454,12 +494,15 @@ module _ {nodes arguments counts heads next : List ℕ} {a b : ℕ} (m : Meeting
     -- their arguments are joined in pairs
     arguments-wanted : (ps : List (ℕ × ℕ)) → Joined ns ps g h → Wanted ns ps (argumentPairs nodes arguments g h)
     arguments-wanted ps q i j k =
-        by-arguments first-node second-node same-symbol q (pairs-zip nodes arguments (m .joinable .sections) g h (meeting-inside .0) (meeting-inside .1) one-count i j k)
+        by-arguments first-node second-node same-symbol q
+        (pairs-zip nodes arguments (m .joinable .sections) g h (meeting-inside .0) (meeting-inside .1) one-count i j k)
 
     -- arguments at one place are made one
-    argument-link : {x y : ℕ} → Either a b x y → (es : List ℕ) → Unites es (argumentPairs nodes arguments g h) → (i j : ℕ) → List·Memᴰ (i, j) (zip (run nodes arguments (classOf heads y)) (run nodes arguments (classOf heads x))) → classOf es i ≡ classOf es j
+    argument-link : {x y : ℕ} → Either a b x y → (es : List ℕ) → Unites es (argumentPairs nodes arguments g h) → (i j : ℕ) →
+        List·Memᴰ (i, j) (zip (run nodes arguments (classOf heads y)) (run nodes arguments (classOf heads x))) → classOf es i ≡ classOf es j
     argument-link straight es u i j k =
-        sym (u j i (zip-pairs nodes arguments (m .joinable .sections) g h (meeting-inside .0) (meeting-inside .1) one-count j i (zip-back (run nodes arguments h) (run nodes arguments g) i j k)))
+        sym
+        (u j i (zip-pairs nodes arguments (m .joinable .sections) g h (meeting-inside .0) (meeting-inside .1) one-count j i (zip-back (run nodes arguments h) (run nodes arguments g) i j k)))
     argument-link swapped es u i j k =
         u i j (zip-pairs nodes arguments (m .joinable .sections) g h (meeting-inside .0) (meeting-inside .1) one-count i j k)
 
@@ -473,7 +516,8 @@ module _ {nodes arguments counts heads next : List ℕ} {a b : ℕ} (m : Meeting
           let c : length (run nodes arguments (classOf heads x)) ≡ length (run nodes arguments (classOf heads y)) = either-between (λ i j. length (run nodes arguments (classOf heads i)) ≡ length (run nodes arguments (classOf heads j))) (λ i j q. sym q) o (same-symbol .1) in
           let r = from-application nodes arguments (classOf heads y) (l .1) f us e in (
             run nodes arguments (classOf heads x),
-            application-from nodes arguments (classOf heads x) (l .0) (k .0) ∙ ap (λ (q : ℕ). application q (run nodes arguments (classOf heads x))) (n ∙ sym (r .1)),
+            application-from nodes arguments (classOf heads x) (l .0) (k .0)
+                ∙ ap (λ (q : ℕ). application q (run nodes arguments (classOf heads x))) (n ∙ sym (r .1)),
             ap length (r .2) ∙ sym c,
             λ i j q es v u. argument-link o es (λ p t w. u p t (Memᴰ·append-left todo w)) i j (rw (r .2) at q),
           )
@@ -485,11 +529,13 @@ module _ {nodes arguments counts heads next : List ℕ} {a b : ℕ} (m : Meeting
           (λ p q. either-between (λ i j. IsClosed nodes counts (classOf heads i) → IsClosed nodes counts (classOf heads j) → ⊥) (λ i j f k l. f l k) o (s .not-both) q p)
 
     -- their classes are made one
-    pub applications-united : (ds next′ : List ℕ) → Goes nodes counts heads next g h ds next′ ⊎ Goes nodes counts heads next h g ds next′ → Trades nodes arguments counts heads next a b (argumentPairs nodes arguments g h) ds next′
+    pub applications-united : (ds next′ : List ℕ) → Goes nodes counts heads next g h ds next′ ⊎ Goes nodes counts heads next h g ds next′ →
+        Trades nodes arguments counts heads next a b (argumentPairs nodes arguments g h) ds next′
     applications-united ds next′ (inl z) = applications-made-one b a swapped ds next′ z
     applications-united ds next′ (inr z) = applications-made-one a b straight ds next′ z
 
-    module _ (ds next₁ : List ℕ) (t : Trades nodes arguments counts heads next a b (argumentPairs nodes arguments g h) ds next₁) (j : ℕ) (heads′ next′ : List ℕ) (v : Advances nodes arguments counts ds next₁ (firstPairs nodes arguments g h j) heads′ next′) where
+    module _ (ds next₁ : List ℕ) (t : Trades nodes arguments counts heads next a b (argumentPairs nodes arguments g h) ds next₁) (j : ℕ)
+        (heads′ next′ : List ℕ) (v : Advances nodes arguments counts ds next₁ (firstPairs nodes arguments g h j) heads′ next′) where
       -- what joining the next pair of arguments needs
       pub joinable-on : Joinable nodes arguments counts heads′ next′
       joinable-on =
@@ -518,7 +564,9 @@ module _ {nodes arguments counts heads next : List ℕ} {a b : ℕ} (m : Meeting
           }
 
       -- a pair of arguments clashes
-      pub join-stopped : j < countOf nodes g → (x y : ℕ) (fine : Bool) (heads″ next″ : List ℕ) → x ≡ argumentOf nodes arguments g j → y ≡ argumentOf nodes arguments h j → fine ≡ false → Joins nodes arguments counts heads′ next′ x y fine heads″ next″ → Joins nodes arguments counts heads next a b false heads″ next″
+      pub join-stopped : j < countOf nodes g → (x y : ℕ) (fine : Bool) (heads″ next″ : List ℕ) → x ≡ argumentOf nodes arguments g j →
+          y ≡ argumentOf nodes arguments h j → fine ≡ false → Joins nodes arguments counts heads′ next′ x y fine heads″ next″ →
+          Joins nodes arguments counts heads next a b false heads″ next″
       join-stopped l x y fine heads″ next″ dx dy r w =
           let e = t .fewer in
           let f = v .fewer in
@@ -527,8 +575,11 @@ module _ {nodes arguments counts heads next : List ℕ} {a b : ℕ} (m : Meeting
             partition = w .partition;
             merges = merges-on (t .merges) (merges-on (v .merges) (w .merges));
             fewer = omega (arith, e, f, k);
-            stay = heads-on (nodeCount nodes) heads ds heads″ (w .partition) (t .stay) (heads-on (nodeCount nodes) ds heads′ heads″ (w .partition) (v .stay) (w .stay));
+            stay =
+                heads-on (nodeCount nodes) heads ds heads″ (w .partition) (t .stay)
+                (heads-on (nodeCount nodes) ds heads′ heads″ (w .partition) (v .stay) (w .stay));
             kept = λ i k. w .kept i k ∙ v .kept i k ∙ t .kept i k;
             done = λ q. absurd (false≢true q);
-            clashes = λ q ps todo c. arguments-clash nodes arguments counts g h ds next₁ j heads′ next′ v x y fine heads″ next″ dx dy w r ps todo l (t .trades ps todo c);
+            clashes =
+                λ q ps todo c. arguments-clash nodes arguments counts g h ds next₁ j heads′ next′ v x y fine heads″ next″ dx dy w r ps todo l (t .trades ps todo c);
           }

@@ -49,7 +49,10 @@ stands (g ∷ order) h = go (ℕ-discrete g h) (stands order h)
         nowhere (suc q) l e = m (q, omega arith, e)
 
 -- one node more behind an order
-listed-more : (nodes arguments : List ℕ) (due : ℕ → ℕ) (heads order : List ℕ) → Listed nodes arguments due heads order → (h : ℕ) → h < nodeCount nodes → 0 < due h → ((q : ℕ) → q < length order → word order q ≡ h → ⊥) → ((j : ℕ) → j < due h → Met due order (length order) (classOf heads (argumentOf nodes arguments h j))) → Listed nodes arguments due heads (order ++ (h ∷ []))
+listed-more : (nodes arguments : List ℕ) (due : ℕ → ℕ) (heads order : List ℕ) → Listed nodes arguments due heads order → (h : ℕ) →
+    h < nodeCount nodes → 0 < due h → ((q : ℕ) → q < length order → word order q ≡ h → ⊥) →
+    ((j : ℕ) → j < due h → Met due order (length order) (classOf heads (argumentOf nodes arguments h j))) →
+    Listed nodes arguments due heads (order ++ (h ∷ []))
 listed-more nodes arguments due heads order l h inside some new first = record { node = node; compound = compound; once = once; first = λ p q. firsts p q (at p q) }
   where
     longer : length (order ++ (h ∷ [])) ≡ suc (length order)
@@ -89,11 +92,15 @@ listed-more nodes arguments due heads order l h inside some new first = record {
         go (inl r) = l .once p q k r (sym (old p (omega arith)) ∙ e ∙ old q r)
         go (inr r) = new p (omega arith) (sym (old p (omega arith)) ∙ e ∙ ap (word (order ++ (h ∷ []))) r ∙ last)
 
-    firsts : (p : ℕ) → p < length (order ++ (h ∷ [])) → (p < length order) ⊎ (p ≡ length order) → (j : ℕ) → j < due (word (order ++ (h ∷ [])) p) → Met due (order ++ (h ∷ [])) p (classOf heads (argumentOf nodes arguments (word (order ++ (h ∷ [])) p) j))
+    firsts : (p : ℕ) → p < length (order ++ (h ∷ [])) → (p < length order) ⊎ (p ≡ length order) → (j : ℕ) →
+        j < due (word (order ++ (h ∷ [])) p) →
+        Met due (order ++ (h ∷ [])) p (classOf heads (argumentOf nodes arguments (word (order ++ (h ∷ [])) p) j))
     firsts p q (inl r) = rw (old p r) (λ j b. met-longer due order h p _ (omega arith) (l .first p r j b))
     firsts p q (inr r) = rw (r, last) (λ j b. met-longer due order h (length order) _ (omega arith) (first j b))
 
-module _ (nodes arguments : List ℕ) (s : Sections nodes arguments) (ps : List (ℕ × ℕ)) (inside : Inside (nodesFrom nodes arguments) ps) (a b : ℕ) (inside′ : Inside (nodesFrom nodes arguments) ((a, b) ∷ ps)) (old : List ℕ) (c : IsClosure (nodesFrom nodes arguments) ps (classOf old)) (heads : List ℕ) (c′ : IsClosure (nodesFrom nodes arguments) ((a, b) ∷ ps) (classOf heads)) where
+module _ (nodes arguments : List ℕ) (s : Sections nodes arguments) (ps : List (ℕ × ℕ)) (inside : Inside (nodesFrom nodes arguments) ps) (a b : ℕ)
+    (inside′ : Inside (nodesFrom nodes arguments) ((a, b) ∷ ps)) (old : List ℕ) (c : IsClosure (nodesFrom nodes arguments) ps (classOf old))
+    (heads : List ℕ) (c′ : IsClosure (nodesFrom nodes arguments) ((a, b) ∷ ps) (classOf heads)) where
   abbrev ns : List Node
   ns = nodesFrom nodes arguments
 
@@ -103,19 +110,23 @@ module _ (nodes arguments : List ℕ) (s : Sections nodes arguments) (ps : List 
       joined-head ns (sections-well-formed nodes arguments s) ((a, b) ∷ ps) inside′ (classOf heads) c′
       (more-joined ((a, b) ∷ ps) (λ r m. List·Memᴰ·tail m) (on (rw e at (c .joined i p)) (back (c .joined j q))))
 
-  module _ (counts : List ℕ) (k : Counts nodes arguments counts (nodeCount nodes)) (closed : ClosedHeads nodes arguments counts heads) (below : OrderedBelow nodes arguments (word counts) heads a) where
+  module _ (counts : List ℕ) (k : Counts nodes arguments counts (nodeCount nodes)) (closed : ClosedHeads nodes arguments counts heads)
+      (below : OrderedBelow nodes arguments (word counts) heads a) where
     -- The head of node i is met in the order of what the pair leads to.
     abbrev Reached : ℕ → Type 0
     Reached i = Met (word counts) (below .order) (length (below .order)) (classOf heads i)
 
     -- an argument of a node that is met, if it is looked at
-    looked-reached : (g : ℕ) → Met (word counts) (below .order) (length (below .order)) g → (j : ℕ) → j < word counts g → Reached (argumentOf nodes arguments g j)
+    looked-reached : (g : ℕ) → Met (word counts) (below .order) (length (below .order)) g → (j : ℕ) → j < word counts g →
+        Reached (argumentOf nodes arguments g j)
     looked-reached g (leaf e) j l = absurd (omega arith)
     looked-reached g (before q b e) j l =
-        met-later (word counts) (below .order) q (length (below .order)) (classOf heads (argumentOf nodes arguments g j)) (omega arith) (rw e at (below .listed .first q b) j l)
+        met-later (word counts) (below .order) q (length (below .order)) (classOf heads (argumentOf nodes arguments g j)) (omega arith)
+        (rw e at (below .listed .first q b) j l)
 
     -- any argument: that of a closed application has a closed head
-    reached-argument : (g : ℕ) → g < nodeCount nodes → Met (word counts) (below .order) (length (below .order)) g → (j : ℕ) → j < countOf nodes g → Reached (argumentOf nodes arguments g j)
+    reached-argument : (g : ℕ) → g < nodeCount nodes → Met (word counts) (below .order) (length (below .order)) g → (j : ℕ) →
+        j < countOf nodes g → Reached (argumentOf nodes arguments g j)
     reached-argument g n m j l = go (k .some g n)
       where
         go : (word counts g ≡ 0) ⊎ (word counts g ≡ countOf nodes g) → Reached (argumentOf nodes arguments g j)
@@ -157,7 +168,8 @@ module _ (nodes arguments : List ℕ) (s : Sections nodes arguments) (ps : List 
             let t = zip-through us (h .arguments) vs (h .as-long) (sym (h .as-long) ∙ l) x y m in
             let g : classOf heads i < nodeCount nodes = counted nodes arguments (classOf heads i) (closure-inside ns (sections-well-formed nodes arguments s) ((a, b) ∷ ps) inside′ (classOf heads) c′ i p) in
             let q = argument-place nodes arguments s (classOf heads i) g f (h .arguments) (h .applied) (t .0) (zip-right us (h .arguments) x (t .0) (t .1)) in
-            reached-same (argumentOf nodes arguments (classOf heads i) (q .0)) x (ap (classOf heads) (sym (q .2)) ∙ sym (h .one-head x (t .0) (t .1))) (reached-argument (classOf heads i) g r (q .0) (q .1))
+            reached-same (argumentOf nodes arguments (classOf heads i) (q .0)) x
+            (ap (classOf heads) (sym (q .2)) ∙ sym (h .one-head x (t .0) (t .1))) (reached-argument (classOf heads i) g r (q .0) (q .1))
 
     -- joined nodes are
     joined-together : {i j : ℕ} → Joined ns ((a, b) ∷ ps) i j → OneHead i j
@@ -185,7 +197,8 @@ module _ (nodes arguments : List ℕ) (s : Sections nodes arguments) (ps : List 
         let y = joined-inside ns (sections-well-formed nodes arguments s) ((a, b) ∷ ps) inside′ q in
         together-on i j k (x .0) (x .1) (y .1) (joined-together p) (joined-together q)
 
-    module _ (partition : Partition (nodeCount nodes) heads) (were-heads : (i : ℕ) → i < nodeCount nodes → classOf old (classOf heads i) ≡ classOf heads i) where
+    module _ (partition : Partition (nodeCount nodes) heads)
+        (were-heads : (i : ℕ) → i < nodeCount nodes → classOf old (classOf heads i) ≡ classOf heads i) where
       -- a node's head is as it was, or reached
       kept-or-reached : (i : ℕ) → i < nodeCount nodes → (classOf old i ≡ classOf heads i) ⊎ Reached i
       kept-or-reached i p = go (joined-together (c′ .joined i (is-node nodes arguments i p)))
@@ -202,10 +215,12 @@ module _ (nodes arguments : List ℕ) (s : Sections nodes arguments) (ps : List 
           kept : (q : ℕ) → q < p → classOf heads (word earlier q) ≡ word earlier q → Met (word counts) order (length order) (word earlier q)
 
         -- what was met before place p is met
-        mended-met : (p : ℕ) (order : List ℕ) → Mended p order → (i : ℕ) → i < nodeCount nodes → Met (word counts) earlier p (classOf old i) → Met (word counts) order (length order) (classOf heads i)
+        mended-met : (p : ℕ) (order : List ℕ) → Mended p order → (i : ℕ) → i < nodeCount nodes → Met (word counts) earlier p (classOf old i) →
+            Met (word counts) order (length order) (classOf heads i)
         mended-met p order m i l t = go (kept-or-reached i l) t
           where
-            go : (classOf old i ≡ classOf heads i) ⊎ Reached i → Met (word counts) earlier p (classOf old i) → Met (word counts) order (length order) (classOf heads i)
+            go : (classOf old i ≡ classOf heads i) ⊎ Reached i → Met (word counts) earlier p (classOf old i) →
+                Met (word counts) order (length order) (classOf heads i)
             go (inr r) u = m .reached (classOf heads i) r
             go (inl e) (leaf z) = leaf (rw e at z)
             go (inl e) (before q k z) =
@@ -217,10 +232,12 @@ module _ (nodes arguments : List ℕ) (s : Sections nodes arguments) (ps : List 
         mended-none = record { listed = below .listed; reached = λ g m. m; kept = λ q l. absurd (omega arith) }
 
         -- what stands at a place is no head any more, or is met
-        mended-passed : (p : ℕ) (order : List ℕ) → Mended p order → (classOf heads (word earlier p) ≡ word earlier p → Met (word counts) order (length order) (word earlier p)) → Mended (suc p) order
+        mended-passed : (p : ℕ) (order : List ℕ) → Mended p order →
+            (classOf heads (word earlier p) ≡ word earlier p → Met (word counts) order (length order) (word earlier p)) → Mended (suc p) order
         mended-passed p order m t = record { listed = m .listed; reached = m .reached; kept = λ q l. go q l (decLt q p) }
           where
-            go : (q : ℕ) → q < suc p → Dec (q < p) → classOf heads (word earlier q) ≡ word earlier q → Met (word counts) order (length order) (word earlier q)
+            go : (q : ℕ) → q < suc p → Dec (q < p) → classOf heads (word earlier q) ≡ word earlier q →
+                Met (word counts) order (length order) (word earlier q)
             go q l (yes k) = m .kept q k
             go q l (no k) = let e : q ≡ p = omega arith in rw e t
 
@@ -229,7 +246,10 @@ module _ (nodes arguments : List ℕ) (s : Sections nodes arguments) (ps : List 
         mended-put p order l m new =
             mended-passed p (order ++ (word earlier p ∷ []))
             (record {
-              listed = listed-more nodes arguments (word counts) heads order (m .listed) (word earlier p) (o .listed .node p l) (o .listed .compound p l) new (λ j q. mended-met p order m (argumentOf nodes arguments (word earlier p) j) (looked-node nodes arguments s counts k (word earlier p) j (o .listed .node p l) q) (o .listed .first p l j q));
+              listed =
+                  listed-more nodes arguments (word counts) heads order (m .listed) (word earlier p) (o .listed .node p l)
+                  (o .listed .compound p l) new
+                  (λ j q. mended-met p order m (argumentOf nodes arguments (word earlier p) j) (looked-node nodes arguments s counts k (word earlier p) j (o .listed .node p l) q) (o .listed .first p l j q));
               reached = λ g r. still g (m .reached g r);
               kept = λ q k e. still (word earlier q) (m .kept q k e);
             })
@@ -246,7 +266,8 @@ module _ (nodes arguments : List ℕ) (s : Sections nodes arguments) (ps : List 
         mended-next : (p : ℕ) → p < length earlier → (order : List ℕ) × Mended p order → (order : List ℕ) × Mended (suc p) order
         mended-next p l (order, m) = go (ℕ-discrete (classOf heads (word earlier p)) (word earlier p)) (stands order (word earlier p))
           where
-            go : Dec (classOf heads (word earlier p) ≡ word earlier p) → Dec ((q : ℕ) × (q < length order) × (word order q ≡ word earlier p)) → (order : List ℕ) × Mended (suc p) order
+            go : Dec (classOf heads (word earlier p) ≡ word earlier p) → Dec ((q : ℕ) × (q < length order) × (word order q ≡ word earlier p)) →
+                (order : List ℕ) × Mended (suc p) order
             go (no n) r = (order, mended-passed p order m (λ e. absurd (n e)))
             go (yes e) (yes r) = (order, mended-passed p order m (λ z. before (r .0) (r .1) (r .2)))
             go (yes e) (no n) = (order ++ (word earlier p ∷ []), mended-put p order l m (λ q k z. n (q, k, z)))

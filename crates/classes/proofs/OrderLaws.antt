@@ -46,11 +46,13 @@ written-range n l i a h b r k q = go (written l i a k h)
     go (other d w) = let z = r k q in omega (arith, w, z)
 
 -- a visit that ends at a cycle
-pub visited-cycle : {nodes arguments heads marks later order : List ℕ} {due : ℕ → ℕ} {h : ℕ} → Looped nodes arguments due heads → Visited nodes arguments due heads marks h Cycle later order
+pub visited-cycle : {nodes arguments heads marks later order : List ℕ} {due : ℕ → ℕ} {h : ℕ} → Looped nodes arguments due heads →
+    Visited nodes arguments due heads marks h Cycle later order
 visited-cycle l = record { cycle = λ e. l; counted = λ c e. absurd (let z : _≡_ {A = ℕ} 0 1 = cc in omega arith) }
 
 -- a visit that passes
-pub visited-count : {nodes arguments heads marks later order : List ℕ} {due : ℕ → ℕ} {h c : ℕ} → VisitDone nodes arguments due heads marks h later order c → Visited nodes arguments due heads marks h (Count c) later order
+pub visited-count : {nodes arguments heads marks later order : List ℕ} {due : ℕ → ℕ} {h c : ℕ} →
+    VisitDone nodes arguments due heads marks h later order c → Visited nodes arguments due heads marks h (Count c) later order
 visited-count {c = c} p =
     record {
       cycle = λ e. absurd (let z : _≡_ {A = ℕ} 0 1 = cc in omega arith);
@@ -58,7 +60,8 @@ visited-count {c = c} p =
     }
 
 -- the head of an argument is a node
-pub argument-head : (nodes arguments heads : List ℕ) (h j a r : ℕ) → Partition (nodeCount nodes) heads → h < nodeCount nodes → a ≡ argumentOf nodes arguments h j → a < h → r ≡ word heads a → (r ≡ classOf heads (argumentOf nodes arguments h j)) × (r < nodeCount nodes)
+pub argument-head : (nodes arguments heads : List ℕ) (h j a r : ℕ) → Partition (nodeCount nodes) heads → h < nodeCount nodes →
+    a ≡ argumentOf nodes arguments h j → a < h → r ≡ word heads a → (r ≡ classOf heads (argumentOf nodes arguments h j)) × (r < nodeCount nodes)
 argument-head nodes arguments heads h j a r p l e s q =
     let e′ : r ≡ classOf heads (argumentOf nodes arguments h j) = q ∙ ap (λ (k : ℕ). classOf heads k) e in
     let b = p .below a (omega arith) in
@@ -110,11 +113,13 @@ not-due due marks g x e t a = go (eqb (word marks g) 2) refl (sym e ∙ t)
     go false q z = absurd (let y : due g ≡ 0 = eqb-true _ _ (not-false _ z) in omega (arith, y))
 
 -- a node that is not done is not listed
-other-listed : {nodes arguments heads marks order : List ℕ} {due : ℕ → ℕ} {count h m : ℕ} → Ordering nodes arguments due heads marks order count → word marks h ≡ m → (m ≡ 2 → ⊥) → (p : ℕ) → p < count → word order p ≡ h → ⊥
+other-listed : {nodes arguments heads marks order : List ℕ} {due : ℕ → ℕ} {count h m : ℕ} →
+    Ordering nodes arguments due heads marks order count → word marks h ≡ m → (m ≡ 2 → ⊥) → (p : ℕ) → p < count → word order p ≡ h → ⊥
 other-listed {marks = marks} o e d p l q = d (sym e ∙ ap (λ (k : ℕ). word marks k) (sym q) ∙ o .listed p l .1)
 
 -- a node that is done, if arguments of it are looked at, is met
-settled-met : {nodes arguments heads marks order : List ℕ} {due : ℕ → ℕ} {count g : ℕ} → Ordering nodes arguments due heads marks order count → g < nodeCount nodes → Settled due marks g → Met due order count g
+settled-met : {nodes arguments heads marks order : List ℕ} {due : ℕ → ℕ} {count g : ℕ} → Ordering nodes arguments due heads marks order count →
+    g < nodeCount nodes → Settled due marks g → Met due order count g
 settled-met {order = order} {due} {count} {g} o l s = go (ℕ-discrete (due g) 0)
   where
     go : Dec (due g ≡ 0) → Met due order count g
@@ -122,7 +127,8 @@ settled-met {order = order} {due} {count} {g} o l s = go (ℕ-discrete (due g) 0
     go (no d) = let f = o .done g l (s (omega arith)) in before (f .0) (f .1) (f .2)
 
 -- A node that is not done is put behind the others.
-module _ {nodes arguments heads marks order : List ℕ} {due : ℕ → ℕ} {count h : ℕ} (o : Ordering nodes arguments due heads marks order count) (node : h < nodeCount nodes) (not-done : word marks h ≡ 2 → ⊥) where
+module _ {nodes arguments heads marks order : List ℕ} {due : ℕ → ℕ} {count h : ℕ} (o : Ordering nodes arguments due heads marks order count)
+    (node : h < nodeCount nodes) (not-done : word marks h ≡ 2 → ⊥) where
   within : h < length marks
   within = rw (o .marks-size) node
 
@@ -176,9 +182,14 @@ module _ {nodes arguments heads marks order : List ℕ} {due : ℕ → ℕ} {cou
   argument-met : (g : ℕ) → g < nodeCount nodes → Settled due marks g → Met due (set order count h) count g
   argument-met g l s = still-met count (omega arith) g (settled-met o l s)
 
-  behind-first : ((i : ℕ) → i < due h → classOf heads (argumentOf nodes arguments h i) < nodeCount nodes) → ((i : ℕ) → i < due h → Settled due marks (classOf heads (argumentOf nodes arguments h i))) → (p : ℕ) → p < count + 1 → (j : ℕ) → j < due (word (set order count h) p) → Met due (set order count h) p (classOf heads (argumentOf nodes arguments (word (set order count h) p) j))
+  behind-first : ((i : ℕ) → i < due h → classOf heads (argumentOf nodes arguments h i) < nodeCount nodes) →
+      ((i : ℕ) → i < due h → Settled due marks (classOf heads (argumentOf nodes arguments h i))) → (p : ℕ) → p < count + 1 → (j : ℕ) →
+      j < due (word (set order count h) p) →
+      Met due (set order count h) p (classOf heads (argumentOf nodes arguments (word (set order count h) p) j))
   behind-first below settled =
-      below-more (λ p. (j : ℕ) → j < due (word (set order count h) p) → Met due (set order count h) p (classOf heads (argumentOf nodes arguments (word (set order count h) p) j))) count
+      below-more
+      (λ p. (j : ℕ) → j < due (word (set order count h) p) → Met due (set order count h) p (classOf heads (argumentOf nodes arguments (word (set order count h) p) j)))
+      count
       (λ p b. rw (stays p b) (λ j m. still-met p (omega arith) _ (o .first p b j m)))
       (rw newest (λ j m. argument-met _ (below j m) (settled j m)))
 
@@ -207,7 +218,9 @@ module _ {nodes arguments heads marks order : List ℕ} {due : ℕ → ℕ} {cou
       omega (arith, r, l)
 
   -- it is listed, where the heads of its arguments are
-  put-behind : 0 < due h → ((i : ℕ) → i < due h → classOf heads (argumentOf nodes arguments h i) < nodeCount nodes) → ((i : ℕ) → i < due h → Settled due marks (classOf heads (argumentOf nodes arguments h i))) → Ordering nodes arguments due heads (set marks h 2) (set order count h) (count + 1)
+  put-behind : 0 < due h → ((i : ℕ) → i < due h → classOf heads (argumentOf nodes arguments h i) < nodeCount nodes) →
+      ((i : ℕ) → i < due h → Settled due marks (classOf heads (argumentOf nodes arguments h i))) →
+      Ordering nodes arguments due heads (set marks h 2) (set order count h) (count + 1)
   put-behind some below settled =
       record {
         marks-size = length-set marks h 2 ∙ o .marks-size;
@@ -222,7 +235,8 @@ module _ {nodes arguments heads marks order : List ℕ} {due : ℕ → ℕ} {cou
       }
 
 -- A new node is opened.
-module _ {nodes arguments heads marks order : List ℕ} {due : ℕ → ℕ} {count h : ℕ} (o : Ordering nodes arguments due heads marks order count) (node : h < nodeCount nodes) (new : word marks h ≡ 0) where
+module _ {nodes arguments heads marks order : List ℕ} {due : ℕ → ℕ} {count h : ℕ} (o : Ordering nodes arguments due heads marks order count)
+    (node : h < nodeCount nodes) (new : word marks h ≡ 0) where
   inside : h < length marks
   inside = rw (o .marks-size) node
 
@@ -274,109 +288,121 @@ module _ {nodes arguments heads marks order : List ℕ} {due : ℕ → ℕ} {cou
       }
 
 -- A node that was new is open, and argument j of it is to be visited.
-module _ {nodes arguments counts heads marks order : List ℕ} {count h : ℕ} (v : Visiting nodes arguments counts heads marks order count h) (new : word marks h ≡ 0) {after then : List ℕ} {now j : ℕ} (t : Turn nodes arguments (word counts) heads (set marks h 1) h after then now j) where
-  there : h < length marks
-  there = rw (v .ordering .marks-size) (v .node)
+module _ {nodes arguments counts heads marks order : List ℕ} {count h : ℕ} (v : Visiting nodes arguments counts heads marks order count h)
+    (new : word marks h ≡ 0) {after then : List ℕ} {now j : ℕ} (t : Turn nodes arguments (word counts) heads (set marks h 1) h after then now j)
+  where
+    there : h < length marks
+    there = rw (v .ordering .marks-size) (v .node)
 
-  -- it stays open
-  still-open : word after h ≡ 1
-  still-open =
-      let e : word (set marks h 1) h ≡ 1 = getD-set-same marks h 1 0 there in
-      t .later .kept h (v .node) (λ z. omega (arith, z, e)) ∙ e
+    -- it stays open
+    still-open : word after h ≡ 1
+    still-open =
+        let e : word (set marks h 1) h ≡ 1 = getD-set-same marks h 1 0 there in
+        t .later .kept h (v .node) (λ z. omega (arith, z, e)) ∙ e
 
-  -- what is not new stays so
-  was-new : (k : ℕ) → k < nodeCount nodes → word after k ≡ 0 → word marks k ≡ 0
-  was-new k l e = go (ℕ-discrete (word marks k) 0) (written marks h 1 k there)
-    where
-      go : Dec (word marks k ≡ 0) → Written marks h 1 k → word marks k ≡ 0
-      go (yes q) w = q
-      go (no d) (here q w) = ap (λ (m : ℕ). word marks m) q ∙ new
-      go (no d) (other q w) = absurd (d (sym w ∙ sym (t .later .kept k l (λ z. d (sym w ∙ z))) ∙ e))
-
-  -- fewer nodes are new
-  pub fewer : countBelow (nodeCount nodes) (isNew after) < countBelow (nodeCount nodes) (isNew marks)
-  unfolding isNew
-  fewer =
-      count-less (isNew marks) (isNew after) (nodeCount nodes) (λ k l e. eq-eqb _ _ (was-new k l (eqb-true _ _ e))) h (v .node) (eq-eqb _ _ new) (ne-eqb (word after h) 0 (λ z. omega (arith, z, still-open)))
-
-  -- every open node leads to the head of its argument
-  pub visit-next : (g : ℕ) → j < word counts h → g ≡ classOf heads (argumentOf nodes arguments h j) → g < nodeCount nodes → 0 < word counts g → Visiting nodes arguments counts heads after then now g
-  visit-next g l e i a =
-      record {
-        sections = v .sections;
-        counts-right = v .counts-right;
-        partition = v .partition;
-        ordering = t .ordering;
-        node = i;
-        compound = a;
-        leads = leads-on;
-      }
-    where
-      step : Leads nodes arguments (word counts) heads h g
-      step = next j (v .node) l (sym e)
-
-      leads-on : (k : ℕ) → k < nodeCount nodes → word after k ≡ 1 → Leads nodes arguments (word counts) heads k g
-      leads-on k q z = go (written marks h 1 k there)
-        where
-          go : Written marks h 1 k → Leads nodes arguments (word counts) heads k g
-          go (here d w) = rw d step
-          go (other d w) = further (v .leads k q (sym w ∙ t .later .none-opened k q z)) step
-
-  -- the heads of its arguments are nodes
-  head-node : (i : ℕ) → i < word counts h → classOf heads (argumentOf nodes arguments h i) < nodeCount nodes
-  head-node i l = v .partition .below _ (looked-node nodes arguments (v .sections) counts (v .counts-right) h i (v .node) l)
-
-  -- the head of argument j is done, if arguments of it are looked at
-  turn-on : (g : ℕ) → j < word counts h → g ≡ classOf heads (argumentOf nodes arguments h j) → (later order′ : List ℕ) (c : ℕ) → Ordering nodes arguments (word counts) heads later order′ c → Later (nodeCount nodes) after later → Settled (word counts) later g → Turn nodes arguments (word counts) heads (set marks h 1) h later order′ c (j + 1)
-  turn-on g b e later order′ c o l s =
-      record {
-        ordering = o;
-        later = later-on (t .later) l;
-        settled = settled-next (word counts) (λ i. classOf heads (argumentOf nodes arguments h i)) j g e s l (λ i z. head-node i (omega arith)) (t .settled);
-      }
-
-  -- it is not due
-  pub turned-over : (g : ℕ) → j < word counts h → g ≡ classOf heads (argumentOf nodes arguments h j) → Settled (word counts) after g → {later order′ : List ℕ} {c : ℕ} → later ≡ after → order′ ≡ then → c ≡ now → Turn nodes arguments (word counts) heads (set marks h 1) h later order′ c (j + 1)
-  turned-over g b e s x y z = rw (x, y, z) (turn-on g b e after then now (t .ordering) (later-same _ _) s)
-
-  -- it is visited
-  pub turned : (g : ℕ) → j < word counts h → g ≡ classOf heads (argumentOf nodes arguments h j) → (passed placed : List ℕ) (n : ℕ) → VisitDone nodes arguments (word counts) heads after g passed placed n → {later order′ : List ℕ} {c : ℕ} → later ≡ passed → order′ ≡ placed → c ≡ n → Turn nodes arguments (word counts) heads (set marks h 1) h later order′ c (j + 1)
-  turned g b e passed placed n p x y z = rw (x, y, z) (turn-on g b e passed placed n (p .ordering) (p .later) (λ a. p .passed))
-
-  -- Every argument is visited: the node is put into the order.
-  module _ (whole : word counts h ≤ j) where
-    o : Ordering nodes arguments (word counts) heads after then now
-    o = t .ordering
-
-    not-done : word after h ≡ 2 → ⊥
-    not-done e = omega (arith, e, still-open)
-
-    -- the order has a place left
-    pub place-left : now < length then
-    place-left = room-left o (v .node) not-done
-
-    finished-kept : (k : ℕ) → k < nodeCount nodes → (word marks k ≡ 0 → ⊥) → word (set after h 2) k ≡ word marks k
-    finished-kept k l d = go (written marks h 1 k there)
+    -- what is not new stays so
+    was-new : (k : ℕ) → k < nodeCount nodes → word after k ≡ 0 → word marks k ≡ 0
+    was-new k l e = go (ℕ-discrete (word marks k) 0) (written marks h 1 k there)
       where
-        go : Written marks h 1 k → word (set after h 2) k ≡ word marks k
-        go (here q w) = absurd (d (ap (λ (m : ℕ). word marks m) q ∙ new))
-        go (other q w) = getD-set-other after h k 2 0 q ∙ t .later .kept k l (λ z. d (sym w ∙ z)) ∙ w
+        go : Dec (word marks k ≡ 0) → Written marks h 1 k → word marks k ≡ 0
+        go (yes q) w = q
+        go (no d) (here q w) = ap (λ (m : ℕ). word marks m) q ∙ new
+        go (no d) (other q w) = absurd (d (sym w ∙ sym (t .later .kept k l (λ z. d (sym w ∙ z))) ∙ e))
 
-    finished-opened : (k : ℕ) → k < nodeCount nodes → word (set after h 2) k ≡ 1 → word marks k ≡ 1
-    finished-opened k l e = go (written after h 2 k (within o (v .node) not-done))
-      where
-        go : Written after h 2 k → word marks k ≡ 1
-        go (here q w) = absurd (omega (arith, w, e))
-        go (other d w) = sym (getD-set-other marks h k 1 0 d) ∙ t .later .none-opened k l (sym w ∙ e)
+    -- fewer nodes are new
+    pub fewer : countBelow (nodeCount nodes) (isNew after) < countBelow (nodeCount nodes) (isNew marks)
+    unfolding isNew
+    fewer =
+        count-less (isNew marks) (isNew after) (nodeCount nodes) (λ k l e. eq-eqb _ _ (was-new k l (eqb-true _ _ e))) h (v .node) (eq-eqb _ _ new)
+        (ne-eqb (word after h) 0 (λ z. omega (arith, z, still-open)))
 
-    -- the node is done
-    pub finished : VisitDone nodes arguments (word counts) heads marks h (set after h 2) (set then now h) (now + 1)
-    finished =
+    -- every open node leads to the head of its argument
+    pub visit-next : (g : ℕ) → j < word counts h → g ≡ classOf heads (argumentOf nodes arguments h j) → g < nodeCount nodes → 0 < word counts g →
+        Visiting nodes arguments counts heads after then now g
+    visit-next g l e i a =
         record {
-          ordering = put-behind o (v .node) not-done (v .compound) head-node (λ i l. t .settled i (omega arith));
-          passed = getD-set-same after h 2 0 (within o (v .node) not-done);
-          later = record { kept = finished-kept; none-opened = finished-opened };
+          sections = v .sections;
+          counts-right = v .counts-right;
+          partition = v .partition;
+          ordering = t .ordering;
+          node = i;
+          compound = a;
+          leads = leads-on;
         }
+      where
+        step : Leads nodes arguments (word counts) heads h g
+        step = next j (v .node) l (sym e)
+
+        leads-on : (k : ℕ) → k < nodeCount nodes → word after k ≡ 1 → Leads nodes arguments (word counts) heads k g
+        leads-on k q z = go (written marks h 1 k there)
+          where
+            go : Written marks h 1 k → Leads nodes arguments (word counts) heads k g
+            go (here d w) = rw d step
+            go (other d w) = further (v .leads k q (sym w ∙ t .later .none-opened k q z)) step
+
+    -- the heads of its arguments are nodes
+    head-node : (i : ℕ) → i < word counts h → classOf heads (argumentOf nodes arguments h i) < nodeCount nodes
+    head-node i l = v .partition .below _ (looked-node nodes arguments (v .sections) counts (v .counts-right) h i (v .node) l)
+
+    -- the head of argument j is done, if arguments of it are looked at
+    turn-on : (g : ℕ) → j < word counts h → g ≡ classOf heads (argumentOf nodes arguments h j) → (later order′ : List ℕ) (c : ℕ) →
+        Ordering nodes arguments (word counts) heads later order′ c → Later (nodeCount nodes) after later → Settled (word counts) later g →
+        Turn nodes arguments (word counts) heads (set marks h 1) h later order′ c (j + 1)
+    turn-on g b e later order′ c o l s =
+        record {
+          ordering = o;
+          later = later-on (t .later) l;
+          settled =
+              settled-next (word counts) (λ i. classOf heads (argumentOf nodes arguments h i)) j g e s l (λ i z. head-node i (omega arith))
+              (t .settled);
+        }
+
+    -- it is not due
+    pub turned-over : (g : ℕ) → j < word counts h → g ≡ classOf heads (argumentOf nodes arguments h j) → Settled (word counts) after g →
+        {later order′ : List ℕ} {c : ℕ} → later ≡ after → order′ ≡ then → c ≡ now →
+        Turn nodes arguments (word counts) heads (set marks h 1) h later order′ c (j + 1)
+    turned-over g b e s x y z = rw (x, y, z) (turn-on g b e after then now (t .ordering) (later-same _ _) s)
+
+    -- it is visited
+    pub turned : (g : ℕ) → j < word counts h → g ≡ classOf heads (argumentOf nodes arguments h j) → (passed placed : List ℕ) (n : ℕ) →
+        VisitDone nodes arguments (word counts) heads after g passed placed n → {later order′ : List ℕ} {c : ℕ} → later ≡ passed →
+        order′ ≡ placed → c ≡ n → Turn nodes arguments (word counts) heads (set marks h 1) h later order′ c (j + 1)
+    turned g b e passed placed n p x y z = rw (x, y, z) (turn-on g b e passed placed n (p .ordering) (p .later) (λ a. p .passed))
+
+    -- Every argument is visited: the node is put into the order.
+    module _ (whole : word counts h ≤ j) where
+      o : Ordering nodes arguments (word counts) heads after then now
+      o = t .ordering
+
+      not-done : word after h ≡ 2 → ⊥
+      not-done e = omega (arith, e, still-open)
+
+      -- the order has a place left
+      pub place-left : now < length then
+      place-left = room-left o (v .node) not-done
+
+      finished-kept : (k : ℕ) → k < nodeCount nodes → (word marks k ≡ 0 → ⊥) → word (set after h 2) k ≡ word marks k
+      finished-kept k l d = go (written marks h 1 k there)
+        where
+          go : Written marks h 1 k → word (set after h 2) k ≡ word marks k
+          go (here q w) = absurd (d (ap (λ (m : ℕ). word marks m) q ∙ new))
+          go (other q w) = getD-set-other after h k 2 0 q ∙ t .later .kept k l (λ z. d (sym w ∙ z)) ∙ w
+
+      finished-opened : (k : ℕ) → k < nodeCount nodes → word (set after h 2) k ≡ 1 → word marks k ≡ 1
+      finished-opened k l e = go (written after h 2 k (within o (v .node) not-done))
+        where
+          go : Written after h 2 k → word marks k ≡ 1
+          go (here q w) = absurd (omega (arith, w, e))
+          go (other d w) = sym (getD-set-other marks h k 1 0 d) ∙ t .later .none-opened k l (sym w ∙ e)
+
+      -- the node is done
+      pub finished : VisitDone nodes arguments (word counts) heads marks h (set after h 2) (set then now h) (now + 1)
+      finished =
+          record {
+            ordering = put-behind o (v .node) not-done (v .compound) head-node (λ i l. t .settled i (omega arith));
+            passed = getD-set-same after h 2 0 (within o (v .node) not-done);
+            later = record { kept = finished-kept; none-opened = finished-opened };
+          }
 
 -- What the mark of a node says before its visit.
 module _ {nodes arguments counts heads marks order : List ℕ} {count h : ℕ} (v : Visiting nodes arguments counts heads marks order count h) where
@@ -395,7 +421,8 @@ module _ {nodes arguments counts heads marks order : List ℕ} {count h : ℕ} (
       omega (arith, r)
 
 -- with new marks nothing is listed
-ordering-none : {nodes arguments heads marks order : List ℕ} {due : ℕ → ℕ} → Starting (nodeCount nodes) marks order → Ordering nodes arguments due heads marks order 0
+ordering-none : {nodes arguments heads marks order : List ℕ} {due : ℕ → ℕ} → Starting (nodeCount nodes) marks order →
+    Ordering nodes arguments due heads marks order 0
 ordering-none s =
     record {
       marks-size = s .marks-size;
@@ -410,7 +437,9 @@ ordering-none s =
     }
 
 -- so any node with arguments that are looked at can be visited
-pub visit-first : {nodes arguments counts heads marks order : List ℕ} {h : ℕ} → Sections nodes arguments → Counts nodes arguments counts (nodeCount nodes) → Partition (nodeCount nodes) heads → Starting (nodeCount nodes) marks order → h < nodeCount nodes → 0 < word counts h → Visiting nodes arguments counts heads marks order 0 h
+pub visit-first : {nodes arguments counts heads marks order : List ℕ} {h : ℕ} → Sections nodes arguments →
+    Counts nodes arguments counts (nodeCount nodes) → Partition (nodeCount nodes) heads → Starting (nodeCount nodes) marks order →
+    h < nodeCount nodes → 0 < word counts h → Visiting nodes arguments counts heads marks order 0 h
 visit-first s k p n l a =
     record {
       sections = s;
@@ -460,7 +489,8 @@ module _ {nodes arguments heads marks order : List ℕ} {due : ℕ → ℕ} {cou
           let a : q < count = omega (arith, b, l) in
           o .once q r l b (sym (placed-at q a) ∙ e ∙ placed-at r b)
 
-      first-at : (q : ℕ) → q < length (take count order) → (j : ℕ) → j < due (word (take count order) q) → Met due (take count order) q (classOf heads (argumentOf nodes arguments (word (take count order) q) j))
+      first-at : (q : ℕ) → q < length (take count order) → (j : ℕ) → j < due (word (take count order) q) →
+          Met due (take count order) q (classOf heads (argumentOf nodes arguments (word (take count order) q) j))
       first-at q l =
           let b = in-place q l in
           rw (placed-at q b) (λ j t. placed-met q (omega (arith, b)) _ (o .first q b j t))
@@ -470,7 +500,9 @@ module _ {nodes arguments heads marks order : List ℕ} {due : ℕ → ℕ} {cou
   placed-settled g l s = rw placed-length (placed-met count (omega arith) g (settled-met o l s))
 
 -- Node g, at place i of the list, is looked at.
-module _ {nodes arguments counts heads list marks order : List ℕ} {count i : ℕ} (s : Sections nodes arguments) (k : Counts nodes arguments counts (nodeCount nodes)) (p : Partition (nodeCount nodes) heads) (t : OpenListed nodes counts list) (w : Sweep nodes arguments (word counts) heads list marks order count i) (l : i < length list) (g : ℕ) (d : g ≡ word list i) where
+module _ {nodes arguments counts heads list marks order : List ℕ} {count i : ℕ} (s : Sections nodes arguments)
+    (k : Counts nodes arguments counts (nodeCount nodes)) (p : Partition (nodeCount nodes) heads) (t : OpenListed nodes counts list)
+    (w : Sweep nodes arguments (word counts) heads list marks order count i) (l : i < length list) (g : ℕ) (d : g ≡ word list i) where
   -- its head is a node
   pub sweep-node : (h : ℕ) → h ≡ classOf heads g → h < nodeCount nodes
   sweep-node h e = head-inside p (rw d (t .node i l)) e
@@ -489,24 +521,31 @@ module _ {nodes arguments counts heads list marks order : List ℕ} {count i : �
       }
 
   -- it is done, if arguments of it are looked at
-  sweep-on : (h : ℕ) → h ≡ classOf heads g → (later order′ : List ℕ) (c : ℕ) → Ordering nodes arguments (word counts) heads later order′ c → Later (nodeCount nodes) marks later → Settled (word counts) later h → Sweep nodes arguments (word counts) heads list later order′ c (i + 1)
+  sweep-on : (h : ℕ) → h ≡ classOf heads g → (later order′ : List ℕ) (c : ℕ) → Ordering nodes arguments (word counts) heads later order′ c →
+      Later (nodeCount nodes) marks later → Settled (word counts) later h → Sweep nodes arguments (word counts) heads list later order′ c (i + 1)
   sweep-on h e later order′ c o q z =
       record {
         ordering = o;
         none-open = λ k b y. w .none-open k b (q .none-opened k b y);
-        swept = settled-next (word counts) (λ k. classOf heads (word list k)) i h (e ∙ ap (classOf heads) d) z q (λ k b. p .below (word list k) (t .node k (omega arith))) (w .swept);
+        swept =
+            settled-next (word counts) (λ k. classOf heads (word list k)) i h (e ∙ ap (classOf heads) d) z q
+            (λ k b. p .below (word list k) (t .node k (omega arith))) (w .swept);
       }
 
   -- it is not due
-  pub swept-over : (h : ℕ) → h ≡ classOf heads g → Settled (word counts) marks h → {later order′ : List ℕ} {c : ℕ} → later ≡ marks → order′ ≡ order → c ≡ count → Sweep nodes arguments (word counts) heads list later order′ c (i + 1)
+  pub swept-over : (h : ℕ) → h ≡ classOf heads g → Settled (word counts) marks h → {later order′ : List ℕ} {c : ℕ} → later ≡ marks →
+      order′ ≡ order → c ≡ count → Sweep nodes arguments (word counts) heads list later order′ c (i + 1)
   swept-over h e s x y z = rw (x, y, z) (sweep-on h e marks order count (w .ordering) (later-same _ _) s)
 
   -- it is visited
-  pub swept : (h : ℕ) → h ≡ classOf heads g → (passed placed : List ℕ) (n : ℕ) → VisitDone nodes arguments (word counts) heads marks h passed placed n → {later order′ : List ℕ} {c : ℕ} → later ≡ passed → order′ ≡ placed → c ≡ n → Sweep nodes arguments (word counts) heads list later order′ c (i + 1)
+  pub swept : (h : ℕ) → h ≡ classOf heads g → (passed placed : List ℕ) (n : ℕ) →
+      VisitDone nodes arguments (word counts) heads marks h passed placed n → {later order′ : List ℕ} {c : ℕ} → later ≡ passed →
+      order′ ≡ placed → c ≡ n → Sweep nodes arguments (word counts) heads list later order′ c (i + 1)
   swept h e passed placed n q x y z = rw (x, y, z) (sweep-on h e passed placed n (q .ordering) (q .later) (λ a. q .passed))
 
 -- with new marks no head is visited
-pub swept-none : {nodes arguments heads list marks order : List ℕ} {due : ℕ → ℕ} → Starting (nodeCount nodes) marks order → Sweep nodes arguments due heads list marks order 0 0
+pub swept-none : {nodes arguments heads list marks order : List ℕ} {due : ℕ → ℕ} → Starting (nodeCount nodes) marks order →
+    Sweep nodes arguments due heads list marks order 0 0
 swept-none s =
     record {
       ordering = ordering-none s;
@@ -515,7 +554,9 @@ swept-none s =
     }
 
 -- every node of the list is looked at: the heads with arguments that are looked at stand in order
-pub swept-all : {nodes arguments counts heads list marks order : List ℕ} {count i : ℕ} → Partition (nodeCount nodes) heads → OpenListed nodes counts list → Sweep nodes arguments (word counts) heads list marks order count i → length list ≤ i → (count ≤ nodeCount nodes) × Ordered nodes arguments (word counts) heads (take count order)
+pub swept-all : {nodes arguments counts heads list marks order : List ℕ} {count i : ℕ} → Partition (nodeCount nodes) heads →
+    OpenListed nodes counts list → Sweep nodes arguments (word counts) heads list marks order count i → length list ≤ i →
+    (count ≤ nodeCount nodes) × Ordered nodes arguments (word counts) heads (take count order)
 swept-all {nodes} {counts = counts} {heads} {list} {marks} p t w a =
     (placed-most (w .ordering), record { listed = placed-listed (w .ordering); whole = λ i l. placed-settled (w .ordering) (classOf heads i) (p .below i l) (settled i l) })
   where
@@ -527,15 +568,18 @@ swept-all {nodes} {counts = counts} {heads} {list} {marks} p t w a =
         rw e at (w .swept (f .0) (omega (arith, f .1))) b
 
 -- a search that ends at a cycle
-pub searched-cycle : {nodes arguments heads : List ℕ} {due : ℕ → ℕ} {a : ℕ} → Looped nodes arguments due heads → Searched nodes arguments due heads a true
+pub searched-cycle : {nodes arguments heads : List ℕ} {due : ℕ → ℕ} {a : ℕ} → Looped nodes arguments due heads →
+    Searched nodes arguments due heads a true
 searched-cycle l = record { cycle = λ e. l; ordered = λ e. absurd (let z : _≡_ {A = ℕ} 0 1 = cc in omega arith) }
 
 -- a search that passes
-searched-order : {nodes arguments heads : List ℕ} {due : ℕ → ℕ} {a : ℕ} → OrderedBelow nodes arguments due heads a → Searched nodes arguments due heads a false
+searched-order : {nodes arguments heads : List ℕ} {due : ℕ → ℕ} {a : ℕ} → OrderedBelow nodes arguments due heads a →
+    Searched nodes arguments due heads a false
 searched-order o = record { cycle = λ e. absurd (let z : _≡_ {A = ℕ} 0 1 = cc in omega arith); ordered = λ e. o }
 
 -- no argument of the head of node a is looked at
-pub searched-leaf : (nodes arguments : List ℕ) (due : ℕ → ℕ) (heads : List ℕ) (a h : ℕ) → h ≡ classOf heads a → due h ≡ 0 → Searched nodes arguments due heads a false
+pub searched-leaf : (nodes arguments : List ℕ) (due : ℕ → ℕ) (heads : List ℕ) (a h : ℕ) → h ≡ classOf heads a → due h ≡ 0 →
+    Searched nodes arguments due heads a false
 searched-leaf nodes arguments due heads a h e z =
     searched-order
     (record {
@@ -550,7 +594,8 @@ searched-leaf nodes arguments due heads a h e z =
     })
 
 -- the head of node a is visited
-pub searched-passed : {nodes arguments heads marks later order : List ℕ} {due : ℕ → ℕ} {a h c : ℕ} → h ≡ classOf heads a → h < nodeCount nodes → VisitDone nodes arguments due heads marks h later order c → Searched nodes arguments due heads a false
+pub searched-passed : {nodes arguments heads marks later order : List ℕ} {due : ℕ → ℕ} {a h c : ℕ} → h ≡ classOf heads a → h < nodeCount nodes →
+    VisitDone nodes arguments due heads marks h later order c → Searched nodes arguments due heads a false
 searched-passed {order = order} {h = h} {c} e l p =
     searched-order
     (record { order = take c order; listed = placed-listed (p .ordering); from = rw (← e) (placed-settled (p .ordering) h l (λ a. p .passed)) })

@@ -62,7 +62,8 @@ unfolding rank
 rank-compound nodes counts order h n = rw (ne-eqb (word counts h) 0 n)
 
 -- what is met has a small rank
-rank-met : (nodes counts order : List ℕ) (p h : ℕ) → p ≤ length order → h < nodeCount nodes → Met (word counts) order p h → rank nodes counts order h ≤ nodeCount nodes + p
+rank-met : (nodes counts order : List ℕ) (p h : ℕ) → p ≤ length order → h < nodeCount nodes → Met (word counts) order p h →
+    rank nodes counts order h ≤ nodeCount nodes + p
 rank-met nodes counts order p h l n (leaf e) = let r = rank-leaf nodes counts order h e in omega arith
 rank-met nodes counts order p h l n (before q k e) = go (ℕ-discrete (word counts h) 0)
   where
@@ -74,7 +75,9 @@ rank-met nodes counts order p h l n (before q k e) = go (ℕ-discrete (word coun
         omega arith
 
 -- the head of an argument that is looked at has a smaller rank
-rank-falls : (nodes arguments counts heads order : List ℕ) → Listed nodes arguments (word counts) heads order → (h : ℕ) → Met (word counts) order (length order) h → (j : ℕ) → j < word counts h → classOf heads (argumentOf nodes arguments h j) < nodeCount nodes → rank nodes counts order (classOf heads (argumentOf nodes arguments h j)) < rank nodes counts order h
+rank-falls : (nodes arguments counts heads order : List ℕ) → Listed nodes arguments (word counts) heads order → (h : ℕ) →
+    Met (word counts) order (length order) h → (j : ℕ) → j < word counts h → classOf heads (argumentOf nodes arguments h j) < nodeCount nodes →
+    rank nodes counts order (classOf heads (argumentOf nodes arguments h j)) < rank nodes counts order h
 rank-falls nodes arguments counts heads order l h (leaf e) j k n = absurd (omega arith)
 rank-falls nodes arguments counts heads order l h (before q b e) j k n =
     let t = place-of order h q b e in
@@ -90,7 +93,8 @@ module _ (nodes arguments : List ℕ) (s : Sections nodes arguments) (counts : L
   looked-node i j b l = omega (arith, s .smaller i j b (looked-at k i j b l))
 
   -- an argument of a node none of whose arguments is looked at is a closed application
-  pub closed-argument : (i j : ℕ) → i < nodeCount nodes → j < countOf nodes i → word counts i ≡ 0 → IsClosed nodes counts (argumentOf nodes arguments i j)
+  pub closed-argument : (i j : ℕ) → i < nodeCount nodes → j < countOf nodes i → word counts i ≡ 0 →
+      IsClosed nodes counts (argumentOf nodes arguments i j)
   closed-argument i j b l e =
       k .below i b (record { node = b; applied = counted-application nodes arguments s i j b l; none = e }) j l
 
@@ -101,7 +105,9 @@ module _ (nodes arguments : List ℕ) (s : Sections nodes arguments) (counts : L
 
   module _ (heads : List ℕ) (partition : Partition (nodeCount nodes) heads) where
     -- what a head leads to has a smaller rank
-    leads-falls : (order : List ℕ) → Ordered nodes arguments (word counts) heads order → {h g : ℕ} → Leads nodes arguments (word counts) heads h g → (i : ℕ) → i < nodeCount nodes → classOf heads i ≡ h → rank nodes counts order g < rank nodes counts order h
+    leads-falls : (order : List ℕ) → Ordered nodes arguments (word counts) heads order → {h g : ℕ} →
+        Leads nodes arguments (word counts) heads h g → (i : ℕ) → i < nodeCount nodes → classOf heads i ≡ h →
+        rank nodes counts order g < rank nodes counts order h
     leads-falls order o (next {h = h} {g = g} j b l e) i q d =
         rw (← e) (rank-falls nodes arguments counts heads order (o .listed) h (rw d at (o .whole i q)) j l (partition .below _ (looked-node h j b l)))
     leads-falls order o (further {h} {g} {k = f} p q) i b d =
@@ -118,26 +124,34 @@ module _ (nodes arguments : List ℕ) (s : Sections nodes arguments) (counts : L
         omega arith
 
 -- what leads reaches
-pub leads-reaches : (nodes arguments : List ℕ) (s : Sections nodes arguments) (heads : List ℕ) (ps : List (ℕ × ℕ)) (h : Inside (nodesFrom nodes arguments) ps) (c : IsClosure (nodesFrom nodes arguments) ps (classOf heads)) (counts : List ℕ) (k : Counts nodes arguments counts (nodeCount nodes)) {i j : ℕ} → Leads nodes arguments (word counts) heads i j → Reaches (nodesFrom nodes arguments) ps i j
+pub leads-reaches :
+    (nodes arguments : List ℕ) (s : Sections nodes arguments) (heads : List ℕ) (ps : List (ℕ × ℕ)) (h : Inside (nodesFrom nodes arguments) ps) (c : IsClosure (nodesFrom nodes arguments) ps (classOf heads)) (counts : List ℕ) (k : Counts nodes arguments counts (nodeCount nodes)) {i j : ℕ} →
+    Leads nodes arguments (word counts) heads i j → Reaches (nodesFrom nodes arguments) ps i j
 leads-reaches nodes arguments s heads ps h c counts k (next {h = i} {g = g} j b l e) =
     let n : j < countOf nodes i = looked-at k i j b l in
     let a : argumentOf nodes arguments i j < length (nodesFrom nodes arguments) = rw (nodes-long nodes arguments) (looked-node nodes arguments s counts k i j b l) in
     let d : i < length (nodesFrom nodes arguments) = rw (nodes-long nodes arguments) b in
-    step (same {i = i} d) (application-from nodes arguments i b (counted-application nodes arguments s i j b n)) (place-argument nodes arguments s i j b n)
+    step (same {i = i} d) (application-from nodes arguments i b (counted-application nodes arguments s i j b n))
+    (place-argument nodes arguments s i j b n)
     (rw e at (c .joined (argumentOf nodes arguments i j) a))
 leads-reaches nodes arguments s heads ps h c counts k (further p q) =
     steps (leads-reaches nodes arguments s heads ps h c counts k p) (leads-reaches nodes arguments s heads ps h c counts k q)
 
-module _ (nodes arguments : List ℕ) (s : Sections nodes arguments) (counts : List ℕ) (k : Counts nodes arguments counts (nodeCount nodes)) (heads : List ℕ) (partition : Partition (nodeCount nodes) heads) (closed-heads : ClosedHeads nodes arguments counts heads) (ps : List (ℕ × ℕ)) (h : Inside (nodesFrom nodes arguments) ps) (c : IsClosure (nodesFrom nodes arguments) ps (classOf heads)) (order : List ℕ) (o : Ordered nodes arguments (word counts) heads order) where
+module _ (nodes arguments : List ℕ) (s : Sections nodes arguments) (counts : List ℕ) (k : Counts nodes arguments counts (nodeCount nodes))
+    (heads : List ℕ) (partition : Partition (nodeCount nodes) heads) (closed-heads : ClosedHeads nodes arguments counts heads)
+    (ps : List (ℕ × ℕ)) (h : Inside (nodesFrom nodes arguments) ps) (c : IsClosure (nodesFrom nodes arguments) ps (classOf heads))
+    (order : List ℕ) (o : Ordered nodes arguments (word counts) heads order) where
   -- the ranks of heads are small
-  pub ordered-enough : (i : ℕ) → i < length (nodesFrom nodes arguments) → rank nodes counts order (classOf heads i) < suc (nodeCount nodes + suc (length order))
+  pub ordered-enough : (i : ℕ) → i < length (nodesFrom nodes arguments) →
+      rank nodes counts order (classOf heads i) < suc (nodeCount nodes + suc (length order))
   ordered-enough i b =
       let q : i < nodeCount nodes = counted nodes arguments i b in
       let r = rank-met nodes counts order (length order) (classOf heads i) (omega arith) (partition .below i q) (o .whole i q) in
       omega arith
 
   -- the head of an argument of a head has a smaller rank
-  argument-falls : (i : ℕ) → i < nodeCount nodes → (j : ℕ) → j < countOf nodes (classOf heads i) → rank nodes counts order (classOf heads (argumentOf nodes arguments (classOf heads i) j)) < rank nodes counts order (classOf heads i)
+  argument-falls : (i : ℕ) → i < nodeCount nodes → (j : ℕ) → j < countOf nodes (classOf heads i) →
+      rank nodes counts order (classOf heads (argumentOf nodes arguments (classOf heads i) j)) < rank nodes counts order (classOf heads i)
   argument-falls i b j l = go (k .some (classOf heads i) g)
     where
       g : classOf heads i < nodeCount nodes
@@ -147,7 +161,8 @@ module _ (nodes arguments : List ℕ) (s : Sections nodes arguments) (counts : L
       a = s .smaller (classOf heads i) j g l
 
       -- the head is a closed application, and so is that of its argument
-      shut : word counts (classOf heads i) ≡ 0 → rank nodes counts order (classOf heads (argumentOf nodes arguments (classOf heads i) j)) < rank nodes counts order (classOf heads i)
+      shut : word counts (classOf heads i) ≡ 0 →
+          rank nodes counts order (classOf heads (argumentOf nodes arguments (classOf heads i) j)) < rank nodes counts order (classOf heads i)
       shut e =
           let m = closed-argument nodes arguments s counts k (classOf heads i) j g l e in
           let x = rank-leaf nodes counts order (classOf heads i) e in
@@ -155,10 +170,12 @@ module _ (nodes arguments : List ℕ) (s : Sections nodes arguments) (counts : L
           let z = closed-heads .least _ m in
           omega (arith, a, x, y, z)
 
-      go : (word counts (classOf heads i) ≡ 0) ⊎ (word counts (classOf heads i) ≡ countOf nodes (classOf heads i)) → rank nodes counts order (classOf heads (argumentOf nodes arguments (classOf heads i) j)) < rank nodes counts order (classOf heads i)
+      go : (word counts (classOf heads i) ≡ 0) ⊎ (word counts (classOf heads i) ≡ countOf nodes (classOf heads i)) →
+          rank nodes counts order (classOf heads (argumentOf nodes arguments (classOf heads i) j)) < rank nodes counts order (classOf heads i)
       go (inl e) = shut e
       go (inr e) =
-          rank-falls nodes arguments counts heads order (o .listed) (classOf heads i) (o .whole i b) j (omega (arith, e, l)) (partition .below _ (omega (arith, a, g)))
+          rank-falls nodes arguments counts heads order (o .listed) (classOf heads i) (o .whole i b) j (omega (arith, e, l))
+          (partition .below _ (omega (arith, a, g)))
 
   -- classes in order are a solved form
   pub ordered-solved : Solved (nodesFrom nodes arguments) ps (classOf heads) (rank nodes counts order)
@@ -174,4 +191,5 @@ module _ (nodes arguments : List ℕ) (s : Sections nodes arguments) (counts : L
   -- so they decide: unified
   pub ordered-unified : outcome (nodesFrom nodes arguments) ps ≡ unified
   ordered-unified =
-      solved-decides (nodesFrom nodes arguments) (sections-well-formed nodes arguments s) ps h (classOf heads) (rank nodes counts order) ordered-solved (suc (nodeCount nodes + suc (length order))) ordered-enough .0
+      solved-decides (nodesFrom nodes arguments) (sections-well-formed nodes arguments s) ps h (classOf heads) (rank nodes counts order)
+      ordered-solved (suc (nodeCount nodes + suc (length order))) ordered-enough .0

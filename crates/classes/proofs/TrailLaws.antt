@@ -59,7 +59,8 @@ module _ (n : ℕ) (next next′ : List ℕ) (below : (i : ℕ) → i < n → wo
   follows-same (onward {i} {j} f) l = step-on i (same i l) (follows-same f (below i l))
 
 -- and circles are circles
-circles-same : {n : ℕ} {heads : List ℕ} (next next′ : List ℕ) → n ≤ length next′ → ((i : ℕ) → i < n → word next′ i ≡ word next i) → Circles n heads next → Circles n heads next′
+circles-same : {n : ℕ} {heads : List ℕ} (next next′ : List ℕ) → n ≤ length next′ → ((i : ℕ) → i < n → word next′ i ≡ word next i) →
+    Circles n heads next → Circles n heads next′
 circles-same {n = n} {heads = heads} next next′ s w c =
     record {
       size = s;
@@ -118,7 +119,8 @@ module _ (n : ℕ) (heads next : List ℕ) (g h : ℕ) (t : TwoHeads n heads nex
           go (no z) = r .others k (λ f. z (first-follows k f)) ∙ sym (class-after k l ∙ renamed-other g h (classOf heads k) z)
 
   -- classes that have head g in its circle, and are as after the renaming elsewhere, are those before
-  classes-back : (ds : List ℕ) → length ds ≡ n → ((k : ℕ) → k < n → Follows next g k → classOf ds k ≡ g) → ((k : ℕ) → k < n → (Follows next g k → ⊥) → classOf ds k ≡ classOf (map (renamed g h) heads) k) → ds ≡ heads
+  classes-back : (ds : List ℕ) → length ds ≡ n → ((k : ℕ) → k < n → Follows next g k → classOf ds k ≡ g) →
+      ((k : ℕ) → k < n → (Follows next g k → ⊥) → classOf ds k ≡ classOf (map (renamed g h) heads) k) → ds ≡ heads
   classes-back ds size u v = ext-getD 0 ds heads (size ∙ sym (t .partition .size)) (λ k l. at k (rw size at l))
     where
       at : (k : ℕ) → k < n → classOf ds k ≡ classOf heads k
@@ -209,7 +211,9 @@ module _ (n : ℕ) (heads next : List ℕ) (g h : ℕ) (t : TwoHeads n heads nex
         let e = after-gone in
         let f = fewer-classes in
         record {
-          circles = circles-same (exchanged next g h) (notedGone (exchanged next g h) g) (omega (arith, a, d)) after-node (circles-linked n heads next g h t);
+          circles =
+              circles-same (exchanged next g h) (notedGone (exchanged next g h) g) (omega (arith, a, d)) after-node
+              (circles-linked n heads next g h t);
           few = a;
           size = d;
           room = omega (arith, b, e, f);
@@ -222,11 +226,13 @@ merged-trailed {n = n} {heads = heads} {next = next} {g = g} {h = h} m =
     subst₂ (Trailed n) (sym (m .renames)) (sym (m .linked)) (trailed-after n heads next g h (m .two) (m .trailed))
 
 -- one merged after none
-pub one-merged : {n : ℕ} {heads next : List ℕ} {g h : ℕ} {heads′ next′ : List ℕ} → Merged n heads next g h heads′ next′ → Merges n heads next heads′ next′
+pub one-merged : {n : ℕ} {heads next : List ℕ} {g h : ℕ} {heads′ next′ : List ℕ} → Merged n heads next g h heads′ next′ →
+    Merges n heads next heads′ next′
 one-merged {g = g} {h = h} m = more none (g, h, m)
 
 -- some merged, and then others
-pub merges-on : {n : ℕ} {heads next heads₁ next₁ heads₂ next₂ : List ℕ} → Merges n heads next heads₁ next₁ → Merges n heads₁ next₁ heads₂ next₂ → Merges n heads next heads₂ next₂
+pub merges-on : {n : ℕ} {heads next heads₁ next₁ heads₂ next₂ : List ℕ} → Merges n heads next heads₁ next₁ → Merges n heads₁ next₁ heads₂ next₂ →
+    Merges n heads next heads₂ next₂
 merges-on m none = m
 merges-on m (more l o) = more (merges-on m l) o
 
@@ -312,7 +318,8 @@ module _ (n : ℕ) (heads next : List ℕ) (g h : ℕ) (heads′ next′ : List 
       ∙ renamed-other g h (classOf heads i) (λ z. f (follows-first n heads next g h (m .two) i l z)))
 
 -- the classes before the last head went, and their circles, are told by those after
-one-way-back : {n : ℕ} {heads next heads₁ next₁ heads′ next′ : List ℕ} → OneMerged n heads next heads′ next′ → OneMerged n heads₁ next₁ heads′ next′ → (heads₁ ≡ heads) × (next₁ ≡ next)
+one-way-back : {n : ℕ} {heads next heads₁ next₁ heads′ next′ : List ℕ} → OneMerged n heads next heads′ next′ →
+    OneMerged n heads₁ next₁ heads′ next′ → (heads₁ ≡ heads) × (next₁ ≡ next)
 one-way-back {n = n} {heads = heads} {next = next} {heads₁ = heads₁} {next₁ = next₁} {heads′ = heads′} {next′ = next′} (g, h, m) (g₁, h₁, m₁) = (
   classes-back n heads next g h (m .two) heads₁ (m₁ .two .partition .size)
       (λ k l f. first-follows n heads₁ next₁ g₁ h₁ (m₁ .two) k (over f) ∙ sym g≡)
@@ -346,14 +353,16 @@ merges-gone {next = next} (more {next₁ = next₁} {next₂ = next₂} m o) =
     omega (arith, a, b)
 
 -- where some are merged more have gone
-not-merged : {n : ℕ} {heads next heads₁ next₁ heads′ next′ : List ℕ} → Merges n heads next heads₁ next₁ → OneMerged n heads₁ next₁ heads′ next′ → gone next ≡ gone next′ → ⊥
+not-merged : {n : ℕ} {heads next heads₁ next₁ heads′ next′ : List ℕ} → Merges n heads next heads₁ next₁ → OneMerged n heads₁ next₁ heads′ next′ →
+    gone next ≡ gone next′ → ⊥
 not-merged {next = next} {next₁ = next₁} {next′ = next′} m o e =
     let a : gone next ≤ gone next₁ = merges-gone m in
     let b : gone next′ ≡ suc (gone next₁) = one-gone o in
     omega (arith, a, b, e)
 
 -- there is one way back to where so many had gone
-ways-back : {n : ℕ} {heads next heads₁ next₁ heads′ next′ : List ℕ} → gone next₁ ≡ gone next → Merges n heads next heads′ next′ → Merges n heads₁ next₁ heads′ next′ → (heads₁ ≡ heads) × (next₁ ≡ next)
+ways-back : {n : ℕ} {heads next heads₁ next₁ heads′ next′ : List ℕ} → gone next₁ ≡ gone next → Merges n heads next heads′ next′ →
+    Merges n heads₁ next₁ heads′ next′ → (heads₁ ≡ heads) × (next₁ ≡ next)
 ways-back e none none = (refl, refl)
 ways-back e none (more m o) = absurd (not-merged m o e)
 ways-back e (more m o) none = absurd (not-merged m o (sym e))
@@ -362,15 +371,18 @@ ways-back {n = n} {heads₁ = heads₁} {next₁ = next₁} e (more l o) (more m
     ways-back e l (subst₂ (Merges n heads₁ next₁) (r .0) (r .1) m)
 
 -- what is undone is as it was
-pub undone-same : {n mark : ℕ} {heads next heads₁ next₁ heads′ next′ : List ℕ} → mark ≡ gone next → Merges n heads next heads′ next′ → ComesFrom n mark heads₁ next₁ heads′ next′ → (heads₁ ≡ heads) × (next₁ ≡ next)
+pub undone-same : {n mark : ℕ} {heads next heads₁ next₁ heads′ next′ : List ℕ} → mark ≡ gone next → Merges n heads next heads′ next′ →
+    ComesFrom n mark heads₁ next₁ heads′ next′ → (heads₁ ≡ heads) × (next₁ ≡ next)
 undone-same e m b = ways-back (b .marked ∙ e) m (b .merges)
 
 -- what undoing joins asks
-pub merges-since : {n : ℕ} {heads next heads′ next′ : List ℕ} → Trailed n heads next → length heads′ ≡ n → Merges n heads next heads′ next′ → Since (length heads′) (gone next) heads′ next′ × (length next′ ≡ links)
+pub merges-since : {n : ℕ} {heads next heads′ next′ : List ℕ} → Trailed n heads next → length heads′ ≡ n → Merges n heads next heads′ next′ →
+    Since (length heads′) (gone next) heads′ next′ × (length next′ ≡ links)
 merges-since t e m = (rw e (undoable refl m), merges-trailed t m .size)
 
 -- and what it comes to: the classes before them
-pub merges-back : {n : ℕ} {heads next heads₁ next₁ heads′ next′ : List ℕ} → length heads′ ≡ n → Merges n heads next heads′ next′ → ComesFrom (length heads′) (gone next) heads₁ next₁ heads′ next′ → (heads₁ ≡ heads) × (next₁ ≡ next)
+pub merges-back : {n : ℕ} {heads next heads₁ next₁ heads′ next′ : List ℕ} → length heads′ ≡ n → Merges n heads next heads′ next′ →
+    ComesFrom (length heads′) (gone next) heads₁ next₁ heads′ next′ → (heads₁ ≡ heads) × (next₁ ≡ next)
 merges-back e m b = undone-same refl m (rw e at b)
 
 module _ (n : ℕ) (heads′ next′ : List ℕ) (l : Last n heads′ next′) (k : ℕ) (e : k ≡ gone next′) where
@@ -422,13 +434,15 @@ module _ (n : ℕ) (heads′ next′ : List ℕ) (l : Last n heads′ next′) (
   pub last-first : word (unnoted next′ k) (classOf heads′ (went next′ k)) ≡ word (unlinked heads′ next′ k) (went next′ k)
   last-first =
       let m = l .merged .2 in
-      subst₂ (λ (x y : List ℕ). word x (classOf heads′ (went next′ k)) ≡ word y (went next′ k)) (sym (merged-unnoted n (l .heads) (l .next) (l .merged .0) (l .merged .1) heads′ next′ m k e)) (sym last-next)
+      subst₂ (λ (x y : List ℕ). word x (classOf heads′ (went next′ k)) ≡ word y (went next′ k))
+      (sym (merged-unnoted n (l .heads) (l .next) (l .merged .0) (l .merged .1) heads′ next′ m k e)) (sym last-next)
       (ap (word (exchanged (l .next) (l .merged .0) (l .merged .1))) last-to
       ∙ exchange n (l .heads) (l .next) (l .merged .0) (l .merged .1) (m .two) .second
       ∙ ap (word (l .next)) (sym last-from))
 
   -- its circle gets its head again: the classes are those before
-  pub last-undone : (heads : List ℕ) → Relabels (unlinked heads′ next′ k) (went next′ k) (went next′ k) heads′ heads → OneMerged n heads (unlinked heads′ next′ k) heads′ next′
+  pub last-undone : (heads : List ℕ) → Relabels (unlinked heads′ next′ k) (went next′ k) (went next′ k) heads′ heads →
+      OneMerged n heads (unlinked heads′ next′ k) heads′ next′
   last-undone heads r =
       let m = l .merged .2 in
       (l .merged .0, l .merged .1, subst₂ (λ (x y : List ℕ). Merged n x y (l .merged .0) (l .merged .1) heads′ next′) (sym same) (sym last-next) m)
@@ -455,10 +469,12 @@ since-last {n = n} {mark = mark} {heads′ = heads′} {next′ = next′} s d =
     go (more {heads₁} {next₁} m o) e f = record { heads = heads₁; next = next₁; merged = o }
 
 -- where one is undone the others can still be
-since-back : {n mark : ℕ} {heads next heads′ next′ : List ℕ} → Since n mark heads′ next′ → (gone next′ ≡ mark → ⊥) → OneMerged n heads next heads′ next′ → Since n mark heads next
+since-back : {n mark : ℕ} {heads next heads′ next′ : List ℕ} → Since n mark heads′ next′ → (gone next′ ≡ mark → ⊥) →
+    OneMerged n heads next heads′ next′ → Since n mark heads next
 since-back {n = n} {mark = mark} {heads = heads} {next = next} s d o = go (s .before .merges) (s .before .marked) d o
   where
-    go : {heads₀ next₀ ds nextd : List ℕ} → Merges n heads₀ next₀ ds nextd → gone next₀ ≡ mark → (gone nextd ≡ mark → ⊥) → OneMerged n heads next ds nextd → Since n mark heads next
+    go : {heads₀ next₀ ds nextd : List ℕ} → Merges n heads₀ next₀ ds nextd → gone next₀ ≡ mark → (gone nextd ≡ mark → ⊥) →
+        OneMerged n heads next ds nextd → Since n mark heads next
     go none e f p = absurd (f e)
     go {heads₀} {next₀} (more m q) e f p =
         let r = one-way-back p q in
@@ -473,7 +489,8 @@ pub record Undoing (n mark k : ℕ) (heads next heads₀ next₀ : List ℕ) : T
   pub merges : Merges n heads next heads₀ next₀
 
 -- none is undone yet
-pub undoing-none : (mark : ℕ) (heads next : List ℕ) → Since (length heads) mark heads next → Undoing (length heads) mark (gone next) heads next heads next
+pub undoing-none : (mark : ℕ) (heads next : List ℕ) → Since (length heads) mark heads next →
+    Undoing (length heads) mark (gone next) heads next heads next
 undoing-none mark heads next s = record { size = refl; long = refl; count = refl; since = s; merges = none }
 
 module _ {n mark k : ℕ} {heads next heads₀ next₀ : List ℕ} (u : Undoing n mark k heads next heads₀ next₀) where

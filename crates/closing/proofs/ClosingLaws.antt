@@ -24,7 +24,8 @@ use Rattle.multiset_unification.proofs.TableLaws.{posed, held-posed, table-refu
 
 -- All that `closes` ensures, where it answers b.
 abbrev pub Promised : List ℕ → Bool → Type 0
-Promised t b = (b ≡ true → (A : Assignment) → EqualSides (problemOf t) A → ⊥) × (b ≡ false → refusal t ≡ 0 → (A : Assignment) × EqualSides (problemOf t) A)
+Promised t b =
+    (b ≡ true → (A : Assignment) → EqualSides (problemOf t) A → ⊥) × (b ≡ false → refusal t ≡ 0 → (A : Assignment) × EqualSides (problemOf t) A)
 
 -- a finished listing closes the branch exactly if it has no entry
 pub finished-promised : (t words : List ℕ) (k : ℕ) → Page14 (problemOf t) k words → Promised t (eqb k 0)

@@ -30,7 +30,9 @@ use Rattle.text.specs.Input.{wrongBytes, wordsOfBytes}
 use Rattle.text.specs.Code.Writing.{Wrote, parts}
 use Rattle.list.specs.Code.Printing.{Printable}
 
-module _ (t lent words : List ℕ) (k width : ℕ) (long : length lent ≡ 16384) (left : words ≡ lentAfter (conditions t) (completeListing (problemOf t)) lent) (wide : width ≡ cond (eqb (refusal t) 0) (entryWords (problemOf t)) 0) where
+module _ (t lent words : List ℕ) (k width : ℕ) (long : length lent ≡ 16384)
+    (left : words ≡ lentAfter (conditions t) (completeListing (problemOf t)) lent)
+    (wide : width ≡ cond (eqb (refusal t) 0) (entryWords (problemOf t)) 0) where
   -- What is told of so many lent words, and the entries that are left.
   abbrev answered : Told
   answered = listed (conditions t) (completeListing (problemOf t)) (length lent)
@@ -51,14 +53,16 @@ module _ (t lent words : List ℕ) (k width : ℕ) (long : length lent ≡ 16384
     -- as many words as they have
     words-right : width * k ≡ length (flatten (entries-there (length lent)))
     words-right =
-        rw (width-right, counted) (mul-comm (entryWords (problemOf t)) (answered .entries) ∙ sym (left-words (problemOf t) (held-posed t z) (conditions t) (length lent)))
+        rw (width-right, counted)
+        (mul-comm (entryWords (problemOf t)) (answered .entries) ∙ sym (left-words (problemOf t) (held-posed t z) (conditions t) (length lent)))
 
     pub printable : Printable width k words
     printable =
         record {
           lent = ap length left ∙ lent-long (conditions t) (completeListing (problemOf t)) lent ∙ long;
           inside = omega (arith, words-right, entries-fit (conditions t) (completeListing (problemOf t)) (length lent), long);
-          one = λ n. omega (arith, one-at-most (problemOf t) (held-posed t z) (sym width-right ∙ n), count-right, length-take (answered .entries) (completeListing (problemOf t)));
+          one =
+              λ n. omega (arith, one-at-most (problemOf t) (held-posed t z) (sym width-right ∙ n), count-right, length-take (answered .entries) (completeListing (problemOf t)));
         }
 
     -- they lie in the words
@@ -67,10 +71,13 @@ module _ (t lent words : List ℕ) (k width : ℕ) (long : length lent ≡ 16384
     lie = rw (width-right, counted, left) (entries-lie (problemOf t) (held-posed t z) (conditions t) lent ∙ ap entries-there long)
 
   finished-held : record { answer = 0; entries = k } ≡ answered → firstHeld (conditions t) ≡ 0
-  finished-held e = finished-exactly (conditions t) (completeListing (problemOf t)) (length lent) (table-refusals t) .0 (ap (λ (w : Told). w .answer) (sym e)) .0
+  finished-held e =
+      finished-exactly (conditions t) (completeListing (problemOf t)) (length lent) (table-refusals t) .0
+      (ap (λ (w : Told). w .answer) (sym e)) .0
 
   full-held : record { answer = 10; entries = k } ≡ answered → firstHeld (conditions t) ≡ 0
-  full-held e = full-exactly (conditions t) (completeListing (problemOf t)) (length lent) (table-refusals t) .0 (ap (λ (w : Told). w .answer) (sym e)) .0
+  full-held e =
+      full-exactly (conditions t) (completeListing (problemOf t)) (length lent) (table-refusals t) .0 (ap (λ (w : Told). w .answer) (sym e)) .0
 
   -- a finished listing
   pub finished-printable : record { answer = 0; entries = k } ≡ answered → Printable width k words

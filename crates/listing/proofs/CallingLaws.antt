@@ -38,10 +38,10 @@ use Rattle.multiset_unification.specs.declared.Listing.the-variants.{Finished, 
 use Rattle.multiset_unification.specs.Problem.{halfAt, problemOf}
 use Rattle.multiset_unification.specs.Answer.{Told, told, fitting, lentAfter}
 use Rattle.multiset_unification.specs.Computed.Listing.{completeListing}
-use Rattle.multiset_unification.specs.Code.Leaves.{Leaves}
+use Rattle.multiset_unification.specs.Code.LeavesEntries.{LeavesEntries}
 use Rattle.multiset_unification.proofs.AnswerLaws.{nothing, nothing-held, fitting-all, fitting-first, fitting-left, answered-finished, answered-full}
 use Rattle.multiset_unification.proofs.LentLaws.{flatten-long, taken-in}
-use Rattle.multiset_unification.proofs.PromiseLaws.{Promised, refused-promised, listed-promised}
+use Rattle.multiset_unification.proofs.PromiseLaws.{ListingPromised, refused-promised, listed-promised}
 use Rattle.multiset_unification.proofs.CompleteLaws.{complete-admissible}
 use Rattle.multiset_unification.proofs.OneHalfLaws.{one-posed}
 use Rattle.multiset_unification.proofs.TableLaws.{posed, none-held, held-posed, table-refusals}
@@ -92,7 +92,7 @@ module _ {es : List (List ℕ)} {lent lent′ : List ℕ} {w : Written} (x : Wri
       rw z at q
 
   -- an entry did not fit
-  pub written-full : (w .missed ≡ 0 → ⊥) → Leaves es lent (told (Full (w .used / width))) lent′
+  pub written-full : (w .missed ≡ 0 → ⊥) → LeavesEntries es lent (told (Full (w .used / width))) lent′
   written-full f = record { answer = rw counted (sym (answered-full [] es (length lent) nothing nothing-held less)); words = written-words }
     where
       pick : (b : Bool) → ltb (length lent) (length (flatten es)) ≡ b → (_≡_ {A = ℕ} (cond b 1 0) 0 → ⊥) → length lent < length (flatten es)
@@ -103,7 +103,7 @@ module _ {es : List (List ℕ)} {lent lent′ : List ℕ} {w : Written} (x : Wri
       less = pick (ltb (length lent) (length (flatten es))) refl (λ z. f (over-told ∙ z))
 
   -- all entries did
-  pub written-finished : w .missed ≡ 0 → Leaves es lent (told (Finished (w .used / width))) lent′
+  pub written-finished : w .missed ≡ 0 → LeavesEntries es lent (told (Finished (w .used / width))) lent′
   written-finished f =
       record {
         answer = rw (counted, fitting-all (length lent) es fits) (sym (answered-finished [] es (length lent) nothing nothing-held fits));
@@ -122,7 +122,7 @@ abbrev empty : List (List ℕ)
 empty = [] ∷ []
 
 -- always fits
-pub written-empty : (es : List (List ℕ)) (lent : List ℕ) → es ≡ empty → Leaves es lent (told (Finished 1)) lent
+pub written-empty : (es : List (List ℕ)) (lent : List ℕ) → es ≡ empty → LeavesEntries es lent (told (Finished 1)) lent
 unfolding flatten lentAfter
 written-empty es lent e =
     let m : length (flatten empty) ≤ length lent = omega arith in
@@ -133,16 +133,20 @@ written-empty es lent e =
     })
 
 -- each entry of a table's sections has n + m + V words
-pub all-long : (nodes arguments left right : List ℕ) (labels : Labels) (width : ℕ) → width ≡ widthOf nodes arguments left right → (e : List ℕ) → List·Memᴰ e (allEntries nodes arguments left right labels) → length e ≡ width
+pub all-long : (nodes arguments left right : List ℕ) (labels : Labels) (width : ℕ) → width ≡ widthOf nodes arguments left right → (e : List ℕ) →
+    List·Memᴰ e (allEntries nodes arguments left right labels) → length e ≡ width
 all-long nodes arguments left right labels width w e m =
     let r = length-replicate {A = ℕ} (length right) 1 in
     let l = below-long (nodesFrom nodes arguments) right (labels .left) (labels .right) left [] [] (replicate (length right) 1) e m in
     omega (arith, l, r, w)
 
 -- where that is none, there is one entry
-pub all-empty : {nodes arguments : List ℕ} (left right : List ℕ) (labels : Labels) {v : Variables} → Lists nodes arguments v → length left + length right + v .count ≡ 0 → allEntries nodes arguments left right labels ≡ [] ∷ []
+pub all-empty : {nodes arguments : List ℕ} (left right : List ℕ) (labels : Labels) {v : Variables} → Lists nodes arguments v →
+    length left + length right + v .count ≡ 0 → allEntries nodes arguments left right labels ≡ [] ∷ []
 unfolding below marked
-all-empty {nodes} {arguments} [] [] labels s h = ap (_∷ []) (length-none (wordsOf (nodesFrom nodes arguments) []) (words-counted (nodesFrom nodes arguments) [] ∙ sym (s .counted) ∙ omega (arith, h)))
+all-empty {nodes} {arguments} [] [] labels s h =
+    ap (_∷ [])
+    (length-none (wordsOf (nodesFrom nodes arguments) []) (words-counted (nodesFrom nodes arguments) [] ∙ sym (s .counted) ∙ omega (arith, h)))
 all-empty [] (b ∷ right) labels s h = absurd (omega arith)
 all-empty (a ∷ left) right labels s h = absurd (omega arith)
 
@@ -169,7 +173,9 @@ drop-replicate : (n m x : ℕ) → drop n (replicate (n + m) x) ≡ replicate m 
 drop-replicate n m x = ap (drop n) (sym (replicate-append-replicate n m x)) ∙ drop-at (replicate n x) (replicate m x) n (length-replicate n x)
 
 -- at first any two terms may be paired
-pub pairs-begun : {nodes arguments left right known known′ : List ℕ} {labels : Labels} → Listable nodes arguments left right labels → known ≡ replicate knownBytes 1 → length known′ ≡ length known → Counts nodes arguments known′ (nodeCount nodes) → mayIn known′ ≡ mayIn known → PairsKnown nodes arguments left right known′
+pub pairs-begun : {nodes arguments left right known known′ : List ℕ} {labels : Labels} → Listable nodes arguments left right labels →
+    known ≡ replicate knownBytes 1 → length known′ ≡ length known → Counts nodes arguments known′ (nodeCount nodes) →
+    mayIn known′ ≡ mayIn known → PairsKnown nodes arguments left right known′
 pairs-begun {left = left} {right = right} {known = known} {known′ = known′} g e l c m =
     record {
       size = l ∙ ap length e;
@@ -189,7 +195,8 @@ pairs-begun {left = left} {right = right} {known = known} {known′ = known′} 
         omega (arith, x, z)
 
 -- the classes that unifying begins with
-module _ {nodes arguments left right : List ℕ} {labels : Labels} (g : Listable nodes arguments left right labels) {v : Variables} {heads : List ℕ} (s : BeginsShared nodes arguments v heads) where
+module _ {nodes arguments left right : List ℕ} {labels : Labels} (g : Listable nodes arguments left right labels) {v : Variables}
+    {heads : List ℕ} (s : BeginsShared nodes arguments v heads) where
   -- an entry has a word for each term and each variable
   pub begun-width : length left + length right + v .count ≡ widthOf nodes arguments left right
   begun-width = ap (λ (n : ℕ). length left + length right + n) (s .lists .counted)
@@ -219,11 +226,14 @@ module _ {nodes arguments left right : List ℕ} {labels : Labels} (g : Listable
       }
 
   -- what is known of the classes
-  pub begun-classes : {known next : List ℕ} → length heads ≡ nodeCount nodes → KnownOf nodes arguments known → Trailed (length heads) heads next → Formed nodes arguments known heads × StandsAlways nodes arguments heads × Trailed (nodeCount nodes) heads next
+  pub begun-classes : {known next : List ℕ} → length heads ≡ nodeCount nodes → KnownOf nodes arguments known →
+      Trailed (length heads) heads next →
+      Formed nodes arguments known heads × StandsAlways nodes arguments heads × Trailed (nodeCount nodes) heads next
   begun-classes {known} e k o = (s .formed known (k .counts), begun-always, rw e at o)
 
 -- the branch without digits
-module _ {nodes arguments left right : List ℕ} {labels : Labels} (g : Listable nodes arguments left right labels) (width : ℕ) (w : width ≡ widthOf nodes arguments left right) where
+module _ {nodes arguments left right : List ℕ} {labels : Labels} (g : Listable nodes arguments left right labels) (width : ℕ)
+    (w : width ≡ widthOf nodes arguments left right) where
   -- The entry that it stands in.
   abbrev first-entry : List ℕ
   first-entry = take (width - 0) (replicate 80 1)
@@ -244,7 +254,10 @@ module _ {nodes arguments left right : List ℕ} {labels : Labels} (g : Listable
         ∙ take-replicate (length right) (length right + c) 1 (omega arith)
 
     -- what the walk needs to know of it
-    pub first-walking : {known prepared heads next : List ℕ} → KnownOf nodes arguments known → MayPair nodes arguments left right (mayIn known) → Formed nodes arguments known heads → StandsAlways nodes arguments heads → Trailed (nodeCount nodes) heads next → Prepared nodes arguments known heads prepared → (lent : List ℕ) → Walking nodes arguments left right labels known prepared heads next 0 1 (length right) 0 first-entry (replicate 64 0) lent 0
+    pub first-walking : {known prepared heads next : List ℕ} → KnownOf nodes arguments known → MayPair nodes arguments left right (mayIn known) →
+        Formed nodes arguments known heads → StandsAlways nodes arguments heads → Trailed (nodeCount nodes) heads next →
+        Prepared nodes arguments known heads prepared → (lent : List ℕ) →
+        Walking nodes arguments left right labels known prepared heads next 0 1 (length right) 0 first-entry (replicate 64 0) lent 0
     unfolding keyOfDigits
     first-walking k m f s o y lent =
         record {
@@ -268,7 +281,9 @@ module _ {nodes arguments left right : List ℕ} {labels : Labels} (g : Listable
         }
 
     -- writes all entries
-    pub first-walked : {memory lent entry′ memory′ lent′ : List ℕ} {r : Written} → Walked nodes arguments left right labels 0 first-entry memory lent 0 entry′ memory′ lent′ r → Writes (allEntries nodes arguments left right labels) lent 0 lent′ r
+    pub first-walked : {memory lent entry′ memory′ lent′ : List ℕ} {r : Written} →
+        Walked nodes arguments left right labels 0 first-entry memory lent 0 entry′ memory′ lent′ r →
+        Writes (allEntries nodes arguments left right labels) lent 0 lent′ r
     first-walked r = rw (first-marks, paired-none left right []) at (r .writes)
 
 -- an accepted table can be listed by its sections
@@ -285,7 +300,9 @@ listable t g k l =
     }
 
 -- and its entries are the complete listing
-pub all-entries : (t : List ℕ) → Accepted t → {labels : Labels} → labels .left ≡ length (leftLabelsOf t) → labels .right ≡ length (rightLabelsOf t) → allEntries (nodesOf t) (argumentsOf t) (leftTermsOf t) (rightTermsOf t) labels ≡ completeListing (problemOf t)
+pub all-entries : (t : List ℕ) → Accepted t → {labels : Labels} → labels .left ≡ length (leftLabelsOf t) →
+    labels .right ≡ length (rightLabelsOf t) →
+    allEntries (nodesOf t) (argumentsOf t) (leftTermsOf t) (rightTermsOf t) labels ≡ completeListing (problemOf t)
 all-entries t g k l =
     let h = one-posed (halfAt t leftTerms) (nodesIn t) (posed t g) in
     rw (← nodes-of-sections t, k, l) (below-listing (nodesIn t) (well-formed t g) (halfAt t leftTerms) h) ∙ sym (complete-admissible (problemOf t))
@@ -293,7 +310,7 @@ all-entries t g k l =
 module _ (t lent lent′ : List ℕ) (w : Told) where
   -- All that `list` promises.
   abbrev Promises : Type 0
-  Promises = Promised (problemOf t) (conditions t) lent lent′ w
+  Promises = ListingPromised (problemOf t) (conditions t) lent lent′ w
 
   -- a refused table
   pub refused-table : (r : Refusal) → numberOf r ≡ refusal t → w ≡ told (Refused r) → lent′ ≡ lent → Promises
@@ -302,6 +319,6 @@ module _ (t lent lent′ : List ℕ) (w : Told) where
       refused-promised (problemOf t) (conditions t) lent lent′ w (table-refusals t) (held-posed t) (numberOf r) (number-above r) (sym n)
 
   -- an accepted one
-  pub accepted-table : Accepted t → Leaves (completeListing (problemOf t)) lent w lent′ → Promises
+  pub accepted-table : Accepted t → LeavesEntries (completeListing (problemOf t)) lent w lent′ → Promises
   accepted-table g =
       listed-promised (problemOf t) (conditions t) lent lent′ w (table-refusals t) (held-posed t) (none-held t .1 g)

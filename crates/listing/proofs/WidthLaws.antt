@@ -23,9 +23,11 @@ use Rattle.multiset_unification.specs.Answer.{entryWords}
 use Rattle.multiset_unification.proofs.OneHalfLaws.{one-digits}
 
 -- the terms of both sides and the variables present, counted
-pub entry-counted : (t nodes arguments left right : List ℕ) (v : Variables) → nodes ≡ nodesOf t → arguments ≡ argumentsOf t → left ≡ leftTermsOf t → right ≡ rightTermsOf t → Lists nodes arguments v → length left + length right + v .count ≡ entryWords (problemOf t)
+pub entry-counted : (t nodes arguments left right : List ℕ) (v : Variables) → nodes ≡ nodesOf t → arguments ≡ argumentsOf t →
+    left ≡ leftTermsOf t → right ≡ rightTermsOf t → Lists nodes arguments v → length left + length right + v .count ≡ entryWords (problemOf t)
 unfolding entryWords variableCount
-entry-counted t nodes arguments left right v e f g h l = rw (one-digits (halfAt t leftTerms), nodes-of-sections t, ← e, ← f, ← g, ← h, l .counted) refl
+entry-counted t nodes arguments left right v e f g h l =
+    rw (one-digits (halfAt t leftTerms), nodes-of-sections t, ← e, ← f, ← g, ← h, l .counted) refl
 
 module _ (t : List ℕ) (n : ℕ) where
   -- a refused table has no entry

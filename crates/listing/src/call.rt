@@ -11,7 +11,7 @@ ghost use Rattle.classes.specs.Code.Stands.{StandsAlways};
 ghost use Rattle.multiset_unification.specs.Problem.{problemOf};
 ghost use Rattle.multiset_unification.specs.Answer.{told};
 ghost use Rattle.multiset_unification.specs.Computed.Listing.{completeListing};
-ghost use Rattle.multiset_unification.specs.Code.Leaves.{Leaves};
+ghost use Rattle.multiset_unification.specs.Code.LeavesEntries.{LeavesEntries};
 ghost use Rattle.branches.specs.Code.Branch.{Listable, widthOf};
 ghost use Rattle.branches.specs.Code.Known.{knownBytes, mayIn, KnownOf};
 ghost use Rattle.branches.specs.Code.Partners.{MayPair};
@@ -54,7 +54,7 @@ fn list_known(
     requires { ⌜ Formed (now nodes) (now arguments) (now known) (now heads) × StandsAlways (now nodes) (now arguments) (now heads) × Trailed (nodeCount (now nodes)) (now heads) (now next) ⌝ }
     requires { ⌜ Prepared (now nodes) (now arguments) (now known) (now heads) (now prepared) ⌝ }
     requires { ⌜ (width ≡ widthOf (now nodes) (now arguments) (now left) (now right)) × (0 < width) ⌝ }
-    ensures { λ r. ⌜ Leaves (allEntries (now (nodes .entry)) (now (arguments .entry)) (now (left .entry)) (now (right .entry)) labels) (now (out .entry)) (told r) (now (out .exit)) ⌝ }
+    ensures { λ r. ⌜ LeavesEntries (allEntries (now (nodes .entry)) (now (arguments .entry)) (now (left .entry)) (now (right .entry)) labels) (now (out .entry)) (told r) (now (out .exit)) ⌝ }
 {
     let mut entry = [1u32; ENTRY_WORDS];
     let mut memory = [0usize; SLOTS + SLOTS];
@@ -101,7 +101,7 @@ fn prepare_and_list(
     requires { ⌜ KnownOf (now nodes) (now arguments) (now known) × MayPair (now nodes) (now arguments) (now left) (now right) (mayIn (now known)) ⌝ }
     requires { ⌜ Formed (now nodes) (now arguments) (now known) (now heads) × StandsAlways (now nodes) (now arguments) (now heads) × Trailed (nodeCount (now nodes)) (now heads) (now next) ⌝ }
     requires { ⌜ (width ≡ widthOf (now nodes) (now arguments) (now left) (now right)) × (0 < width) ⌝ }
-    ensures { λ r. ⌜ Leaves (allEntries (now (nodes .entry)) (now (arguments .entry)) (now (left .entry)) (now (right .entry)) labels) (now (out .entry)) (told r) (now (out .exit)) ⌝ }
+    ensures { λ r. ⌜ LeavesEntries (allEntries (now (nodes .entry)) (now (arguments .entry)) (now (left .entry)) (now (right .entry)) labels) (now (out .entry)) (told r) (now (out .exit)) ⌝ }
 {
     let mut prepared = [0u16; PREPARED];
     prepare(nodes, arguments, known, heads, &mut prepared);
@@ -134,7 +134,7 @@ fn list_with_room(
 ) -> Listing
     requires { ⌜ Listable (now nodes) (now arguments) (now left) (now right) labels ⌝ }
     requires { ⌜ (length (now heads) ≡ nodeCount (now nodes)) × (now next ≡ replicate links 0) × (now known ≡ replicate knownBytes 1) ⌝ }
-    ensures { λ r. ⌜ Leaves (allEntries (now (nodes .entry)) (now (arguments .entry)) (now (left .entry)) (now (right .entry)) labels) (now (out .entry)) (told r) (now (out .exit)) ⌝ }
+    ensures { λ r. ⌜ LeavesEntries (allEntries (now (nodes .entry)) (now (arguments .entry)) (now (left .entry)) (now (right .entry)) labels) (now (out .entry)) (told r) (now (out .exit)) ⌝ }
 {
     let variables = begin_shared(nodes, arguments, heads);
     let list = variables.nodes;
@@ -196,7 +196,7 @@ fn list_sides(
     out: &mut [u32],
 ) -> Listing
     requires { ⌜ Listable (now nodes) (now arguments) (now left) (now right) labels ⌝ }
-    ensures { λ r. ⌜ Leaves (allEntries (now (nodes .entry)) (now (arguments .entry)) (now (left .entry)) (now (right .entry)) labels) (now (out .entry)) (told r) (now (out .exit)) ⌝ }
+    ensures { λ r. ⌜ LeavesEntries (allEntries (now (nodes .entry)) (now (arguments .entry)) (now (left .entry)) (now (right .entry)) labels) (now (out .entry)) (told r) (now (out .exit)) ⌝ }
 {
     let n = index(layout::node_count(nodes));
     let mut heads = [0u8; MAX_NODES];
@@ -218,7 +218,7 @@ fn list_sides(
 // Lists an accepted table.
 pub fn list_accepted(table: &[u32], out: &mut [u32]) -> Listing
     requires { ⌜ Accepted (now table) ⌝ }
-    ensures { λ r. ⌜ Leaves (completeListing (problemOf (now (table .entry)))) (now (out .entry)) (told r) (now (out .exit)) ⌝ }
+    ensures { λ r. ⌜ LeavesEntries (completeListing (problemOf (now (table .entry)))) (now (out .entry)) (told r) (now (out .exit)) ⌝ }
 {
     let nodes = layout::section(table, layout::NODES);
     let arguments = layout::section(table, layout::ARGUMENTS);

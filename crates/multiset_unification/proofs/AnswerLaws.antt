@@ -1,4 +1,5 @@
--- What a call answers and leaves in the lent words, for any conditions and any entries: the first condition that holds is answered; where none does, the entries are listed as far as the words go.
+-- What a call answers and leaves in the lent words, for any conditions and any entries: the first condition that holds is answered; where none
+-- does, the entries are listed as far as the words go.
 -- By cases on the conditions and on whether all words fit, and by induction on the entries. Assumes nothing.
 use Prim.Native.Nat.{ℕ, zero, suc, _-_, _<_, _≤_}
 use mathlib.Core.Bool.{Bool, true, false, not, cond}
@@ -15,7 +16,7 @@ use Rattle.table.specs.declared.Refusal.{Refusal}
 use Rattle.table.specs.Answer.{numberOf}
 use Rattle.table.specs.Refusal.{firstHeld}
 use Rattle.table.proofs.SomeLaws.{every}
-use Rattle.table.proofs.RefusalLaws.{first-means, first-before, first-after, numbersOf, Numbered, held-has, not-held, held}
+use Rattle.table.proofs.RefusalLaws.{first-means, first-before, first-after, conditionNumbers, Numbered, held-has, not-held, held}
 use Rattle.table.proofs.AnswerLaws.{number-apart, number-above, number-not}
 use Rattle.multiset_unification.specs.declared.Listing.{Listing}
 use Rattle.multiset_unification.specs.declared.Listing.the-variants.{Finished, Full, Refused}
@@ -100,7 +101,7 @@ fitting-fits lent es = rw (fitting-first lent es) (fitting-greatest lent es .fit
 -- Conditions of refusals: no number is 0, which is no refusal, or 10, which is full.
 pub record Refusals (cs : List (ℕ × Bool)) : Type 0 where
   pub numbered : Numbered cs
-  pub not-full : every (λ (n : ℕ). not (eqb n 10)) (numbersOf cs) ≡ true
+  pub not-full : every (λ (n : ℕ). not (eqb n 10)) (conditionNumbers cs) ≡ true
 
 -- where one of them holds, conditions after them do not matter
 held-before : (cs ds : List (ℕ × Bool)) → 0 < firstHeld cs → firstHeld (cs ++ ds) ≡ firstHeld cs
@@ -302,7 +303,8 @@ module _ (cs : List (ℕ × Bool)) (es : List (List ℕ)) (lent : List ℕ) wher
   lent-entries = take-append-seam (flatten (entriesLeft cs es (length lent))) (drop (length (flatten (entriesLeft cs es (length lent)))) lent)
 
   -- and the others are as they were
-  pub lent-rest : drop (length (flatten (entriesLeft cs es (length lent)))) (lentAfter cs es lent) ≡ drop (length (flatten (entriesLeft cs es (length lent)))) lent
+  pub lent-rest :
+      drop (length (flatten (entriesLeft cs es (length lent)))) (lentAfter cs es lent) ≡ drop (length (flatten (entriesLeft cs es (length lent)))) lent
   unfolding lentAfter
   lent-rest = drop-append-seam (flatten (entriesLeft cs es (length lent))) (drop (length (flatten (entriesLeft cs es (length lent)))) lent)
 

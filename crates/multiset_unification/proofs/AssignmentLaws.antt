@@ -41,7 +41,8 @@ module _ (p : Problem) (A B : Assignment) (g : Agree p A B) where
         read = n .read;
         after = n .after;
         variables = λ x q. sym (g .variables x q) ∙ n .variables x q;
-        labels = λ h ds m. filled-labels h (A .labels) (B .labels) (g .labels h (share-half (p .halves) (digitsOf p e) h ds m)) ds _ (n .labels h ds m);
+        labels =
+            λ h ds m. filled-labels h (A .labels) (B .labels) (g .labels h (share-half (p .halves) (digitsOf p e) h ds m)) ds _ (n .labels h ds m);
       }
 
 -- assignments that agree on these make the sides equal alike

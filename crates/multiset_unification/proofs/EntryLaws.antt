@@ -27,7 +27,8 @@ use Rattle.multiset_unification.proofs.ChoiceLaws.{before-one-way}
 use Rattle.multiset_unification.proofs.ProblemLaws.{is-choice, choices-in-order, pairs-inside}
 
 -- the pairs of a choice are of nodes, so the outcome decides whether they have a unifier
-pub choice-decided : (p : Problem) → Posed p → (ds : List ℕ) → Choice p ds → outcome (p .nodes) (pairsOf p ds) ≡ unified ↔ Unifiable (p .nodes) (pairsOf p ds)
+pub choice-decided : (p : Problem) → Posed p → (ds : List ℕ) → Choice p ds →
+    outcome (p .nodes) (pairsOf p ds) ≡ unified ↔ Unifiable (p .nodes) (pairsOf p ds)
 choice-decided p g ds c = outcome-unified (p .nodes) (g .well-formed) (pairsOf p ds) (pairs-inside p g ds c)
 
 -- the digits of an entry are those of its choice
@@ -132,7 +133,9 @@ module _ (p : Problem) where
         (λ e. ((λ m. admissible-listing .entries e .1 (c .entries e .0 m)), (λ m. c .entries e .1 (listed-from e m))))
 
     -- the digits of the entries are the admissible choices, in strictly rising order
-    pub listing-digits : Rising Before (map (digitsOf p) (admissibleListing p)) × ((ds : List ℕ) → List·Memᴰ ds (map (digitsOf p) (admissibleListing p)) ↔ Admissible p ds)
+    pub listing-digits :
+        Rising Before (map (digitsOf p) (admissibleListing p)) ×
+        ((ds : List ℕ) → List·Memᴰ ds (map (digitsOf p) (admissibleListing p)) ↔ Admissible p ds)
     listing-digits =
         (rising-map Earlier Before (digitsOf p) (admissibleListing p) (λ e f m n b. b) listing-rises, λ ds. ((λ m. there ds m), (λ a. back-to ds a)))
       where
@@ -147,7 +150,8 @@ module _ (p : Problem) where
         back-to ds a = rw (entry-digits p ds (a .0)) at (Memᴰ·map (digitsOf p) (in-listing ds a))
 
     -- each of them stands one time
-    pub listing-once : (xs : List (List ℕ)) (ds : List ℕ) (ys : List (List ℕ)) → map (digitsOf p) (admissibleListing p) ≡ xs ++ ds ∷ ys → (List·Memᴰ ds xs → ⊥) × (List·Memᴰ ds ys → ⊥)
+    pub listing-once : (xs : List (List ℕ)) (ds : List ℕ) (ys : List (List ℕ)) → map (digitsOf p) (admissibleListing p) ≡ xs ++ ds ∷ ys →
+        (List·Memᴰ ds xs → ⊥) × (List·Memᴰ ds ys → ⊥)
     listing-once xs ds ys e = rising-once Before before-one-way xs ds ys (rw e at (listing-digits .0))
 
     -- each entry is its digits and then the binding words of their pairs
@@ -192,7 +196,8 @@ module _ (p : Problem) (e : List ℕ) (g : Posed p) (m : List·Memᴰ e (admissi
   entry-readable = rw entry-words (words-readable (p .nodes) (g .well-formed) pairsIn (pairs-inside p g (digitsOf p e) choice) unified-pairs)
 
   -- in one way on the variables present
-  pub entry-one-reading : (σ τ : Substitution) → Reads (p .nodes) (bindingsOf p e) σ → Reads (p .nodes) (bindingsOf p e) τ → (x : ℕ) → Present (p .nodes) x → σ x ≡ τ x
+  pub entry-one-reading : (σ τ : Substitution) → Reads (p .nodes) (bindingsOf p e) σ → Reads (p .nodes) (bindingsOf p e) τ → (x : ℕ) →
+      Present (p .nodes) x → σ x ≡ τ x
   entry-one-reading = reads-one (p .nodes) (g .well-formed) (bindingsOf p e)
 
   -- as a most general unifier of its pairs

@@ -1,5 +1,6 @@
 -- All that is needed of one half: its choices and their pairs, what its labels hold, and its sides under an assignment.
--- What is said of lists of terms and labels (`ChoiceLaws`, `BalanceLaws`, `CoverLaws`, `FilledLaws`, `LabelLaws`), of the half's own. Assumes nothing.
+-- What is said of lists of terms and labels (`ChoiceLaws`, `BalanceLaws`, `CoverLaws`, `FilledLaws`, `LabelLaws`), of the half's own. Assumes
+-- nothing.
 use Prim.Native.Nat.{ℕ, suc, _+_, _<_}
 use mathlib.Core.List.{List, [], _++_, map, flatten, flatMap, append-nil, List·Memᴰ, Memᴰ·append-left, Memᴰ·append-right, Memᴰ·map}
 use mathlib.Core.Logic.{_↔_}
@@ -74,10 +75,13 @@ module _ (h : Half) (f g : ℕ → List Term) (s : SameLabels h f g) where
 
 -- Values of terms and the labels, put together, are equal on both sides: counted by their places.
 abbrev Counted : Half → (ℕ → Term) → (ℕ → List Term) → Type 0
-Counted h v labels = (u : Term) → occurrences u (map v (h .left)) + inLabels labels u (h .leftLabels) ≡ occurrences u (map v (h .right)) + inLabels labels u (h .rightLabels)
+Counted h v labels =
+    (u : Term) →
+    occurrences u (map v (h .left)) + inLabels labels u (h .leftLabels) ≡ occurrences u (map v (h .right)) + inLabels labels u (h .rightLabels)
 
 -- how often a term occurs in a side
-side-count : (ns : List Node) (A : Assignment) (u : Term) (terms labels : List ℕ) → occurrences u (side ns A terms labels) ≡ occurrences u (map (value ns (A .variables)) terms) + inLabels (A .labels) u labels
+side-count : (ns : List Node) (A : Assignment) (u : Term) (terms labels : List ℕ) →
+    occurrences u (side ns A terms labels) ≡ occurrences u (map (value ns (A .variables)) terms) + inLabels (A .labels) u labels
 unfolding side
 side-count ns A u terms labels =
     let a = occurrences-append u (map (value ns (A .variables)) terms) (flatMap (A .labels) labels) in
@@ -98,12 +102,14 @@ module _ {n : ℕ} (h : Half) (g : HalfPosed n h) where
       (rw (s .5) (g .left-node (s .0) (s .2)), rw (s .6) (g .right-node (s .1) (s .3)))
 
   -- labels that are filled under values are filled under others that agree on the nodes
-  pub filled-values : (v w : ℕ → Term) → SameBelow n v w → (ds : List ℕ) (labels : ℕ → List Term) → HalfFilled h ds v labels → HalfFilled h ds w labels
+  pub filled-values : (v w : ℕ → Term) → SameBelow n v w → (ds : List ℕ) (labels : ℕ → List Term) → HalfFilled h ds v labels →
+      HalfFilled h ds w labels
   filled-values v w e ds labels =
       filled-same (h .left) (h .leftLabels) (h .right) (h .rightLabels) ds v w labels
       (λ i b. e (word (h .left) i) (g .left-node i b)) (λ j b. e (word (h .right) j) (g .right-node j b))
 
-  terms-same : (v w : ℕ → Term) → SameBelow n v w → (u : Term) → (occurrences u (map v (h .left)) ≡ occurrences u (map w (h .left))) × (occurrences u (map v (h .right)) ≡ occurrences u (map w (h .right)))
+  terms-same : (v w : ℕ → Term) → SameBelow n v w → (u : Term) →
+      (occurrences u (map v (h .left)) ≡ occurrences u (map w (h .left))) × (occurrences u (map v (h .right)) ≡ occurrences u (map w (h .right)))
   terms-same v w e u = (
     ap (occurrences u) (map-same v w (h .left) (λ i b. e (word (h .left) i) (g .left-node i b))),
     ap (occurrences u) (map-same v w (h .right) (λ j b. e (word (h .right) j) (g .right-node j b))),
@@ -111,19 +117,23 @@ module _ {n : ℕ} (h : Half) (g : HalfPosed n h) where
 
   module _ (ns : List Node) where
     -- labels that are filled by a choice whose pairs are equal make the sides equal
-    pub filled-balanced : (A : Assignment) (v : ℕ → Term) → SameBelow n (value ns (A .variables)) v → (ds : List ℕ) → HalfChoice h ds → EqualPairs v (halfPairs h ds) → HalfFilled h ds v (A .labels) → Balanced ns h A
+    pub filled-balanced : (A : Assignment) (v : ℕ → Term) → SameBelow n (value ns (A .variables)) v → (ds : List ℕ) → HalfChoice h ds →
+        EqualPairs v (halfPairs h ds) → HalfFilled h ds v (A .labels) → Balanced ns h A
     filled-balanced A v e ds c p f =
         balanced-counted ns h A .1
         (λ u. (let s = terms-same (value ns (A .variables)) v e u in let b = filled-equal (h .left) (h .leftLabels) (h .right) (h .rightLabels) v (A .labels) ds c p f u in omega (arith, s .0, s .1, b)))
 
     -- equal sides are filled by a choice whose pairs are equal
-    pub balanced-filled : (A : Assignment) → Balanced ns h A → (ds : List ℕ) × HalfChoice h ds × EqualPairs (value ns (A .variables)) (halfPairs h ds) × HalfFilled h ds (value ns (A .variables)) (A .labels)
+    pub balanced-filled : (A : Assignment) → Balanced ns h A →
+        (ds : List ℕ) × HalfChoice h ds × EqualPairs (value ns (A .variables)) (halfPairs h ds) ×
+        HalfFilled h ds (value ns (A .variables)) (A .labels)
     balanced-filled A e =
         equal-filled (h .left) (h .leftLabels) (h .right) (h .rightLabels) (value ns (A .variables)) (A .labels)
         (balanced-counted ns h A .0 e)
 
     -- only the values of nodes and the labels of the half matter
-    pub balanced-agree : (A B : Assignment) → SameBelow n (value ns (A .variables)) (value ns (B .variables)) → SameLabels h (A .labels) (B .labels) → Balanced ns h A → Balanced ns h B
+    pub balanced-agree : (A B : Assignment) → SameBelow n (value ns (A .variables)) (value ns (B .variables)) →
+        SameLabels h (A .labels) (B .labels) → Balanced ns h A → Balanced ns h B
     balanced-agree A B e s b =
         balanced-counted ns h B .1
         (λ u. (
@@ -160,15 +170,19 @@ module _ (v : ℕ → Term) (h : Half) (ds : List ℕ) where
 
 module _ (h : Half) (ds : List ℕ) (v : ℕ → Term) (labels : ℕ → List Term) (f : HalfFilled h ds v labels) where
   -- "m + q puts it in right label q": a left term with this digit is in this label
-  pub in-its-right : (i q : ℕ) → i < length (h .left) → q < length (h .rightLabels) → word ds i ≡ length (h .right) + suc q → List·Memᴰ (v (word (h .left) i)) (labels (word (h .rightLabels) q))
+  pub in-its-right : (i q : ℕ) → i < length (h .left) → q < length (h .rightLabels) → word ds i ≡ length (h .right) + suc q →
+      List·Memᴰ (v (word (h .left) i)) (labels (word (h .rightLabels) q))
   unfolding inRight
   in-its-right i q b l e =
-      same-member (map v (inRight (h .left) (h .right) ds q) ++ f .rightRest q) (labels (word (h .rightLabels) q)) (same-sym _ _ (f .in-right q l)) (v (word (h .left) i))
+      same-member (map v (inRight (h .left) (h .right) ds q) ++ f .rightRest q) (labels (word (h .rightLabels) q))
+      (same-sym _ _ (f .in-right q l)) (v (word (h .left) i))
       (Memᴰ·append-left (f .rightRest q) (Memᴰ·map v (with-digit-means (length (h .right) + suc q) (omega arith) (h .left) ds (word (h .left) i) .1 (i, b, e, refl))))
 
   -- "p for left label p": so is a right term
-  pub in-its-left : (j p : ℕ) → j < length (h .right) → p < length (h .leftLabels) → word (drop (length (h .left)) ds) j ≡ suc p → List·Memᴰ (v (word (h .right) j)) (labels (word (h .leftLabels) p))
+  pub in-its-left : (j p : ℕ) → j < length (h .right) → p < length (h .leftLabels) → word (drop (length (h .left)) ds) j ≡ suc p →
+      List·Memᴰ (v (word (h .right) j)) (labels (word (h .leftLabels) p))
   unfolding inLeft
   in-its-left j p b l e =
-      same-member (map v (inLeft (h .left) (h .right) ds p) ++ f .leftRest p) (labels (word (h .leftLabels) p)) (same-sym _ _ (f .in-left p l)) (v (word (h .right) j))
+      same-member (map v (inLeft (h .left) (h .right) ds p) ++ f .leftRest p) (labels (word (h .leftLabels) p)) (same-sym _ _ (f .in-left p l))
+      (v (word (h .right) j))
       (Memᴰ·append-left (f .leftRest p) (Memᴰ·map v (with-digit-means (suc p) (omega arith) (h .right) (drop (length (h .left)) ds) (word (h .right) j) .1 (j, b, e, refl))))

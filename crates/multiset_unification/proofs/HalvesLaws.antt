@@ -55,7 +55,8 @@ module _ (P : Half → List ℕ → Type 0) where
   each-none h es m = absurd (List·Memᴰ·not-nil m)
 
   -- of the first and of the others
-  pub each-then : (h : Half) (hs : List Half) (ds es : List ℕ) → length ds ≡ halfDigits h → P h ds → EachShare P hs es → EachShare P (h ∷ hs) (ds ++ es)
+  pub each-then : (h : Half) (hs : List Half) (ds es : List ℕ) → length ds ≡ halfDigits h → P h ds → EachShare P hs es →
+      EachShare P (h ∷ hs) (ds ++ es)
   each-then h hs ds es e p r g fs m = go (List·Memᴰ·cases-cons (rw (shares-first h hs ds es e) at m))
     where
       go : (_≡_ {A = Half × List ℕ} (g, fs) (h, ds)) ⊎ List·Memᴰ (g, fs) (shares hs es) → P g fs
@@ -97,12 +98,14 @@ cross-rises dss ess r s =
     (λ ds m. rising-map Before Before (ds ++_) ess (λ x y k l b. before-front ds b) s)
     (λ x y k l b u v m n. further x y b u v (Memᴰ·of-map (x ++_) ess m) (Memᴰ·of-map (y ++_) ess n))
   where
-    further : (x y : List ℕ) → Before x y → (u v : List ℕ) → (xs : List ℕ) × List·Memᴰ xs ess × (x ++ xs ≡ u) → (ys : List ℕ) × List·Memᴰ ys ess × (y ++ ys ≡ v) → Before u v
+    further : (x y : List ℕ) → Before x y → (u v : List ℕ) → (xs : List ℕ) × List·Memᴰ xs ess × (x ++ xs ≡ u) →
+        (ys : List ℕ) × List·Memᴰ ys ess × (y ++ ys ≡ v) → Before u v
     further x y b u v (xs, m, p) (ys, n, q) = rw (← p, ← q) (before-behind xs ys b)
 
 module _ (p : Problem) where
   -- the pairs of a problem's choice are those of each half
-  pub pairs-each : (ds : List ℕ) (a b : ℕ) → List·Memᴰ (a, b) (pairsOf p ds) ↔ ((s : Half × List ℕ) × List·Memᴰ s (shares (p .halves) ds) × List·Memᴰ (a, b) (halfPairs (s .0) (s .1)))
+  pub pairs-each : (ds : List ℕ) (a b : ℕ) →
+      List·Memᴰ (a, b) (pairsOf p ds) ↔ ((s : Half × List ℕ) × List·Memᴰ s (shares (p .halves) ds) × List·Memᴰ (a, b) (halfPairs (s .0) (s .1)))
   unfolding pairsOf
   pairs-each ds a b = in-flat (λ s. halfPairs (s .0) (s .1)) (shares (p .halves) ds) (a, b)
 
@@ -122,16 +125,17 @@ pub record Fills (p : Problem) (v : ℕ → Term) (labels : ℕ → List Term) :
 
 -- Problems of the same nodes, by their halves.
 module _ (ns : List Node) where
-  abbrev over : List Half → Problem
-  over hs = record { nodes = ns; halves = hs }
+  abbrev withHalves : List Half → Problem
+  withHalves hs = record { nodes = ns; halves = hs }
 
   -- a choice of no half
-  pub choice-none : Choice (over []) []
+  pub choice-none : Choice (withHalves []) []
   unfolding digitCount
   choice-none = record { long = refl; each = each-none HalfChoice }
 
   -- one of the first half and one of the others
-  pub choice-then : (h : Half) (hs : List Half) (ds es : List ℕ) → HalfChoice h ds → Choice (over hs) es → Choice (over (h ∷ hs)) (ds ++ es)
+  pub choice-then : (h : Half) (hs : List Half) (ds es : List ℕ) → HalfChoice h ds → Choice (withHalves hs) es →
+      Choice (withHalves (h ∷ hs)) (ds ++ es)
   unfolding digitCount
   choice-then h hs ds es c d =
       record {
@@ -140,7 +144,8 @@ module _ (ns : List Node) where
       }
 
   -- and every choice is so made
-  pub choice-parts : (h : Half) (hs : List Half) (ds : List ℕ) → Choice (over (h ∷ hs)) ds → HalfChoice h (take (halfDigits h) ds) × Choice (over hs) (drop (halfDigits h) ds)
+  pub choice-parts : (h : Half) (hs : List Half) (ds : List ℕ) → Choice (withHalves (h ∷ hs)) ds →
+      HalfChoice h (take (halfDigits h) ds) × Choice (withHalves hs) (drop (halfDigits h) ds)
   unfolding shares digitCount
   choice-parts h hs ds c = (
     c .each h (take (halfDigits h) ds) (List·Memᴰ·head refl),
@@ -150,32 +155,37 @@ module _ (ns : List Node) where
     },
   )
 
-  choices-from : (hs : List Half) (ds : List ℕ) → List·Memᴰ ds (halvesChoices hs) → Choice (over hs) ds
+  choices-from : (hs : List Half) (ds : List ℕ) → List·Memᴰ ds (halvesChoices hs) → Choice (withHalves hs) ds
   unfolding halvesChoices
   choices-from [] ds m = rw (List·Memᴰ·eq-of-singleton m) choice-none
   choices-from (h ∷ hs) ds m = go (cross-from (halfChoices h) (halvesChoices hs) ds m) (choices-from hs)
     where
-      go : Crossed (halfChoices h) (halvesChoices hs) ds → ((es : List ℕ) → List·Memᴰ es (halvesChoices hs) → Choice (over hs) es) → Choice (over (h ∷ hs)) ds
+      go : Crossed (halfChoices h) (halvesChoices hs) ds → ((es : List ℕ) → List·Memᴰ es (halvesChoices hs) → Choice (withHalves hs) es) →
+          Choice (withHalves (h ∷ hs)) ds
       go (xs, ys, p, q, e) r = rw e (choice-then h hs xs ys (half-choices h xs .0 p) (r ys q))
 
-  in-choices : (hs : List Half) (ds : List ℕ) → Choice (over hs) ds → List·Memᴰ ds (halvesChoices hs)
+  in-choices : (hs : List Half) (ds : List ℕ) → Choice (withHalves hs) ds → List·Memᴰ ds (halvesChoices hs)
   unfolding halvesChoices digitCount
   in-choices [] ds c = List·Memᴰ·head (length-none ds (c .long))
   in-choices (h ∷ hs) ds c =
       let p = choice-parts h hs ds c in
-      rw (take-append-drop (halfDigits h) ds) at (in-cross (halfChoices h) (halvesChoices hs) (take (halfDigits h) ds) (drop (halfDigits h) ds) (half-choices h (take (halfDigits h) ds) .1 (p .0)) (in-choices hs (drop (halfDigits h) ds) (p .1)))
+      rw
+      (take-append-drop (halfDigits h) ds) at (in-cross (halfChoices h) (halvesChoices hs) (take (halfDigits h) ds) (drop (halfDigits h) ds) (half-choices h (take (halfDigits h) ds) .1 (p .0)) (in-choices hs (drop (halfDigits h) ds) (p .1)))
 
   -- the list of choices holds exactly the choices of all halves
-  pub halves-choices : (hs : List Half) (ds : List ℕ) → List·Memᴰ ds (halvesChoices hs) ↔ Choice (over hs) ds
+  pub halves-choices : (hs : List Half) (ds : List ℕ) → List·Memᴰ ds (halvesChoices hs) ↔ Choice (withHalves hs) ds
   halves-choices hs ds = (choices-from hs ds, in-choices hs ds)
 
   -- equal sides of all halves are filled by a choice whose pairs are equal
-  pub halves-filled : {n : ℕ} (hs : List Half) → ((h : Half) → List·Memᴰ h hs → HalfPosed n h) → (A : Assignment) → ((h : Half) → List·Memᴰ h hs → Balanced ns h A) → Fills (over hs) (value ns (A .variables)) (A .labels)
+  pub halves-filled : {n : ℕ} (hs : List Half) → ((h : Half) → List·Memᴰ h hs → HalfPosed n h) → (A : Assignment) →
+      ((h : Half) → List·Memᴰ h hs → Balanced ns h A) → Fills (withHalves hs) (value ns (A .variables)) (A .labels)
   halves-filled [] g A b =
       record {
         digits = [];
         choice = choice-none;
-        equal = equal-pairs (over []) (value ns (A .variables)) [] .1 (each-none (λ h es. EqualPairs (value ns (A .variables)) (halfPairs h es)));
+        equal =
+            equal-pairs (withHalves []) (value ns (A .variables)) [] .1
+            (each-none (λ h es. EqualPairs (value ns (A .variables)) (halfPairs h es)));
         filled = each-none (λ h es. HalfFilled h es (value ns (A .variables)) (A .labels));
       }
   halves-filled (h ∷ hs) g A b =
@@ -185,12 +195,15 @@ module _ (ns : List Node) where
       v : ℕ → Term
       v = value ns (A .variables)
 
-      go : (ds : List ℕ) × HalfChoice h ds × EqualPairs v (halfPairs h ds) × HalfFilled h ds v (A .labels) → Fills (over hs) v (A .labels) → Fills (over (h ∷ hs)) v (A .labels)
+      go : (ds : List ℕ) × HalfChoice h ds × EqualPairs v (halfPairs h ds) × HalfFilled h ds v (A .labels) → Fills (withHalves hs) v (A .labels) →
+          Fills (withHalves (h ∷ hs)) v (A .labels)
       go (ds, c, q, f) r =
           record {
             digits = ds ++ r .digits;
             choice = choice-then h hs ds (r .digits) c (r .choice);
-            equal = equal-pairs (over (h ∷ hs)) v (ds ++ r .digits) .1 (each-then (λ k es. EqualPairs v (halfPairs k es)) h hs ds (r .digits) (c .long) q (equal-pairs (over hs) v (r .digits) .0 (r .equal)));
+            equal =
+                equal-pairs (withHalves (h ∷ hs)) v (ds ++ r .digits) .1
+                (each-then (λ k es. EqualPairs v (halfPairs k es)) h hs ds (r .digits) (c .long) q (equal-pairs (withHalves hs) v (r .digits) .0 (r .equal)));
             filled = each-then (λ k es. HalfFilled k es v (A .labels)) h hs ds (r .digits) (c .long) f (r .filled);
           }
 

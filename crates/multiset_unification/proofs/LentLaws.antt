@@ -71,7 +71,8 @@ module _ (p : Problem) (g : Posed p) where
   pub one-at-most : entryWords p ≡ 0 → length (completeListing p) ≤ 1
   one-at-most z = go (completeListing p) (listing-complete p g .rising) (λ e m. complete-long e m ∙ z)
     where
-      go : (es : List (List ℕ)) → Rising (λ e f. Before (digitsOf p e) (digitsOf p f)) es → ((e : List ℕ) → List·Memᴰ e es → length e ≡ 0) → length es ≤ 1
+      go : (es : List (List ℕ)) → Rising (λ e f. Before (digitsOf p e) (digitsOf p f)) es → ((e : List ℕ) → List·Memᴰ e es → length e ≡ 0) →
+          length es ≤ 1
       go [] r h = omega arith
       go (e ∷ []) r h = omega arith
       go (e ∷ f ∷ es) (before b r) h =
@@ -83,16 +84,19 @@ module _ (p : Problem) (g : Posed p) where
   module _ (cs : List (ℕ × Bool)) where
     left-long : (lent : ℕ) (e : List ℕ) → List·Memᴰ e (entriesLeft cs (completeListing p) lent) → length e ≡ entryWords p
     left-long lent e m =
-        complete-long e (taken-in (listed cs (completeListing p) lent .entries) (completeListing p) e (rw (entries-left cs (completeListing p) lent) at m))
+        complete-long e
+        (taken-in (listed cs (completeListing p) lent .entries) (completeListing p) e (rw (entries-left cs (completeListing p) lent) at m))
 
     -- the entries that the answer counts lie in the lent words, one after the other from the first word on
-    pub entries-lie : (lent : List ℕ) → entriesIn p (listed cs (completeListing p) (length lent) .entries) (lentAfter cs (completeListing p) lent) ≡ entriesLeft cs (completeListing p) (length lent)
+    pub entries-lie : (lent : List ℕ) →
+        entriesIn p (listed cs (completeListing p) (length lent) .entries) (lentAfter cs (completeListing p) lent) ≡ entriesLeft cs (completeListing p) (length lent)
     unfolding entriesIn lentAfter listed
     entries-lie lent =
         cut-out (entryWords p) (entriesLeft cs (completeListing p) (length lent)) (left-long (length lent))
         (drop (length (flatten (entriesLeft cs (completeListing p) (length lent)))) lent)
 
     -- those that a call leaves take as many times the words of one
-    pub left-words : (lent : ℕ) → length (flatten (entriesLeft cs (completeListing p) lent)) ≡ listed cs (completeListing p) lent .entries * entryWords p
+    pub left-words : (lent : ℕ) →
+        length (flatten (entriesLeft cs (completeListing p) lent)) ≡ listed cs (completeListing p) lent .entries * entryWords p
     unfolding listed
     left-words lent = flatten-long (entryWords p) (entriesLeft cs (completeListing p) lent) (left-long lent)

@@ -65,7 +65,8 @@ module _ (h : Half) where
       same (ds ∷ dss) = rw (append-nil ds, same dss) refl
 
   -- document 01's listing is that of the half's choices and pairs
-  pub one-listing : (ns : List Node) → admissibleListing (oneHalf ns h) ≡ flatMap (λ ds. kept (outcome ns (halfPairs h ds)) (ds ++ wordsOf ns (halfPairs h ds))) (halfChoices h)
+  pub one-listing : (ns : List Node) →
+      admissibleListing (oneHalf ns h) ≡ flatMap (λ ds. kept (outcome ns (halfPairs h ds)) (ds ++ wordsOf ns (halfPairs h ds))) (halfChoices h)
   unfolding admissibleListing entryOf
   one-listing ns =
       rw one-choices

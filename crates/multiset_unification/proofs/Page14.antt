@@ -1,5 +1,6 @@
 -- Page 14: under an assignment the two sides are equal exactly if it is an instance of an entry of the complete listing.
--- An instance's pairs are equal, so its choice balances (`filled-sides`). Equal sides are accounted for by some choice (`sides-filled`), whose pairs the assignment unifies; so it is admissible, and the assignment comes after its unifier. Assumes nothing.
+-- An instance's pairs are equal, so its choice balances (`filled-sides`). Equal sides are accounted for by some choice (`sides-filled`), whose
+-- pairs the assignment unifies; so it is admissible, and the assignment comes after its unifier. Assumes nothing.
 use Prim.Native.Nat.{ℕ, _<_}
 use mathlib.Core.Bool.{Bool}
 use mathlib.Core.List.{List, [], List·Memᴰ, List·Memᴰ·not-nil}
@@ -33,7 +34,8 @@ use Rattle.multiset_unification.proofs.LentLaws.{entries-lie}
 
 module _ (p : Problem) (ok : Posed p) (A : Assignment) where
   -- what comes after a unifier gives nodes the values of the assignment
-  after-values : (σ ρ : Substitution) → ((x : ℕ) → Present (p .nodes) x → A .variables x ≡ sub ρ (σ x)) → (a : ℕ) → a < length (p .nodes) → value (p .nodes) (A .variables) a ≡ sub ρ (value (p .nodes) σ a)
+  after-values : (σ ρ : Substitution) → ((x : ℕ) → Present (p .nodes) x → A .variables x ≡ sub ρ (σ x)) → (a : ℕ) → a < length (p .nodes) →
+      value (p .nodes) (A .variables) a ≡ sub ρ (value (p .nodes) σ a)
   after-values σ ρ h = value-after (p .nodes) (ok .well-formed) σ (A .variables) ρ h
 
   -- an instance of an entry makes the sides equal
@@ -77,11 +79,14 @@ module _ (p : Problem) (ok : Posed p) (A : Assignment) where
                 read = rw (entry-bindings p ds c) (words-readable (p .nodes) (ok .well-formed) (pairsOf p ds) (pairs-inside p ok ds c) o);
                 after = ρ;
                 variables = h;
-                labels = rw (entry-digits p ds c) (λ k es m. filled-values k (share-posed p ok ds k es m) (value (p .nodes) (A .variables)) (λ b. sub ρ (value (p .nodes) σ b)) (after-values σ ρ h) es (A .labels) (f .filled k es m));
+                labels =
+                    rw (entry-digits p ds c)
+                    (λ k es m. filled-values k (share-posed p ok ds k es m) (value (p .nodes) (A .variables)) (λ b. sub ρ (value (p .nodes) σ b)) (after-values σ ρ h) es (A .labels) (f .filled k es m));
               }
 
 -- the same of document 01's listing of all admissible choices
-pub page14-admissible : (p : Problem) → Posed p → (A : Assignment) → EqualSides p A ↔ ((e : List ℕ) × List·Memᴰ e (admissibleListing p) × Instance p A e)
+pub page14-admissible : (p : Problem) → Posed p → (A : Assignment) →
+    EqualSides p A ↔ ((e : List ℕ) × List·Memᴰ e (admissibleListing p) × Instance p A e)
 page14-admissible p ok A =
     let c = admissible-listing p ok in (
       (λ s. let i = equal-instance p ok A s in (entryOf p (i .0), c .entries (entryOf p (i .0)) .1 (i .0, i .1, refl), i .2)),
@@ -101,7 +106,8 @@ page14-empty p ok e A s = List·Memᴰ·not-nil (rw e at (page14 p ok A .0 s .1)
 -- Any listing of a problem, by the conditions of its refusals: where none of them holds, the problem has what laws need.
 module _ (p : Problem) (cs : List (ℕ × Bool)) (g : Refusals cs) (ok : firstHeld cs ≡ 0 → Posed p) where
   -- demand 3: "if the listing is answered as finished, the entries that the call wrote are the complete listing, and any assignment [..]"
-  pub page14-finished : (lent : List ℕ) → listed cs (completeListing p) (length lent) .answer ≡ 0 → Page14 p (listed cs (completeListing p) (length lent) .entries) (lentAfter cs (completeListing p) lent)
+  pub page14-finished : (lent : List ℕ) → listed cs (completeListing p) (length lent) .answer ≡ 0 →
+      Page14 p (listed cs (completeListing p) (length lent) .entries) (lentAfter cs (completeListing p) lent)
   page14-finished lent e =
       let es = completeListing p in
       let q = ok (finished-exactly cs es (length lent) g .0 e .0) in
@@ -109,7 +115,8 @@ module _ (p : Problem) (cs : List (ℕ × Bool)) (g : Refusals cs) (ok : firstHe
       record { complete = rw l (listing-complete p q); exactly = λ A. rw l (page14 p q A) }
 
   -- "So a finished listing of 0 entries means that no assignment makes the sides equal."
-  pub finished-empty : (lent : ℕ) → listed cs (completeListing p) lent .answer ≡ 0 → listed cs (completeListing p) lent .entries ≡ 0 → (A : Assignment) → EqualSides p A → ⊥
+  pub finished-empty : (lent : ℕ) → listed cs (completeListing p) lent .answer ≡ 0 → listed cs (completeListing p) lent .entries ≡ 0 →
+      (A : Assignment) → EqualSides p A → ⊥
   finished-empty lent e z =
       page14-empty p (ok (finished-exactly cs (completeListing p) lent g .0 e .0))
       (length-none (completeListing p) (sym (finished-all cs (completeListing p) lent g e) ∙ z))

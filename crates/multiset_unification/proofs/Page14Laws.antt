@@ -28,7 +28,8 @@ unfolding entriesIn tabulate
 none-equal p words f A s = List·Memᴰ·not-nil (f .exactly A .0 s .1)
 
 -- entries that lie in words are of admissible choices
-lies-listed : (p : Problem) → Posed p → (k : ℕ) (words : List ℕ) → Page14 p k words → (e : List ℕ) → List·Memᴰ e (entriesIn p k words) → List·Memᴰ e (admissibleListing p)
+lies-listed : (p : Problem) → Posed p → (k : ℕ) (words : List ℕ) → Page14 p k words → (e : List ℕ) → List·Memᴰ e (entriesIn p k words) →
+    List·Memᴰ e (admissibleListing p)
 lies-listed p ok k words f e m = complete-entry p e (rw (page14-one p ok k words f) at m)
 
 -- where there are more than 0, there is one

@@ -1,4 +1,5 @@
--- A problem's choices, their pairs, and its sides under an assignment: what is said of all halves (`HalvesLaws`), of its own. Laws after these name no half's terms or labels. Assumes nothing.
+-- A problem's choices, their pairs, and its sides under an assignment: what is said of all halves (`HalvesLaws`), of its own. Laws after these
+-- name no half's terms or labels. Assumes nothing.
 use Prim.Native.Nat.{ℕ}
 use mathlib.Core.List.{List, List·Memᴰ}
 use mathlib.Core.Logic.{_↔_}
@@ -48,7 +49,8 @@ module _ (p : Problem) (g : Posed p) where
       half-inside h (share-posed ds h es (s .1)) es (c .each h es (s .1)) a b (s .2)
 
   -- labels that are filled in each half, by a choice whose pairs are equal, make the sides equal
-  pub filled-sides : (A : Assignment) (v : ℕ → Term) → SameBelow (length (p .nodes)) (value (p .nodes) (A .variables)) v → (ds : List ℕ) → Choice p ds → EqualPairs v (pairsOf p ds) → ((h : Half) (es : List ℕ) → Share p ds h es → HalfFilled h es v (A .labels)) → EqualSides p A
+  pub filled-sides : (A : Assignment) (v : ℕ → Term) → SameBelow (length (p .nodes)) (value (p .nodes) (A .variables)) v → (ds : List ℕ) →
+      Choice p ds → EqualPairs v (pairsOf p ds) → ((h : Half) (es : List ℕ) → Share p ds h es → HalfFilled h es v (A .labels)) → EqualSides p A
   filled-sides A v e ds c q f h m =
       let s = share-of (p .halves) ds h m in
       filled-balanced h (g .each h m) (p .nodes) A v e (s .0) (c .each h (s .0) (s .1)) (equal-pairs p v ds .0 q h (s .0) (s .1)) (f h (s .0) (s .1))

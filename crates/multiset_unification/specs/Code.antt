@@ -1,3 +1,3 @@
 -- What laws speak of, and functions by which lists are made.
 pub mod Posed
-pub mod Leaves
+pub mod LeavesEntries

@@ -246,7 +246,8 @@ module _ (n : ℕ) (heads next : List ℕ) (g h : ℕ) (t : TwoHeads n heads nex
   heads-one =
       map-at (renamed g h) heads g (rw (t .partition .size) (t .first))
       ∙ renamed-here g h (classOf heads g) (t .first-own)
-      ∙ sym (map-at (renamed g h) heads h (rw (t .partition .size) (t .second)) ∙ ap (renamed g h) (t .second-own) ∙ renamed-other g h h (λ z. t .apart (sym z)))
+      ∙ sym
+      (map-at (renamed g h) heads h (rw (t .partition .size) (t .second)) ∙ ap (renamed g h) (t .second-own) ∙ renamed-other g h h (λ z. t .apart (sym z)))
 
   -- there are as many nodes
   pub exchanged-long : length (exchanged next g h) ≡ length next
@@ -264,7 +265,8 @@ module _ (n : ℕ) (heads next : List ℕ) (g h : ℕ) (t : TwoHeads n heads nex
   next-stays i l = stay (word next i) i (t .circles .below i l) l (t .circles .same i l)
 
   -- so is the one that is now
-  one-class : (i : ℕ) → i < n → Dec (i ≡ g) → Dec (i ≡ h) → classOf (map (renamed g h) heads) (word (exchanged next g h) i) ≡ classOf (map (renamed g h) heads) i
+  one-class : (i : ℕ) → i < n → Dec (i ≡ g) → Dec (i ≡ h) →
+      classOf (map (renamed g h) heads) (word (exchanged next g h) i) ≡ classOf (map (renamed g h) heads) i
   one-class i l (yes z) d = rw (z, exchange .first) (next-stays h (t .second) ∙ sym heads-one)
   one-class i l (no z) (yes d) = rw (d, exchange .second) (next-stays g (t .first) ∙ heads-one)
   one-class i l (no z) (no d) = rw (exchange .other i z d) (next-stays i l)
@@ -278,15 +280,20 @@ module _ (n : ℕ) (heads next : List ℕ) (g h : ℕ) (t : TwoHeads n heads nex
   to-other = from-second n heads next g h (exchanged next g h) t exchange g (t .first) (t .first-own)
 
   -- every node of a class follows on every other
-  around-after : (i j : ℕ) → i < n → j < n → classOf (map (renamed g h) heads) i ≡ classOf (map (renamed g h) heads) j → Case i → Case j → Follows (exchanged next g h) i j
+  around-after : (i j : ℕ) → i < n → j < n → classOf (map (renamed g h) heads) i ≡ classOf (map (renamed g h) heads) j → Case i → Case j →
+      Follows (exchanged next g h) i j
   around-after i j l k e (of-first p u) (of-first q v) =
-      follows-on (to-first n heads next g h (exchanged next g h) t exchange i l p) (follows-on to-second (from-second n heads next g h (exchanged next g h) t exchange j k q))
+      follows-on (to-first n heads next g h (exchanged next g h) t exchange i l p)
+      (follows-on to-second (from-second n heads next g h (exchanged next g h) t exchange j k q))
   around-after i j l k e (of-first p u) (of-second q v) =
-      follows-on (to-first n heads next g h (exchanged next g h) t exchange i l p) (from-second n heads next h g (exchanged next g h) (turned t) (exchange-turned exchange) j k q)
+      follows-on (to-first n heads next g h (exchanged next g h) t exchange i l p)
+      (from-second n heads next h g (exchanged next g h) (turned t) (exchange-turned exchange) j k q)
   around-after i j l k e (of-second p u) (of-first q v) =
-      follows-on (to-first n heads next h g (exchanged next g h) (turned t) (exchange-turned exchange) i l p) (from-second n heads next g h (exchanged next g h) t exchange j k q)
+      follows-on (to-first n heads next h g (exchanged next g h) (turned t) (exchange-turned exchange) i l p)
+      (from-second n heads next g h (exchanged next g h) t exchange j k q)
   around-after i j l k e (of-second p u) (of-second q v) =
-      follows-on (to-first n heads next h g (exchanged next g h) (turned t) (exchange-turned exchange) i l p) (follows-on to-other (from-second n heads next h g (exchanged next g h) (turned t) (exchange-turned exchange) j k q))
+      follows-on (to-first n heads next h g (exchanged next g h) (turned t) (exchange-turned exchange) i l p)
+      (follows-on to-other (from-second n heads next h g (exchanged next g h) (turned t) (exchange-turned exchange) j k q))
   around-after i j l k e (of-first p u) (of-other a b v) = absurd (b (sym v ∙ sym e ∙ u))
   around-after i j l k e (of-second p u) (of-other a b v) = absurd (b (sym v ∙ sym e ∙ u))
   around-after i j l k e (of-other a b u) (of-first q v) = absurd (b (sym u ∙ e ∙ v))

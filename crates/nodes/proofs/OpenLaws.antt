@@ -57,7 +57,8 @@ module _ (nodes counts : List ℕ) (i : ℕ) where
       go (no d) = let r = strength-open k d in omega (arith, r)
 
 -- an argument that is looked at is one
-pub looked-at : {nodes arguments counts : List ℕ} → Counts nodes arguments counts (nodeCount nodes) → (i j : ℕ) → i < nodeCount nodes → j < word counts i → j < countOf nodes i
+pub looked-at : {nodes arguments counts : List ℕ} → Counts nodes arguments counts (nodeCount nodes) → (i j : ℕ) → i < nodeCount nodes →
+    j < word counts i → j < countOf nodes i
 looked-at {nodes} {arguments} {counts} k i j b l = go (k .some i b)
   where
     go : (word counts i ≡ 0) ⊎ (word counts i ≡ countOf nodes i) → j < countOf nodes i
@@ -65,7 +66,8 @@ looked-at {nodes} {arguments} {counts} k i j b l = go (k .some i b)
     go (inr e) = omega (arith, e, l)
 
 -- where a variable stays, a variable goes
-pub weaker-variable : (nodes counts : List ℕ) (g h : ℕ) → strengthOf nodes counts g ≤ strengthOf nodes counts h → kindOf nodes h ≡ 0 → kindOf nodes g ≡ 0
+pub weaker-variable : (nodes counts : List ℕ) (g h : ℕ) → strengthOf nodes counts g ≤ strengthOf nodes counts h → kindOf nodes h ≡ 0 →
+    kindOf nodes g ≡ 0
 weaker-variable nodes counts g h l e = go (ℕ-discrete (kindOf nodes g) 0)
   where
     go : Dec (kindOf nodes g ≡ 0) → kindOf nodes g ≡ 0
@@ -76,7 +78,8 @@ weaker-variable nodes counts g h l e = go (ℕ-discrete (kindOf nodes g) 0)
         absurd (omega (arith, l, x, y))
 
 -- where a closed application goes, another stays
-pub weaker-closed : (nodes counts : List ℕ) (g h : ℕ) → h < nodeCount nodes → strengthOf nodes counts g ≤ strengthOf nodes counts h → IsClosed nodes counts g → IsClosed nodes counts h
+pub weaker-closed : (nodes counts : List ℕ) (g h : ℕ) → h < nodeCount nodes → strengthOf nodes counts g ≤ strengthOf nodes counts h →
+    IsClosed nodes counts g → IsClosed nodes counts h
 weaker-closed nodes counts g h p l m =
     let x = strength-closed nodes counts g (m .applied) (m .none) in
     go x (ℕ-discrete (kindOf nodes h) 0) (ℕ-discrete (word counts h) 0)
@@ -87,7 +90,8 @@ weaker-closed nodes counts g h p l m =
     go x (no k) (no d) = let y = strength-open nodes counts h k d in absurd (omega (arith, l, x, y))
 
 -- closed applications that keep their heads have closed heads
-pub closed-kept : (nodes arguments counts heads heads′ : List ℕ) → ClosedHeads nodes arguments counts heads → KeepsClosed nodes counts heads heads′ → ClosedHeads nodes arguments counts heads′
+pub closed-kept : (nodes arguments counts heads heads′ : List ℕ) → ClosedHeads nodes arguments counts heads →
+    KeepsClosed nodes counts heads heads′ → ClosedHeads nodes arguments counts heads′
 closed-kept nodes arguments counts heads heads′ c k =
     record {
       closed = λ i m. rw (k i m) (c .closed i m);

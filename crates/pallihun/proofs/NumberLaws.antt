@@ -34,7 +34,8 @@ number-of-one (Refused r) Occurs e = absurd (number-not 1001 refl r e)
 number-of-one (Refused r) (Refused s) e = ap Refused (number-apart r s e)
 
 -- so what an answer decides is decided by its number: a refusal decides nothing
-pub decided-number : {t words : List ℕ} {a b : ℕ} (u : Unification) (n : ℕ) → n ≡ numberOf (told u) → Decided t a b (told u) words → (o : Answer) → n ≡ numberOf o → Decided t a b o words
+pub decided-number : {t words : List ℕ} {a b : ℕ} (u : Unification) (n : ℕ) → n ≡ numberOf (told u) → Decided t a b (told u) words →
+    (o : Answer) → n ≡ numberOf o → Decided t a b o words
 decided-number u n e d (ended unified) z = rw (ap told (number-of-one u Unified (sym e ∙ z))) at d
 decided-number u n e d (ended clash) z = rw (ap told (number-of-one u Clash (sym e ∙ z))) at d
 decided-number u n e d (ended occurs) z = rw (ap told (number-of-one u Occurs (sym e ∙ z))) at d

@@ -16,7 +16,7 @@ use Rattle.table.specs.declared.Checked.the-variants.{Accepted, Refused}
 use Rattle.table.specs.Answer.{told, numberOf}
 use Rattle.table.specs.Refusal.{conditions, refusal}
 use Rattle.table.proofs.SomeLaws.{every, every-has}
-use Rattle.table.proofs.RefusalLaws.{numbersOf, held-number}
+use Rattle.table.proofs.RefusalLaws.{conditionNumbers, held-number}
 
 -- All refusals.
 abbrev pub refusals : List Refusal
@@ -89,6 +89,6 @@ pub refusal-numbered : (t : List ℕ) → 0 < refusal t → (r : Refusal) × (nu
 unfolding refusal conditions
 refusal-numbered t h = go (refusal t) h (held-number (conditions t))
   where
-    go : (n : ℕ) → 0 < n → List·Memᴰ n (0 ∷ numbersOf (conditions t)) → (r : Refusal) × (numberOf r ≡ n)
+    go : (n : ℕ) → 0 < n → List·Memᴰ n (0 ∷ conditionNumbers (conditions t)) → (r : Refusal) × (numberOf r ≡ n)
     go n h (List·Memᴰ·head e) = absurd (omega arith)
     go n h (List·Memᴰ·tail m) = numbered n .0 (Memᴰ·append-left (map numberOf (drop 7 refusals)) m)

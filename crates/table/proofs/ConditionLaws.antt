@@ -23,7 +23,8 @@ module _ (ss : List Section) (t : List ℕ) where
   pub offsets-kept : brokenPair ss t ≡ false → (k : ℕ) → k < length ss → offset t k ≡ endBefore ss t k
   unfolding brokenPair offsetIsWrong
   offsets-kept e k h =
-      eqb-true _ _ (not-false _ (none-some (offsetIsWrong ss t) (length ss) (or-false-left _ (not (eqb (endBefore ss t (length ss)) (length t))) e) k h))
+      eqb-true _ _
+      (not-false _ (none-some (offsetIsWrong ss t) (length ss) (or-false-left _ (not (eqb (endBefore ss t (length ss)) (length t))) e) k h))
 
   pub end-kept : brokenPair ss t ≡ false → endBefore ss t (length ss) ≡ length t
   unfolding brokenPair
@@ -50,11 +51,14 @@ single-words most n =
     let o : 1 * most ≡ most = omega arith in
     rw (z, o)
 
-pub sizes-kept : (ss : List Section) (t : List ℕ) → overLimit ss t ≡ false → (k : ℕ) → k < length ss → (size t k % sectionAt ss k .item ≡ 0) × (size t k ≤ sectionAt ss k .item * sectionAt ss k .most)
+pub sizes-kept : (ss : List Section) (t : List ℕ) → overLimit ss t ≡ false → (k : ℕ) → k < length ss →
+    (size t k % sectionAt ss k .item ≡ 0) × (size t k ≤ sectionAt ss k .item * sectionAt ss k .most)
 unfolding overLimit sizeIsWrong
 sizes-kept ss t e k h = words-mean (sectionAt ss k) (size t k) .0 (none-some (sizeIsWrong ss t) (length ss) e k h)
 
-pub sizes-right : (ss : List Section) (t : List ℕ) → ((k : ℕ) → k < length ss → (size t k % sectionAt ss k .item ≡ 0) × (size t k ≤ sectionAt ss k .item * sectionAt ss k .most)) → overLimit ss t ≡ false
+pub sizes-right : (ss : List Section) (t : List ℕ) →
+    ((k : ℕ) → k < length ss → (size t k % sectionAt ss k .item ≡ 0) × (size t k ≤ sectionAt ss k .item * sectionAt ss k .most)) →
+    overLimit ss t ≡ false
 unfolding overLimit sizeIsWrong
 sizes-right ss t f = some-none (sizeIsWrong ss t) (length ss) (λ k h. words-mean (sectionAt ss k) (size t k) .1 (f k h))
 
@@ -167,7 +171,8 @@ module _ (ls : List ℕ) where
   labels-right f = some-none (labelIsWrong ls) (length ls) (λ i h. label-right ls i (f i h))
 
 -- neither refusal 6 nor 7 is given exactly if the terms of both sides and the labels are right
-pub right-sides-mean : (n : ℕ) (left right labels : List ℕ) → (((wrongTerm n left || wrongTerm n right) ≡ false) × (wrongLabel labels ≡ false)) ↔ SidesRight n left right labels
+pub right-sides-mean : (n : ℕ) (left right labels : List ℕ) →
+    (((wrongTerm n left || wrongTerm n right) ≡ false) × (wrongLabel labels ≡ false)) ↔ SidesRight n left right labels
 right-sides-mean n left right labels = (
   (λ r.
       record {

@@ -39,10 +39,10 @@ pub first-means : (n : ℕ) (cs : List (ℕ × Bool)) → firstHeld cs ≡ n ↔
 first-means n cs = (held-first n cs, first-held n)
 
 -- The numbers of conditions.
-abbrev pub numbersOf : List (ℕ × Bool) → List ℕ
-numbersOf cs = map (λ (c : ℕ × Bool). c .0) cs
+abbrev pub conditionNumbers : List (ℕ × Bool) → List ℕ
+conditionNumbers cs = map (λ (c : ℕ × Bool). c .0) cs
 
-number-first : {n : ℕ} {cs : List (ℕ × Bool)} → First n cs → List·Memᴰ n (0 ∷ numbersOf cs)
+number-first : {n : ℕ} {cs : List (ℕ × Bool)} → First n cs → List·Memᴰ n (0 ∷ conditionNumbers cs)
 number-first (here e h) = List·Memᴰ·tail (List·Memᴰ·head (sym e))
 number-first (later h f) = one-more (number-first f)
   where
@@ -52,11 +52,11 @@ number-first (later h f) = one-more (number-first f)
 number-first (none e) = List·Memᴰ·head e
 
 -- the number of the first that holds is 0 or one of theirs
-pub held-number : (cs : List (ℕ × Bool)) → List·Memᴰ (firstHeld cs) (0 ∷ numbersOf cs)
+pub held-number : (cs : List (ℕ × Bool)) → List·Memᴰ (firstHeld cs) (0 ∷ conditionNumbers cs)
 held-number cs = number-first (held-first (firstHeld cs) cs refl)
 
 -- and so it has what 0 and all of theirs have
-pub held-has : (p : ℕ → Bool) (cs : List (ℕ × Bool)) → every p (0 ∷ numbersOf cs) ≡ true → p (firstHeld cs) ≡ true
+pub held-has : (p : ℕ → Bool) (cs : List (ℕ × Bool)) → every p (0 ∷ conditionNumbers cs) ≡ true → p (firstHeld cs) ≡ true
 held-has p cs e = every-has p e (held-number cs)
 
 -- a condition that holds comes before all that are added
@@ -67,13 +67,13 @@ first-before ds h (none e) = absurd (omega arith)
 
 -- Conditions with numbers above 0.
 abbrev pub Numbered : List (ℕ × Bool) → Type 0
-Numbered cs = every (ltb 0) (numbersOf cs) ≡ true
+Numbered cs = every (ltb 0) (conditionNumbers cs) ≡ true
 
 above : (c : ℕ × Bool) (cs : List (ℕ × Bool)) → Numbered (c ∷ cs) → 0 < c .0
-above c cs a = ltb-true 0 (c .0) (and-true-left (ltb 0 (c .0)) (every (ltb 0) (numbersOf cs)) a)
+above c cs a = ltb-true 0 (c .0) (and-true-left (ltb 0 (c .0)) (every (ltb 0) (conditionNumbers cs)) a)
 
 others : (c : ℕ × Bool) (cs : List (ℕ × Bool)) → Numbered (c ∷ cs) → Numbered cs
-others c cs a = and-true-right (ltb 0 (c .0)) (every (ltb 0) (numbersOf cs)) a
+others c cs a = and-true-right (ltb 0 (c .0)) (every (ltb 0) (conditionNumbers cs)) a
 
 -- where none of them holds, the first that holds is among those that are added
 pub first-after : {n : ℕ} (cs ds : List (ℕ × Bool)) → Numbered cs → First 0 cs → First n ds → First n (cs ++ ds)
@@ -101,7 +101,7 @@ unfolding refusal
 refused t n = first-means n (conditions t)
 
 -- "Each number is tried over the whole table before the next.": from 1 to 7
-pub conditions-rise : (t : List ℕ) → numbersOf (conditions t) ≡ 1 ∷ 2 ∷ 3 ∷ 4 ∷ 5 ∷ 6 ∷ 7 ∷ []
+pub conditions-rise : (t : List ℕ) → conditionNumbers (conditions t) ≡ 1 ∷ 2 ∷ 3 ∷ 4 ∷ 5 ∷ 6 ∷ 7 ∷ []
 unfolding conditions
 conditions-rise t = refl
 
@@ -110,7 +110,7 @@ unfolding conditions
 conditions-numbered t = refl
 
 -- checking a table gives no number but 0 and those of its conditions, so none of the refusals that other operations add
-pub refusal-not : (t : List ℕ) (n : ℕ) → every (λ (m : ℕ). not (eqb m n)) (0 ∷ numbersOf (conditions t)) ≡ true → refusal t ≡ n → ⊥
+pub refusal-not : (t : List ℕ) (n : ℕ) → every (λ (m : ℕ). not (eqb m n)) (0 ∷ conditionNumbers (conditions t)) ≡ true → refusal t ≡ n → ⊥
 unfolding refusal
 refusal-not t n e = eqb-false (refusal t) n (not-true _ (held-has (λ (m : ℕ). not (eqb m n)) (conditions t) e))
 

@@ -18,7 +18,8 @@ use Rattle.table.specs.Code.Accepted.{LaidOut}
 use Rattle.table.proofs.ConditionLaws.{offsets-kept, end-kept, pairs-right, sizes-kept, sizes-right}
 
 -- A section ends where the next one starts, and the last at the table's end, so each lies inside.
-module _ (ss : List Section) (t : List ℕ) (starts : (k : ℕ) → k < length ss → offset t k ≡ endBefore ss t k) (ends : endBefore ss t (length ss) ≡ length t) where
+module _ (ss : List Section) (t : List ℕ) (starts : (k : ℕ) → k < length ss → offset t k ≡ endBefore ss t k)
+    (ends : endBefore ss t (length ss) ≡ length t) where
   end-inside : (d k : ℕ) → k + d ≡ length ss → endBefore ss t k ≤ length t
   unfolding endBefore
   end-inside zero k e =
@@ -50,7 +51,8 @@ module _ (ss : List Section) (t : List ℕ) (l : LaidOut ss t) where
   unfolding sectionsTo endBefore
   upTo zero h = refl
   upTo (suc k) h =
-      ap (λ (x : List ℕ). x ++ section t k) (upTo k (omega arith) ∙ ap (λ (n : ℕ). take n t) (sym (l .starts k (omega arith)))) ∙ sym (take-add (offset t k) (size t k) t)
+      ap (λ (x : List ℕ). x ++ section t k) (upTo k (omega arith) ∙ ap (λ (n : ℕ). take n t) (sym (l .starts k (omega arith))))
+      ∙ sym (take-add (offset t k) (size t k) t)
 
   pub sections-whole : sectionsTo ss t (length ss) ≡ t
   sections-whole = upTo (length ss) (omega arith) ∙ take-all (endBefore ss t (length ss)) t (omega (arith, l .ends))
@@ -69,7 +71,8 @@ module _ (ss : List Section) (t : List ℕ) (l : LaidOut ss t) where
   words-most = let n = upTo-most (length ss) (omega arith) in omega (arith, n, l .ends)
 
 -- refusals 1 to 3 are not given exactly if the table is laid out
-pub laid-out-means : (ss : List Section) (t : List ℕ) → ((tooFewWords ss t ≡ false) × (brokenPair ss t ≡ false) × (overLimit ss t ≡ false)) ↔ LaidOut ss t
+pub laid-out-means : (ss : List Section) (t : List ℕ) →
+    ((tooFewWords ss t ≡ false) × (brokenPair ss t ≡ false) × (overLimit ss t ≡ false)) ↔ LaidOut ss t
 unfolding tooFewWords
 laid-out-means ss t = (there, back)
   where

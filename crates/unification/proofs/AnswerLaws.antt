@@ -224,7 +224,8 @@ module _ (t : List ℕ) (a b : ℕ) (lent : List ℕ) where
         rw (unified-words t a b lent e) (words-least (nodesIn t) (well-formed t (r .0 .table)) ((a, b) ∷ []) (one-pair (r .0)) σ g)
 
   -- an answer and words that are a call's decide of the two terms
-  pub decided : (answer : Answer) (words : List ℕ) → answer ≡ unification t a b (length lent) → words ≡ lentAfter t a b lent → Decided t a b answer words
+  pub decided : (answer : Answer) (words : List ℕ) → answer ≡ unification t a b (length lent) → words ≡ lentAfter t a b lent →
+      Decided t a b answer words
   decided answer words e d =
       record {
         readable = λ z. (unifier (nodesIn t) ((a, b) ∷ []), rw d (unified-readable (sym e ∙ z)));

@@ -14,7 +14,8 @@ use Rattle.unification.specs.Decided.{Decided}
 
 module _ (t : List ℕ) (a b : ℕ) (words : List ℕ) where
   -- "Two single terms get their most general unifier": it is read from the words
-  pub unified-unifier : Decided t a b (ended unified) words → (σ : Substitution) × Reads (nodesIn t) (take (variableCount t) words) σ × MostGeneral (nodesIn t) ((a, b) ∷ []) σ
+  pub unified-unifier : Decided t a b (ended unified) words →
+      (σ : Substitution) × Reads (nodesIn t) (take (variableCount t) words) σ × MostGeneral (nodesIn t) ((a, b) ∷ []) σ
   unified-unifier d = let r = d .readable refl in (r .0, r .1, d .most-general refl (r .0) (r .1))
 
   -- "one of the two failures stands only where no unifier exists"

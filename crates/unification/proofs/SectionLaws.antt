@@ -66,7 +66,8 @@ module _ (nodes arguments : List ℕ) (i : ℕ) (h : i < nodeCount nodes) where
           absurd (omega arith)
 
   -- so it is of an application
-  pub from-application : (f : ℕ) (us : List ℕ) → nodeAt (nodesFrom nodes arguments) i ≡ application f us → (kindOf nodes i ≡ 0 → ⊥) × (f ≡ nameOf nodes i) × (us ≡ run nodes arguments i)
+  pub from-application : (f : ℕ) (us : List ℕ) → nodeAt (nodesFrom nodes arguments) i ≡ application f us →
+      (kindOf nodes i ≡ 0 → ⊥) × (f ≡ nameOf nodes i) × (us ≡ run nodes arguments i)
   from-application f us e = go (ℕ-discrete (kindOf nodes i) 0)
     where
       go : Dec (kindOf nodes i ≡ 0) → (kindOf nodes i ≡ 0 → ⊥) × (f ≡ nameOf nodes i) × (us ≡ run nodes arguments i)
@@ -91,12 +92,14 @@ module _ (nodes arguments : List ℕ) (s : Sections nodes arguments) where
   run-at i j q = getD-take (countOf nodes i) (drop (firstOf nodes i) arguments) j 0 q ∙ getD-drop (firstOf nodes i) arguments j 0
 
   -- applications for which the test fails have different symbols
-  pub symbols-differ : (g h : ℕ) → g < nodeCount nodes → h < nodeCount nodes → symbolTest nodes g h ≡ false → OneSymbol (nameOf nodes g) (run nodes arguments g) (nameOf nodes h) (run nodes arguments h) → ⊥
+  pub symbols-differ : (g h : ℕ) → g < nodeCount nodes → h < nodeCount nodes → symbolTest nodes g h ≡ false →
+      OneSymbol (nameOf nodes g) (run nodes arguments g) (nameOf nodes h) (run nodes arguments h) → ⊥
   symbols-differ g h p q e (n, m) =
       false≢true (sym e ∙ symbol-test nodes g h .1 (n, sym (run-long g p) ∙ m ∙ run-long h q))
 
   -- an argument of node i stands at some place
-  pub argument-place : (i : ℕ) → i < nodeCount nodes → (f : ℕ) (us : List ℕ) → nodeAt (nodesFrom nodes arguments) i ≡ application f us → (a : ℕ) → List·Memᴰ a us → (j : ℕ) × (j < countOf nodes i) × (a ≡ argumentOf nodes arguments i j)
+  pub argument-place : (i : ℕ) → i < nodeCount nodes → (f : ℕ) (us : List ℕ) → nodeAt (nodesFrom nodes arguments) i ≡ application f us →
+      (a : ℕ) → List·Memᴰ a us → (j : ℕ) × (j < countOf nodes i) × (a ≡ argumentOf nodes arguments i j)
   argument-place i h f us e a m =
       let r = taken (countOf nodes i) (drop (firstOf nodes i) arguments) a (rw (from-application nodes arguments i h f us e .2) at m) in
       (r .0, r .1, r .2 ∙ getD-drop (firstOf nodes i) arguments (r .0) 0)
@@ -110,7 +113,9 @@ module _ (nodes arguments : List ℕ) (s : Sections nodes arguments) where
   counted-application i j h q k = let e = s .variable-count i h k in omega (arith, q, e)
 
   -- the pairs of arguments at one place are the pairs of the two lists
-  pub pair-place : (i k : ℕ) → i < nodeCount nodes → k < nodeCount nodes → (a b : ℕ) → List·Memᴰ (a, b) (zip (run nodes arguments i) (run nodes arguments k)) ↔ ((j : ℕ) × (j < countOf nodes i) × (j < countOf nodes k) × (a ≡ argumentOf nodes arguments i j) × (b ≡ argumentOf nodes arguments k j))
+  pub pair-place : (i k : ℕ) → i < nodeCount nodes → k < nodeCount nodes → (a b : ℕ) →
+      List·Memᴰ (a, b) (zip (run nodes arguments i) (run nodes arguments k)) ↔
+      ((j : ℕ) × (j < countOf nodes i) × (j < countOf nodes k) × (a ≡ argumentOf nodes arguments i j) × (b ≡ argumentOf nodes arguments k j))
   pair-place i k h l a b =
       let z = zip-at (run nodes arguments i) (run nodes arguments k) a b in
       let x = run-long i h in
@@ -124,25 +129,35 @@ module _ (nodes arguments : List ℕ) (s : Sections nodes arguments) where
       )
 
   -- a node is a variable exactly if its kind is 0, and by its name
-  pub section-variable : (i : ℕ) → i < nodeCount nodes → (x : ℕ) → nodeAt (nodesFrom nodes arguments) i ≡ variable x ↔ ((kindOf nodes i ≡ 0) × (x ≡ nameOf nodes i))
+  pub section-variable : (i : ℕ) → i < nodeCount nodes → (x : ℕ) →
+      nodeAt (nodesFrom nodes arguments) i ≡ variable x ↔ ((kindOf nodes i ≡ 0) × (x ≡ nameOf nodes i))
   section-variable i h x =
       (from-variable nodes arguments i h x, λ r. variable-from nodes arguments i h (r .0) ∙ ap variable (sym (r .1)))
 
   -- and otherwise an application of its name, to as many arguments as its count, which are the node's
-  pub section-application : (i : ℕ) → i < nodeCount nodes → (f : ℕ) (us : List ℕ) → nodeAt (nodesFrom nodes arguments) i ≡ application f us ↔ ((kindOf nodes i ≡ 1) × (f ≡ nameOf nodes i) × (length us ≡ countOf nodes i) × ((j : ℕ) → j < countOf nodes i → getD us j 0 ≡ argumentOf nodes arguments i j))
+  pub section-application : (i : ℕ) → i < nodeCount nodes → (f : ℕ) (us : List ℕ) →
+      nodeAt (nodesFrom nodes arguments) i ≡ application f us ↔
+      ((kindOf nodes i ≡ 1) × (f ≡ nameOf nodes i) × (length us ≡ countOf nodes i) × ((j : ℕ) → j < countOf nodes i → getD us j 0 ≡ argumentOf nodes arguments i j))
   section-application i h f us = (there, back-to)
     where
-      there : nodeAt (nodesFrom nodes arguments) i ≡ application f us → (kindOf nodes i ≡ 1) × (f ≡ nameOf nodes i) × (length us ≡ countOf nodes i) × ((j : ℕ) → j < countOf nodes i → getD us j 0 ≡ argumentOf nodes arguments i j)
+      there : nodeAt (nodesFrom nodes arguments) i ≡ application f us →
+          (kindOf nodes i ≡ 1) × (f ≡ nameOf nodes i) × (length us ≡ countOf nodes i) ×
+          ((j : ℕ) → j < countOf nodes i → getD us j 0 ≡ argumentOf nodes arguments i j)
       there e =
           let r = from-application nodes arguments i h f us e in
           let k = s .kind i h in
           let n : kindOf nodes i ≡ 0 → ⊥ = r .0 in
           (omega (arith, k, n), r .1, ap length (r .2) ∙ run-long i h, λ j q. ap (λ (l : List ℕ). getD l j 0) (r .2) ∙ run-at i j q)
 
-      back-to : (kindOf nodes i ≡ 1) × (f ≡ nameOf nodes i) × (length us ≡ countOf nodes i) × ((j : ℕ) → j < countOf nodes i → getD us j 0 ≡ argumentOf nodes arguments i j) → nodeAt (nodesFrom nodes arguments) i ≡ application f us
+      back-to :
+          (kindOf nodes i ≡ 1) × (f ≡ nameOf nodes i) × (length us ≡ countOf nodes i) ×
+          ((j : ℕ) → j < countOf nodes i → getD us j 0 ≡ argumentOf nodes arguments i j) →
+          nodeAt (nodesFrom nodes arguments) i ≡ application f us
       back-to (k, n, l, q) =
           let d : us ≡ run nodes arguments i = ext-getD 0 us (run nodes arguments i) (l ∙ sym (run-long i h)) (λ j b. q j (rw l at b) ∙ sym (run-at i j (rw l at b))) in
-          application-from nodes arguments i h (λ z. omega (arith, k, z)) ∙ ap (λ (x : ℕ). application x (run nodes arguments i)) (sym n) ∙ ap (application f) (sym d)
+          application-from nodes arguments i h (λ z. omega (arith, k, z))
+          ∙ ap (λ (x : ℕ). application x (run nodes arguments i)) (sym n)
+          ∙ ap (application f) (sym d)
 
   -- each argument is smaller than its node
   pub sections-well-formed : WellFormed (nodesFrom nodes arguments)

@@ -144,6 +144,9 @@ module _ (ns : List Node) (w : WellFormed ns) (ps : List (ℕ × ℕ)) (h : Insi
     pub solution-most-general : MostGeneral ns ps (solution k ns head)
     solution-most-general =
         record {
-          unifies = λ a b m. value-resolved a (h a b m .0) ∙ resolved-head k ns head a b (s .closure .given a b m) ∙ sym (value-resolved b (h a b m .1));
+          unifies =
+              λ a b m. value-resolved a (h a b m .0)
+              ∙ resolved-head k ns head a b (s .closure .given a b m)
+              ∙ sym (value-resolved b (h a b m .1));
           factors = λ τ u. (τ, solution-first τ u);
         }

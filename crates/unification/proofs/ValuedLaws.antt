@@ -42,7 +42,8 @@ module _ (ns : List Node) (w : WellFormed ns) (ps : List (ℕ × ℕ)) (h : Insi
   Said i j = resolved k ns head i ≡ resolved k ns head j ↔ (name i ≡ name j)
 
   -- applications, where it is said of their arguments
-  composed-same : (i j f g : ℕ) (us vs : List ℕ) → i < length ns → j < length ns → nodeAt ns (head i) ≡ application f us → nodeAt ns (head j) ≡ application g vs → ((a b : ℕ) → List·Memᴰ (a, b) (zip us vs) → Said a b) → Said i j
+  composed-same : (i j f g : ℕ) (us vs : List ℕ) → i < length ns → j < length ns → nodeAt ns (head i) ≡ application f us →
+      nodeAt ns (head j) ≡ application g vs → ((a b : ℕ) → List·Memᴰ (a, b) (zip us vs) → Said a b) → Said i j
   unfolding spell
   composed-same i j f g us vs p q d e ih = (there, back-to)
     where
@@ -64,7 +65,8 @@ module _ (ns : List Node) (w : WellFormed ns) (ps : List (ℕ × ℕ)) (h : Insi
   same zero i j p q b = absurd (omega arith)
   same (suc n) i j p q b = go (λ a c x y z. same n a c x y z) (nodeAt ns (head i)) refl (nodeAt ns (head j)) refl
     where
-      go : ((a c : ℕ) → a < length ns → c < length ns → order (head a) < n → Said a c) → (m : Node) → nodeAt ns (head i) ≡ m → (o : Node) → nodeAt ns (head j) ≡ o → Said i j
+      go : ((a c : ℕ) → a < length ns → c < length ns → order (head a) < n → Said a c) → (m : Node) → nodeAt ns (head i) ≡ m → (o : Node) →
+          nodeAt ns (head j) ≡ o → Said i j
       go ih (variable x) d (variable y) e = (
         (λ c.
             let t : var x ≡ var y = sym (spelt i p (variable x) d) ∙ c ∙ spelt j q (variable y) e in

@@ -178,7 +178,8 @@ module _ (ns : List Node) (w : WellFormed ns) (ps : List (ℕ × ℕ)) (h : Insi
   head-value : (x : ℕ) → Present ns x → value ns (solution k ns head) (head (nodeOf ns x)) ≡ solution k ns head x
   unfolding solution
   head-value x q =
-      value-resolved ns w ps h head order s k enough (head (nodeOf ns x)) (closure-inside ns w ps h head (s .closure) (nodeOf ns x) (at x q)) ∙ sym (resolved-head k ns head _ _ (joined-head ns w ps h head (s .closure) (s .closure .joined (nodeOf ns x) (at x q))))
+      value-resolved ns w ps h head order s k enough (head (nodeOf ns x)) (closure-inside ns w ps h head (s .closure) (nodeOf ns x) (at x q))
+      ∙ sym (resolved-head k ns head _ _ (joined-head ns w ps h head (s .closure) (s .closure .joined (nodeOf ns x) (at x q))))
 
   head-variable : (x z : ℕ) → Present ns x → solution k ns head x ≡ var z → nodeAt ns (head (nodeOf ns x)) ≡ variable z
   unfolding spell

@@ -16,6 +16,7 @@ pub record Decided (t : List ℕ) (a b : ℕ) (answer : Answer) (words : List �
   -- "Two single terms get their most general unifier": the first V words can be read
   pub readable : answer ≡ ended unified → (σ : Substitution) × Reads (nodesIn t) (take (variableCount t) words) σ
   -- and whatever is read from them is a most general unifier
-  pub most-general : answer ≡ ended unified → (σ : Substitution) → Reads (nodesIn t) (take (variableCount t) words) σ → MostGeneral (nodesIn t) ((a, b) ∷ []) σ
+  pub most-general : answer ≡ ended unified → (σ : Substitution) → Reads (nodesIn t) (take (variableCount t) words) σ →
+      MostGeneral (nodesIn t) ((a, b) ∷ []) σ
   -- "one of the two failures stands only where no unifier exists"
   pub none-equal : (answer ≡ ended clash) ⊎ (answer ≡ ended occurs) → (σ : Substitution) → value (nodesIn t) σ a ≡ value (nodesIn t) σ b → ⊥

@@ -67,7 +67,8 @@ module _ (t : List ℕ) (a b : ℕ) where
       where
         pick : (x : Bool) → (leb (length (nodesIn t)) a || leb (length (nodesIn t)) b) ≡ x → (y : Bool) → ltb lent (length (variablesOf (nodesIn t))) ≡ y → unification t a b lent ≡ called (nodesIn t) a b lent
         pick true e y f = rw e (refused-exactly t a b lent 8 .1 (omega arith, first-after _ _ (conditions-numbered t) clear (here refl e)))
-        pick false e true f = rw (e, f) (refused-exactly t a b lent 9 .1 (omega arith, first-after _ _ (conditions-numbered t) clear (later e (here refl f))))
+        pick false e true f =
+            rw (e, f) (refused-exactly t a b lent 9 .1 (omega arith, first-after _ _ (conditions-numbered t) clear (later e (here refl f))))
         pick false e false f =
             rw (e, f)
             (answered-exactly t a b lent (outcome (nodesIn t) ((a, b) ∷ [])) .1 (
@@ -88,7 +89,8 @@ module _ (t : List ℕ) (a b : ℕ) where
 -- A number is no node, or both are: n is the number of nodes.
 module _ (nodes arguments : List ℕ) (a b n : ℕ) (e : n ≡ nodeCount nodes) where
   -- a number is no node
-  pub answers-node : (lent : List ℕ) → (leb n a || leb n b) ≡ true → AnswersByNodes (nodesFrom nodes arguments) a b lent (Unification.Refused Refusal.NotANode) lent
+  pub answers-node : (lent : List ℕ) → (leb n a || leb n b) ≡ true →
+      AnswersByNodes (nodesFrom nodes arguments) a b lent (Unification.Refused Refusal.NotANode) lent
   unfolding called wordsAfter
   answers-node lent g =
       let h : (leb (length (nodesFrom nodes arguments)) a || leb (length (nodesFrom nodes arguments)) b) ≡ true = rw (nodes-long nodes arguments ∙ sym e) g in
@@ -102,13 +104,15 @@ module _ (nodes arguments : List ℕ) (a b n : ℕ) (e : n ≡ nodeCount nodes) 
       (omega (arith, p), omega (arith, q))
 
 -- Two nodes, the lent words, and what unifying begins with.
-module _ (nodes arguments : List ℕ) (s : Sections nodes arguments) (a b : ℕ) (h : (a < nodeCount nodes) × (b < nodeCount nodes)) (lent : List ℕ) (v : Variables) (heads : List ℕ) (g : BeginsShared nodes arguments v heads) where
+module _ (nodes arguments : List ℕ) (s : Sections nodes arguments) (a b : ℕ) (h : (a < nodeCount nodes) × (b < nodeCount nodes)) (lent : List ℕ)
+    (v : Variables) (heads : List ℕ) (g : BeginsShared nodes arguments v heads) where
   abbrev ns : List Node
   ns = nodesFrom nodes arguments
 
   both : (leb (length ns) a || leb (length ns) b) ≡ false
   both =
-      or-both-false (leb (length ns) a) (leb (length ns) b) (lt-leb (length ns) a (is-node nodes arguments a (h .0))) (lt-leb (length ns) b (is-node nodes arguments b (h .1)))
+      or-both-false (leb (length ns) a) (leb (length ns) b) (lt-leb (length ns) a (is-node nodes arguments a (h .0)))
+      (lt-leb (length ns) b (is-node nodes arguments b (h .1)))
 
   -- too few words are lent
   pub answers-few : length lent < v .count → AnswersByNodes ns a b lent (Unification.Refused Refusal.TooFewLent) lent
@@ -130,14 +134,18 @@ module _ (nodes arguments : List ℕ) (s : Sections nodes arguments) (a b : ℕ)
       either x y u (inr m) = g .same σ x y m
 
   -- Enough words are lent, and the classes are extended by the pair.
-  module _ (l : v .count ≤ length lent) (counts next : List ℕ) (r : Extended) (heads′ next′ : List ℕ) (x : Extends nodes arguments counts heads next a b r heads′ next′) where
+  module _ (l : v .count ≤ length lent) (counts next : List ℕ) (r : Extended) (heads′ next′ : List ℕ)
+      (x : Extends nodes arguments counts heads next a b r heads′ next′) where
     -- what unifying the two nodes comes to
     comes : extended r ≡ outcome ns ((a, b) ∷ [])
     comes =
-        x .answers (g .pairs) (g .stands) ∙ outcome-together ns (sections-well-formed nodes arguments s) a b (is-node nodes arguments a (h .0)) (is-node nodes arguments b (h .1)) (g .pairs) (g .stands .inside) (g .same)
+        x .answers (g .pairs) (g .stands)
+        ∙ outcome-together ns (sections-well-formed nodes arguments s) a b (is-node nodes arguments a (h .0)) (is-node nodes arguments b (h .1))
+        (g .pairs) (g .stands .inside) (g .same)
 
     -- it is the answer
-    answers-ended : (u : Unification) (lent′ : List ℕ) → told u ≡ ended (extended r) → lent′ ≡ wordsAfter (ended (extended r)) (wordsOf ns ((a, b) ∷ [])) lent → AnswersByNodes ns a b lent u lent′
+    answers-ended : (u : Unification) (lent′ : List ℕ) → told u ≡ ended (extended r) →
+        lent′ ≡ wordsAfter (ended (extended r)) (wordsOf ns ((a, b) ∷ [])) lent → AnswersByNodes ns a b lent u lent′
     unfolding called
     answers-ended u lent′ t w =
         let d = g .lists .counted in
@@ -164,7 +172,9 @@ module _ (nodes arguments : List ℕ) (s : Sections nodes arguments) (a b : ℕ)
       -- their words are those of the pair
       one-words : wordsOf ns ((a, b) ∷ g .pairs) ≡ wordsOf ns ((a, b) ∷ [])
       one-words =
-          same-unifiers ns (sections-well-formed nodes arguments s) ((a, b) ∷ g .pairs) ((a, b) ∷ []) (unified-stands .inside) one-inside pair-alone (outcome-unified ns (sections-well-formed nodes arguments s) ((a, b) ∷ g .pairs) (unified-stands .inside) .0 (sym (x .answers (g .pairs) (g .stands)) ∙ ap extended e))
+          same-unifiers ns (sections-well-formed nodes arguments s) ((a, b) ∷ g .pairs) ((a, b) ∷ []) (unified-stands .inside) one-inside
+          pair-alone
+          (outcome-unified ns (sections-well-formed nodes arguments s) ((a, b) ∷ g .pairs) (unified-stands .inside) .0 (sym (x .answers (g .pairs) (g .stands)) ∙ ap extended e))
 
       -- unified: the binding words are left
       pub answers-unified : (lent′ : List ℕ) → Leaves nodes arguments heads′ lent lent′ → AnswersByNodes ns a b lent Unification.Unified lent′
@@ -174,11 +184,13 @@ module _ (nodes arguments : List ℕ) (s : Sections nodes arguments) (a b : ℕ)
           (rw (e, ← one-words, words-counted ns ((a, b) ∷ g .pairs)) (w ((a, b) ∷ g .pairs) unified-stands))
 
 -- what putting the members of each class into a circle asks
-pub circles-ready : (n : ℕ) (heads next : List ℕ) → n ≤ maxNodes → length heads ≡ n → next ≡ replicate links 0 → HeadsFirst n heads → (next ≡ replicate links 0) × HeadsFirst (length heads) heads × (length heads ≤ maxNodes)
+pub circles-ready : (n : ℕ) (heads next : List ℕ) → n ≤ maxNodes → length heads ≡ n → next ≡ replicate links 0 → HeadsFirst n heads →
+    (next ≡ replicate links 0) × HeadsFirst (length heads) heads × (length heads ≤ maxNodes)
 circles-ready n heads next b e d h = (d, rw e h, omega (arith, b, e))
 
 -- the least nodes of the variables present, for which enough words are lent
-pub list-given : (nodes arguments : List ℕ) (v : Variables) (n : ℕ) → Lists nodes arguments v → v .count ≤ n → (take (v .count - 0) (v .nodes) ≡ leastNodes (nodesFrom nodes arguments)) × (length (take (v .count - 0) (v .nodes)) ≤ n)
+pub list-given : (nodes arguments : List ℕ) (v : Variables) (n : ℕ) → Lists nodes arguments v → v .count ≤ n →
+    (take (v .count - 0) (v .nodes) ≡ leastNodes (nodesFrom nodes arguments)) × (length (take (v .count - 0) (v .nodes)) ≤ n)
 list-given nodes arguments v n l h =
     let e : take (v .count - 0) (v .nodes) ≡ leastNodes (nodesFrom nodes arguments) = ap (λ (k : ℕ). take k (v .nodes)) (sub-zero (v .count)) ∙ l .least in
     let d = ap length e ∙ least-long (nodesFrom nodes arguments) in
@@ -190,7 +202,8 @@ abbrev pub Promised : List ℕ → ℕ → ℕ → List ℕ → Unification → 
 Promised t a b lent r lent′ = (told r ≡ unification t a b (length lent)) × ((lent′ ≡ lentAfter t a b lent) × Decided t a b (told r) lent′)
 
 -- what the answer and the lent words decide follows from what they are
-promised : (t : List ℕ) (a b : ℕ) (lent : List ℕ) (r : Unification) (lent′ : List ℕ) → told r ≡ unification t a b (length lent) → lent′ ≡ lentAfter t a b lent → Promised t a b lent r lent′
+promised : (t : List ℕ) (a b : ℕ) (lent : List ℕ) (r : Unification) (lent′ : List ℕ) → told r ≡ unification t a b (length lent) →
+    lent′ ≡ lentAfter t a b lent → Promised t a b lent r lent′
 promised t a b lent r lent′ e d = (e, (d, decided t a b lent (told r) lent′ e d))
 
 -- no lent word is changed where the table is refused
@@ -205,6 +218,7 @@ refused-promised t a b lent c r e z =
     promised t a b lent (Unification.Refused r) lent d (refused-words t a b lent r d)
 
 -- and with an accepted one
-pub accepted-promised : (t : List ℕ) (a b : ℕ) (lent : List ℕ) (r : Unification) (lent′ : List ℕ) → Accepted t → AnswersByNodes (nodesIn t) a b lent r lent′ → Promised t a b lent r lent′
+pub accepted-promised : (t : List ℕ) (a b : ℕ) (lent : List ℕ) (r : Unification) (lent′ : List ℕ) → Accepted t →
+    AnswersByNodes (nodesIn t) a b lent r lent′ → Promised t a b lent r lent′
 accepted-promised t a b lent r lent′ g k =
     promised t a b lent r lent′ (k .answer ∙ sym (accepted-table t a b g (length lent))) (k .words ∙ sym (accepted-words t a b g lent))

@@ -38,7 +38,8 @@ module _ {nodes arguments heads names : List ℕ} where
         per-argument = λ j q. s .per-argument j q ∙ t .per-argument j (let e = s .count in omega (arith, e, q));
       }
 
-  key-alike-up-to : {g h : ℕ} → Alike nodes arguments heads names g h → (j : ℕ) → j ≤ countOf nodes g → keyUpTo nodes arguments heads names g j ≡ keyUpTo nodes arguments heads names h j
+  key-alike-up-to : {g h : ℕ} → Alike nodes arguments heads names g h → (j : ℕ) → j ≤ countOf nodes g →
+      keyUpTo nodes arguments heads names g j ≡ keyUpTo nodes arguments heads names h j
   unfolding keyUpTo
   key-alike-up-to {g} {h} s zero l = rw (s .name, s .count)
   key-alike-up-to {g} {h} s (suc j) l = rw (key-alike-up-to s j (omega arith), s .per-argument j (omega arith))
@@ -51,11 +52,13 @@ module _ {nodes arguments heads names : List ℕ} where
 
 -- Two lists of names agree on the arguments of node h.
 abbrev pub NamesKept : List ℕ → List ℕ → List ℕ → List ℕ → List ℕ → ℕ → Type 0
-NamesKept nodes arguments heads names news h = (j : ℕ) → j < countOf nodes h → valueName heads news (argumentOf nodes arguments h j) ≡ valueName heads names (argumentOf nodes arguments h j)
+NamesKept nodes arguments heads names news h =
+    (j : ℕ) → j < countOf nodes h → valueName heads news (argumentOf nodes arguments h j) ≡ valueName heads names (argumentOf nodes arguments h j)
 
 -- The key depends on the names of arguments.
 module _ (nodes arguments heads names news : List ℕ) where
-  key-kept-up-to : (h : ℕ) → NamesKept nodes arguments heads names news h → (j : ℕ) → j ≤ countOf nodes h → keyUpTo nodes arguments heads news h j ≡ keyUpTo nodes arguments heads names h j
+  key-kept-up-to : (h : ℕ) → NamesKept nodes arguments heads names news h → (j : ℕ) → j ≤ countOf nodes h →
+      keyUpTo nodes arguments heads news h j ≡ keyUpTo nodes arguments heads names h j
   unfolding keyUpTo
   key-kept-up-to h s zero l = refl
   key-kept-up-to h s (suc j) l = rw (key-kept-up-to h s j (omega arith), s j (omega arith))
@@ -66,7 +69,8 @@ module _ (nodes arguments heads names news : List ℕ) where
   key-kept h s = key-kept-up-to h s (countOf nodes h) (omega arith)
 
 -- what is alike stays so
-pub alike-kept : (nodes arguments heads names news : List ℕ) {g h : ℕ} → NamesKept nodes arguments heads names news g → NamesKept nodes arguments heads names news h → Alike nodes arguments heads names g h → Alike nodes arguments heads news g h
+pub alike-kept : (nodes arguments heads names news : List ℕ) {g h : ℕ} → NamesKept nodes arguments heads names news g →
+    NamesKept nodes arguments heads names news h → Alike nodes arguments heads names g h → Alike nodes arguments heads news g h
 alike-kept nodes arguments heads names news s t a =
     record {
       name = a .name;
@@ -75,23 +79,28 @@ alike-kept nodes arguments heads names news s t a =
     }
 
 -- and was so
-pub alike-was : (nodes arguments heads names news : List ℕ) {g h : ℕ} → NamesKept nodes arguments heads names news g → NamesKept nodes arguments heads names news h → Alike nodes arguments heads news g h → Alike nodes arguments heads names g h
+pub alike-was : (nodes arguments heads names news : List ℕ) {g h : ℕ} → NamesKept nodes arguments heads names news g →
+    NamesKept nodes arguments heads names news h → Alike nodes arguments heads news g h → Alike nodes arguments heads names g h
 alike-was nodes arguments heads names news s t = alike-kept nodes arguments heads news names (λ j q. sym (s j q)) (λ j q. sym (t j q))
 
 -- The loop that makes a key.
 module _ (nodes arguments heads names : List ℕ) (h : ℕ) where
   -- the symbol
-  pub key-start : (name n : ℕ) → name ≡ nameOf nodes h → n ≡ countOf nodes h → ((name * 40503 % 65536 / 256 + n) % keys ≡ keyUpTo nodes arguments heads names h 0) × ((name * 40503 % 65536 / 256 + n) % keys < keys)
+  pub key-start : (name n : ℕ) → name ≡ nameOf nodes h → n ≡ countOf nodes h →
+      ((name * 40503 % 65536 / 256 + n) % keys ≡ keyUpTo nodes arguments heads names h 0) × ((name * 40503 % 65536 / 256 + n) % keys < keys)
   unfolding keyUpTo
   key-start name n e d = (rw (e, d), mod-lt _ (omega arith))
 
   -- one argument more
-  pub key-next : (x j v w : ℕ) → x ≡ keyUpTo nodes arguments heads names h j → w ≡ v → v ≡ valueName heads names (argumentOf nodes arguments h j) → ((x * 157 + w + 1) % keys ≡ keyUpTo nodes arguments heads names h (j + 1)) × ((x * 157 + w + 1) % keys < keys)
+  pub key-next : (x j v w : ℕ) → x ≡ keyUpTo nodes arguments heads names h j → w ≡ v →
+      v ≡ valueName heads names (argumentOf nodes arguments h j) →
+      ((x * 157 + w + 1) % keys ≡ keyUpTo nodes arguments heads names h (j + 1)) × ((x * 157 + w + 1) % keys < keys)
   unfolding keyUpTo
   key-next x j v w e d f = (rw (add-one j, e, d, f), mod-lt _ (omega arith))
 
   -- all of them
-  pub key-end : (x j n : ℕ) → x ≡ keyUpTo nodes arguments heads names h j → n ≡ countOf nodes h → j ≤ n → n ≤ j → x ≡ keyOf nodes arguments heads names h
+  pub key-end : (x j n : ℕ) → x ≡ keyUpTo nodes arguments heads names h j → n ≡ countOf nodes h → j ≤ n → n ≤ j →
+      x ≡ keyOf nodes arguments heads names h
   unfolding keyOf
   key-end x j n e d l m = e ∙ ap (keyUpTo nodes arguments heads names h) (let f : j ≡ n = omega arith in f ∙ d)
 
@@ -117,14 +126,17 @@ module _ (nodes arguments heads names : List ℕ) (g h : ℕ) where
         }
 
   module _ (j n : ℕ) (l : n ≡ countOf nodes g) (s : AlikeUpTo nodes arguments heads names g h j) where
-    module _ (x y : ℕ) (d : x ≡ valueName heads names (argumentOf nodes arguments g j)) (e : y ≡ valueName heads names (argumentOf nodes arguments h j)) where
+    module _ (x y : ℕ) (d : x ≡ valueName heads names (argumentOf nodes arguments g j))
+        (e : y ≡ valueName heads names (argumentOf nodes arguments h j)) where
       -- one argument more has the same name
       pub compare-next : x ≡ y → AlikeUpTo nodes arguments heads names g h (j + 1)
       compare-next f =
           record {
             name = s .name;
             count = s .count;
-            per-argument = below-more (λ i. valueName heads names (argumentOf nodes arguments g i) ≡ valueName heads names (argumentOf nodes arguments h i)) j (s .per-argument) (sym d ∙ f ∙ e);
+            per-argument =
+                below-more (λ i. valueName heads names (argumentOf nodes arguments g i) ≡ valueName heads names (argumentOf nodes arguments h i))
+                j (s .per-argument) (sym d ∙ f ∙ e);
           }
 
       -- it has another

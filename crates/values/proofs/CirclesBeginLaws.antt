@@ -35,7 +35,8 @@ circles-none heads next e =
     }
 
 -- all are, and no head has gone
-pub circles-all : (heads next : List ℕ) (i : ℕ) → length heads ≤ maxNodes → i ≤ length heads → length heads ≤ i → CirclesBefore heads next i → Trailed (length heads) heads next
+pub circles-all : (heads next : List ℕ) (i : ℕ) → length heads ≤ maxNodes → i ≤ length heads → length heads ≤ i → CirclesBefore heads next i →
+    Trailed (length heads) heads next
 circles-all heads next i few h l c =
     let e : length heads ≡ i = omega arith in
     let q = c .size in
@@ -49,7 +50,8 @@ circles-all heads next i few h l c =
       clear = λ k w. c .clear k (omega (arith, w));
     }
 
-module _ (heads next : List ℕ) (i : ℕ) (b : i < length heads) (few : length heads ≤ maxNodes) (f : HeadsFirst (length heads) heads) (c : CirclesBefore heads next i) where
+module _ (heads next : List ℕ) (i : ℕ) (b : i < length heads) (few : length heads ≤ maxNodes) (f : HeadsFirst (length heads) heads)
+    (c : CirclesBefore heads next i) where
   -- a node that is its own head
   module _ (e : classOf heads i ≡ i) where
     abbrev begun : List ℕ

@@ -24,12 +24,14 @@ module _ (nodes arguments : List ℕ) (s : Sections nodes arguments) (counts : L
   w = sections-well-formed nodes arguments s
 
   -- the term of an application
-  term : (i : ℕ) → i < nodeCount nodes → (kindOf nodes i ≡ 0 → ⊥) → value ns var i ≡ app (nameOf nodes i) (each (value ns var) (run nodes arguments i))
+  term : (i : ℕ) → i < nodeCount nodes → (kindOf nodes i ≡ 0 → ⊥) →
+      value ns var i ≡ app (nameOf nodes i) (each (value ns var) (run nodes arguments i))
   term i h k =
       value-application ns w var i (nameOf nodes i) (run nodes arguments i) (is-node nodes arguments i h) (application-from nodes arguments i h k)
 
   -- a node of the term of an application is one
-  applied-same : (i j : ℕ) → i < nodeCount nodes → j < nodeCount nodes → (kindOf nodes i ≡ 0 → ⊥) → value ns var i ≡ value ns var j → kindOf nodes j ≡ 0 → ⊥
+  applied-same : (i j : ℕ) → i < nodeCount nodes → j < nodeCount nodes → (kindOf nodes i ≡ 0 → ⊥) → value ns var i ≡ value ns var j →
+      kindOf nodes j ≡ 0 → ⊥
   applied-same i j h l k e z =
       let d : app (nameOf nodes i) (each (value ns var) (run nodes arguments i)) ≡ var (nameOf nodes j) = sym (term i h k) ∙ e ∙ value-variable ns w var j (nameOf nodes j) (is-node nodes arguments j l) (variable-from nodes arguments j l z) in
       let y : _≡_ {A = ℕ} 0 1 = cc in
@@ -41,14 +43,16 @@ module _ (nodes arguments : List ℕ) (s : Sections nodes arguments) (counts : L
     same : (q : ℕ) → q < countOf nodes j → value ns var (argumentOf nodes arguments i q) ≡ value ns var (argumentOf nodes arguments j q)
 
   -- and arguments of the same terms
-  same-arguments : (i j : ℕ) → i < nodeCount nodes → j < nodeCount nodes → (kindOf nodes i ≡ 0 → ⊥) → (kindOf nodes j ≡ 0 → ⊥) → value ns var i ≡ value ns var j → SameArguments i j
+  same-arguments : (i j : ℕ) → i < nodeCount nodes → j < nodeCount nodes → (kindOf nodes i ≡ 0 → ⊥) → (kindOf nodes j ≡ 0 → ⊥) →
+      value ns var i ≡ value ns var j → SameArguments i j
   same-arguments i j h l k m e =
       let d : app (nameOf nodes i) (each (value ns var) (run nodes arguments i)) ≡ app (nameOf nodes j) (each (value ns var) (run nodes arguments j)) = sym (term i h k) ∙ e ∙ term j l m in
       let a : each (value ns var) (run nodes arguments i) ≡ each (value ns var) (run nodes arguments j) = cc in
       let n : countOf nodes i ≡ countOf nodes j = sym (run-long nodes arguments s i h) ∙ each-long (value ns var) (value ns var) (run nodes arguments i) (run nodes arguments j) a ∙ run-long nodes arguments s j l in
       record {
         count = n;
-        same = λ q b. each-at (value ns var) (value ns var) (run nodes arguments i) (run nodes arguments j) a (argumentOf nodes arguments i q) (argumentOf nodes arguments j q) (pair-place nodes arguments s i j h l (argumentOf nodes arguments i q) (argumentOf nodes arguments j q) .1 (q, rw n b, b, refl, refl));
+        same =
+            λ q b. each-at (value ns var) (value ns var) (run nodes arguments i) (run nodes arguments j) a (argumentOf nodes arguments i q) (argumentOf nodes arguments j q) (pair-place nodes arguments s i j h l (argumentOf nodes arguments i q) (argumentOf nodes arguments j q) .1 (q, rw n b, b, refl, refl));
       }
 
   -- a node of the term of a closed application is one
@@ -63,15 +67,21 @@ module _ (nodes arguments : List ℕ) (s : Sections nodes arguments) (counts : L
       a : SameArguments i j
       a = same-arguments i j (m .node) l (m .applied) k e
 
-      argument : ((g h : ℕ) → g < n → IsClosed nodes counts g → h < nodeCount nodes → value ns var g ≡ value ns var h → IsClosed nodes counts h) → (q : ℕ) → q < countOf nodes j → IsClosed nodes counts (argumentOf nodes arguments j q)
+      argument :
+          ((g h : ℕ) → g < n → IsClosed nodes counts g → h < nodeCount nodes → value ns var g ≡ value ns var h → IsClosed nodes counts h) →
+          (q : ℕ) → q < countOf nodes j → IsClosed nodes counts (argumentOf nodes arguments j q)
       argument below q t =
           let u : q < countOf nodes i = rw (a .count) t in
           let x = s .smaller i q (m .node) u in
           let y = s .smaller j q l t in
-          below (argumentOf nodes arguments i q) (argumentOf nodes arguments j q) (omega (arith, x)) (c .below i (m .node) m q u) (omega (arith, y)) (a .same q t)
+          below (argumentOf nodes arguments i q) (argumentOf nodes arguments j q) (omega (arith, x)) (c .below i (m .node) m q u)
+          (omega (arith, y)) (a .same q t)
 
   -- closed heads, where heads are not after their nodes and nodes have one head exactly if they have one term
-  pub heads-closed : (heads : List ℕ) → Partition (nodeCount nodes) heads → ((i : ℕ) → i < nodeCount nodes → classOf heads i ≤ i) → ((i : ℕ) → i < nodeCount nodes → value (nodesFrom nodes arguments) var i ≡ value (nodesFrom nodes arguments) var (classOf heads i)) → ((i j : ℕ) → i < nodeCount nodes → j < nodeCount nodes → value (nodesFrom nodes arguments) var i ≡ value (nodesFrom nodes arguments) var j → classOf heads i ≡ classOf heads j) → ClosedHeads nodes arguments counts heads
+  pub heads-closed : (heads : List ℕ) → Partition (nodeCount nodes) heads → ((i : ℕ) → i < nodeCount nodes → classOf heads i ≤ i) →
+      ((i : ℕ) → i < nodeCount nodes → value (nodesFrom nodes arguments) var i ≡ value (nodesFrom nodes arguments) var (classOf heads i)) →
+      ((i j : ℕ) → i < nodeCount nodes → j < nodeCount nodes → value (nodesFrom nodes arguments) var i ≡ value (nodesFrom nodes arguments) var j → classOf heads i ≡ classOf heads j) →
+      ClosedHeads nodes arguments counts heads
   heads-closed heads p low valued shared =
       record {
         closed = λ i m. closed-same (suc i) i (classOf heads i) (omega arith) m (p .below i (m .node)) (valued i (m .node));

@@ -25,12 +25,15 @@ pub record ClosedUpTo (nodes arguments counts : List ℕ) (i j : ℕ) : Type 0 w
 pub closed-none : (nodes arguments counts : List ℕ) (i : ℕ) → ClosedUpTo nodes arguments counts i 0
 closed-none nodes arguments counts i = record { closed = λ q h. absurd (omega arith) }
 
-module _ (nodes arguments counts : List ℕ) (i j a : ℕ) (v : Bool) (small : a < nodeCount nodes) (is : a ≡ argumentOf nodes arguments i j) (e : v ≡ closedTest nodes counts a) where
+module _ (nodes arguments counts : List ℕ) (i j a : ℕ) (v : Bool) (small : a < nodeCount nodes) (is : a ≡ argumentOf nodes arguments i j)
+    (e : v ≡ closedTest nodes counts a) where
   -- one argument more is closed
   pub closed-next : v ≡ true → ClosedUpTo nodes arguments counts i j → ClosedUpTo nodes arguments counts i (j + 1)
   closed-next t b =
       record {
-        closed = below-more (λ q. IsClosed nodes counts (argumentOf nodes arguments i q)) j (b .closed) (rw is at (closed-true nodes counts a small (sym e ∙ t)));
+        closed =
+            below-more (λ q. IsClosed nodes counts (argumentOf nodes arguments i q)) j (b .closed)
+            (rw is at (closed-true nodes counts a small (sym e ∙ t)));
       }
 
   -- one is not, so all are looked at
@@ -43,7 +46,8 @@ module _ (nodes arguments counts : List ℕ) (i j a : ℕ) (v : Bool) (small : a
       }
 
 -- all are closed, so none is looked at
-pub counted-none : (nodes arguments counts : List ℕ) (i j n : ℕ) → n ≡ countOf nodes i → n ≤ j → ClosedUpTo nodes arguments counts i j → CountedAt nodes arguments counts i 0
+pub counted-none : (nodes arguments counts : List ℕ) (i j n : ℕ) → n ≡ countOf nodes i → n ≤ j → ClosedUpTo nodes arguments counts i j →
+    CountedAt nodes arguments counts i 0
 counted-none nodes arguments counts i j n c l b =
     record { some = inl refl; below = λ z q h. b .closed q (omega arith); above = λ z. refl }
 
@@ -57,7 +61,8 @@ counts-none nodes arguments counts h =
       above = λ i l. absurd (omega arith);
     }
 
-module _ (nodes arguments counts : List ℕ) (s : Sections nodes arguments) (i r : ℕ) (h : i < nodeCount nodes) (c : Counts nodes arguments counts i) (d : CountedAt nodes arguments counts i r) where
+module _ (nodes arguments counts : List ℕ) (s : Sections nodes arguments) (i r : ℕ) (h : i < nodeCount nodes)
+    (c : Counts nodes arguments counts i) (d : CountedAt nodes arguments counts i r) where
   abbrev after : List ℕ
   after = set counts i r
 
@@ -90,14 +95,17 @@ module _ (nodes arguments counts : List ℕ) (s : Sections nodes arguments) (i r
         above = λ k l. above-at k l (ℕ-discrete k i);
       }
     where
-      below-at : (k : ℕ) → k < i + 1 → Dec (k ≡ i) → IsClosed nodes after k → (j : ℕ) → j < countOf nodes k → IsClosed nodes after (argumentOf nodes arguments k j)
+      below-at : (k : ℕ) → k < i + 1 → Dec (k ≡ i) → IsClosed nodes after k → (j : ℕ) → j < countOf nodes k →
+          IsClosed nodes after (argumentOf nodes arguments k j)
       below-at k l (yes e) m j q =
-          stays (argumentOf nodes arguments k j) (argument-below k j l q) (rw e (d .below (sym here ∙ ap (word after) (sym e) ∙ m .none) j (rw e at q)))
+          stays (argumentOf nodes arguments k j) (argument-below k j l q)
+          (rw e (d .below (sym here ∙ ap (word after) (sym e) ∙ m .none) j (rw e at q)))
       below-at k l (no n) m j q =
           let b : k < i = omega (arith, n) in
           stays (argumentOf nodes arguments k j) (argument-below k j l q) (c .below k b (was k b m) j q)
 
-      above-at : (k : ℕ) → k < i + 1 → Dec (k ≡ i) → ((j : ℕ) → j < countOf nodes k → IsClosed nodes after (argumentOf nodes arguments k j)) → word after k ≡ 0
+      above-at : (k : ℕ) → k < i + 1 → Dec (k ≡ i) → ((j : ℕ) → j < countOf nodes k → IsClosed nodes after (argumentOf nodes arguments k j)) →
+          word after k ≡ 0
       above-at k l (yes e) m =
           ap (word after) e ∙ here ∙ d .above (λ j q. was (argumentOf nodes arguments i j) (argument-below i j (omega arith) q) ((rw e at m) j q))
       above-at k l (no n) m =
@@ -110,5 +118,6 @@ module _ (nodes arguments counts : List ℕ) (s : Sections nodes arguments) (i r
       below-more (λ k. word after k ≡ 0) i (λ k l. other k l ∙ b (or-false-left some (not (eqb r 0)) e) k l) (here ∙ eqb-true r 0 (not-false _ (or-false-right some (not (eqb r 0)) e)))
 
 -- the counts of as many nodes as there are
-pub counts-end : (nodes arguments counts : List ℕ) (i n : ℕ) → n ≡ nodeCount nodes → i ≤ n → n ≤ i → Counts nodes arguments counts i → Counts nodes arguments counts (nodeCount nodes)
+pub counts-end : (nodes arguments counts : List ℕ) (i n : ℕ) → n ≡ nodeCount nodes → i ≤ n → n ≤ i → Counts nodes arguments counts i →
+    Counts nodes arguments counts (nodeCount nodes)
 counts-end nodes arguments counts i n c a b m = let e : nodeCount nodes ≡ i = omega arith in rw e m

@@ -35,7 +35,8 @@ module _ (nodes arguments heads order names buckets earlier : List ℕ) (p : ℕ
       })
 
   module _ (k c : ℕ) (t : Searching nodes arguments heads order names p k c) where
-    search-past : (b : ℕ) → c ≡ suc b → (Alike nodes arguments heads names (word order b) (word order p) → ⊥) → Searching nodes arguments heads order names p k (word earlier b)
+    search-past : (b : ℕ) → c ≡ suc b → (Alike nodes arguments heads names (word order b) (word order p) → ⊥) →
+        Searching nodes arguments heads order names p k (word earlier b)
     search-past b e n =
         let u = t .at b e in
         record {
@@ -45,7 +46,8 @@ module _ (nodes arguments heads order names buckets earlier : List ℕ) (p : ℕ
           passed = λ q l m r f a. past q l m r f a (decLt q b) (ℕ-discrete q b);
         }
       where
-        past : (q : ℕ) → q < p → word earlier b ≤ q → Representative nodes order names q → keyAt nodes arguments heads order names q ≡ k → Alike nodes arguments heads names (word order q) (word order p) → Dec (q < b) → Dec (q ≡ b) → ⊥
+        past : (q : ℕ) → q < p → word earlier b ≤ q → Representative nodes order names q → keyAt nodes arguments heads order names q ≡ k →
+            Alike nodes arguments heads names (word order q) (word order p) → Dec (q < b) → Dec (q ≡ b) → ⊥
         past q l m r f a (yes z) y =
             let u = t .at b e in
             let w = s .chained .earlier-reaches q b z (u .0) r (u .1) (f ∙ sym (u .2)) in

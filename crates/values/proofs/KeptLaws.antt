@@ -41,7 +41,8 @@ module _ (P : ℕ → Type 0) (slot value : ℕ → ℕ) (n : ℕ) where
       after : (j : ℕ) → i ≤ j → (slot j ≡ slot i → ⊥) → suc i ≤ j
       after j a d = let n : j ≡ i → ⊥ = λ e. d (ap slot e) in omega (arith, n)
 
-      go : (j : ℕ) → i ≤ j → j < n → P j → Dec (slot j ≡ slot i) → (k : ℕ) × Least (WrittenAt P slot i n (slot j)) k × (word (set by (slot i) (value i)) (slot j) ≡ value k)
+      go : (j : ℕ) → i ≤ j → j < n → P j → Dec (slot j ≡ slot i) →
+          (k : ℕ) × Least (WrittenAt P slot i n (slot j)) k × (word (set by (slot i) (value i)) (slot j) ≡ value k)
       go j a b q (yes e) =
           (i, record { holds = (omega arith, h, p, sym e); least = λ k w. w .0 }, here (slot j) e)
       go j a b q (no d) =

@@ -50,7 +50,8 @@ pub record NotedFrom (nodes least : List ℕ) (i : ℕ) : Type 0 where
   pub touched : (x : ℕ) → x < variableNames → Touched (IsVariable nodes) (nameOf nodes) (nodeCount nodes) i (nodeCount nodes) least x
 
 -- none is noted yet
-pub noted-none : (nodes least : List ℕ) (i : ℕ) → nodeCount nodes ≡ i → length least ≡ variableNames → ((x : ℕ) → x < variableNames → word least x ≡ nodeCount nodes) → NotedFrom nodes least i
+pub noted-none : (nodes least : List ℕ) (i : ℕ) → nodeCount nodes ≡ i → length least ≡ variableNames →
+    ((x : ℕ) → x < variableNames → word least x ≡ nodeCount nodes) → NotedFrom nodes least i
 noted-none nodes least i e l h =
     record {
       long = l;
@@ -74,7 +75,8 @@ module _ (nodes arguments : List ℕ) (s : Sections nodes arguments) where
           (record {
             long = length-set least (nameOf nodes i) i ∙ r .long;
             kept = kept-set (IsVariable nodes) (nameOf nodes) (λ j. j) (nodeCount nodes) i least h k (omega (arith, b, l)) (r .kept);
-            touched = λ x z. touched-set (IsVariable nodes) (nameOf nodes) (λ j. j) (nodeCount nodes) (nodeCount nodes) i x least h k (r .touched x z);
+            touched =
+                λ x z. touched-set (IsVariable nodes) (nameOf nodes) (λ j. j) (nodeCount nodes) (nodeCount nodes) i x least h k (r .touched x z);
           })
       pick (no k) =
           rw (ne-eqb (kindOf nodes i) 0 k)
@@ -85,7 +87,8 @@ module _ (nodes arguments : List ℕ) (s : Sections nodes arguments) where
           })
 
   -- one node more
-  pub noted-down : (least : List ℕ) (i : ℕ) → 0 < i → i ≤ nodeCount nodes → NotedFrom nodes least i → NotedFrom nodes (noted nodes least (i - 1)) (i - 1)
+  pub noted-down : (least : List ℕ) (i : ℕ) → 0 < i → i ≤ nodeCount nodes → NotedFrom nodes least i →
+      NotedFrom nodes (noted nodes least (i - 1)) (i - 1)
   noted-down least i h l r =
       let e : i ≡ suc (i - 1) = omega arith in
       noted-next least (i - 1) (omega arith) (rw e at r)
@@ -94,7 +97,8 @@ module _ (nodes arguments : List ℕ) (s : Sections nodes arguments) where
   noted-right : (least : List ℕ) → NotedFrom nodes least 0 → (x : ℕ) → x < variableNames → word least x ≡ nodeOf (nodesFrom nodes arguments) x
   noted-right least r x b = go (r .touched x b)
     where
-      go : Touched (IsVariable nodes) (nameOf nodes) (nodeCount nodes) 0 (nodeCount nodes) least x → word least x ≡ nodeOf (nodesFrom nodes arguments) x
+      go : Touched (IsVariable nodes) (nameOf nodes) (nodeCount nodes) 0 (nodeCount nodes) least x →
+          word least x ≡ nodeOf (nodesFrom nodes arguments) x
       go (inl e) =
           e ∙ sym (nodes-long nodes arguments) ∙ sym (node-of-none (nodesFrom nodes arguments) x never)
         where
@@ -324,7 +328,10 @@ module _ (nodes arguments : List ℕ) (s : Sections nodes arguments) (least : Li
   pub present-least : presentBelow least (nodeCount nodes) variableNames ≡ leastNodes (nodesFrom nodes arguments)
   unfolding presentBelow has leastNodes
   present-least =
-      selected-map has (word least) variableNames ∙ map-same (word least) (nodeOf (nodesFrom nodes arguments)) (selected has variableNames) (λ x m. l .right x (selected-from has variableNames x m .0)) ∙ ap (map (nodeOf (nodesFrom nodes arguments))) present-names
+      selected-map has (word least) variableNames
+      ∙ map-same (word least) (nodeOf (nodesFrom nodes arguments)) (selected has variableNames)
+      (λ x m. l .right x (selected-from has variableNames x m .0))
+      ∙ ap (map (nodeOf (nodesFrom nodes arguments))) present-names
 
 -- there is one for each variable present
 pub least-long : (ns : List Node) → length (leastNodes ns) ≡ length (variablesOf ns)

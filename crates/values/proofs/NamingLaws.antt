@@ -75,17 +75,23 @@ module _ (nodes arguments heads order : List ℕ) (o : Nameable nodes arguments 
     record NamedHere : Type 0 where
       variable : kindOf nodes (word order p) ≡ 0 → word news (word order p) ≡ word order p
       application : (kindOf nodes (word order p) ≡ 0 → ⊥) → Represented nodes arguments heads order news p
-      apart : (q : ℕ) → q < p → Representative nodes order news q → Representative nodes order news p → Alike nodes arguments heads news (word order q) (word order p) → ⊥
+      apart : (q : ℕ) → q < p → Representative nodes order news q → Representative nodes order news p →
+          Alike nodes arguments heads news (word order q) (word order p) → ⊥
 
     named-next : NamedBefore nodes arguments heads order names p → NamedHere → NamedBefore nodes arguments heads order news (p + 1)
     named-next s t =
         record {
-          variable = below-more (λ q. kindOf nodes (word order q) ≡ 0 → word news (word order q) ≡ word order q) p (λ q l k. name-kept q l ∙ s .variable q l k) (t .variable);
-          application = below-more (λ q. (kindOf nodes (word order q) ≡ 0 → ⊥) → Represented nodes arguments heads order news q) p (λ q l k. represented-kept q l (s .application q l k)) (t .application);
+          variable =
+              below-more (λ q. kindOf nodes (word order q) ≡ 0 → word news (word order q) ≡ word order q) p
+              (λ q l k. name-kept q l ∙ s .variable q l k) (t .variable);
+          application =
+              below-more (λ q. (kindOf nodes (word order q) ≡ 0 → ⊥) → Represented nodes arguments heads order news q) p
+              (λ q l k. represented-kept q l (s .application q l k)) (t .application);
           apart = λ q r h l x y a. apart-at q r h l x y a (ℕ-discrete q p) (ℕ-discrete r p);
         }
       where
-        apart-at : (q r : ℕ) → q < p + 1 → r < p + 1 → Representative nodes order news q → Representative nodes order news r → Alike nodes arguments heads news (word order q) (word order r) → Dec (q ≡ p) → Dec (r ≡ p) → q ≡ r
+        apart-at : (q r : ℕ) → q < p + 1 → r < p + 1 → Representative nodes order news q → Representative nodes order news r →
+            Alike nodes arguments heads news (word order q) (word order r) → Dec (q ≡ p) → Dec (r ≡ p) → q ≡ r
         apart-at q r h l x y a (yes e) (yes f) = e ∙ sym f
         apart-at q r h l x y a (yes e) (no n) =
             let m : r < p = omega (arith, n, l) in
@@ -96,7 +102,8 @@ module _ (nodes arguments heads order : List ℕ) (o : Nameable nodes arguments 
         apart-at q r h l x y a (no n) (no k) =
             let m : q < p = omega (arith, n, h) in
             let i : r < p = omega (arith, k, l) in
-            s .apart q r m i (representative-was q m x) (representative-was r i y) (alike-was nodes arguments heads names news (same-names q (omega arith)) (same-names r (omega arith)) a)
+            s .apart q r m i (representative-was q m x) (representative-was r i y)
+            (alike-was nodes arguments heads names news (same-names q (omega arith)) (same-names r (omega arith)) a)
 
   -- Before it, the nodes before p have their names, and the representatives among them are in the table.
   module _ (names buckets earlier : List ℕ) (s : Naming nodes arguments heads order names buckets earlier p) where
@@ -126,7 +133,8 @@ module _ (nodes arguments heads order : List ℕ) (o : Nameable nodes arguments 
         }
 
     -- what is not a representative leaves the table as it is
-    naming-skip : (v : ℕ) → NamedHere names v → (Representative nodes order (news names v) p → ⊥) → Naming nodes arguments heads order (news names v) buckets earlier (p + 1)
+    naming-skip : (v : ℕ) → NamedHere names v → (Representative nodes order (news names v) p → ⊥) →
+        Naming nodes arguments heads order (news names v) buckets earlier (p + 1)
     naming-skip v t n =
         record {
           readable = readable-next v;
@@ -151,7 +159,8 @@ module _ (nodes arguments heads order : List ℕ) (o : Nameable nodes arguments 
 
     module _ (n : kindOf nodes (word order p) ≡ 0 → ⊥) where
       -- an application has the name of an earlier one that is alike
-      naming-found : (c b : ℕ) → Found nodes arguments heads order names p c → c ≡ suc b → Naming nodes arguments heads order (news names (word order b)) buckets earlier (p + 1)
+      naming-found : (c b : ℕ) → Found nodes arguments heads order names p c → c ≡ suc b →
+          Naming nodes arguments heads order (news names (word order b)) buckets earlier (p + 1)
       naming-found c b f e =
           let u = f .found b e in
           let same = same-names names (word order b) in
@@ -171,7 +180,8 @@ module _ (nodes arguments heads order : List ℕ) (o : Nameable nodes arguments 
           other
 
       -- or is named by itself, and put into the table
-      naming-new : Found nodes arguments heads order names p 0 → (k : ℕ) → k ≡ keyOf nodes arguments heads names (word order p) → k < keys → Naming nodes arguments heads order (news names (word order p)) (set buckets k (p + 1)) (set earlier p (word buckets k)) (p + 1)
+      naming-new : Found nodes arguments heads order names p 0 → (k : ℕ) → k ≡ keyOf nodes arguments heads names (word order p) → k < keys →
+          Naming nodes arguments heads order (news names (word order p)) (set buckets k (p + 1)) (set earlier p (word buckets k)) (p + 1)
       unfolding keyAt
       naming-new f k e l =
           let same = same-names names (word order p) in
@@ -191,9 +201,13 @@ module _ (nodes arguments heads order : List ℕ) (o : Nameable nodes arguments 
                 named = named-same (word order p);
                 alike = alike-same (word order p);
               };
-              apart = λ q h x y a. f .nothing refl q h (representative-was names (word order p) q h x) (alike-was nodes arguments heads names _ (same q (omega arith)) (same p (omega arith)) a);
+              apart =
+                  λ q h x y a. f .nothing refl q h (representative-was names (word order p) q h x) (alike-was nodes arguments heads names _ (same q (omega arith)) (same p (omega arith)) a);
             });
-            chained = chained-add _ _ _ _ buckets earlier p (representative-kept names (word order p)) (representative-was names (word order p)) (key-at-kept names (word order p)) (s .chained) k itself (key-kept nodes arguments heads names _ (word order p) (same p (omega arith)) ∙ sym e) l (s .buckets-long) (place-inside .0);
+            chained =
+                chained-add _ _ _ _ buckets earlier p (representative-kept names (word order p)) (representative-was names (word order p))
+                (key-at-kept names (word order p)) (s .chained) k itself
+                (key-kept nodes arguments heads names _ (word order p) (same p (omega arith)) ∙ sym e) l (s .buckets-long) (place-inside .0);
           }
 
     -- The same over the values that the code holds: node h, whether it is a variable, its key k and the cursor c.
@@ -203,7 +217,8 @@ module _ (nodes arguments heads order : List ℕ) (o : Nameable nodes arguments 
       node-inside = (rw e (o .node p inside), rw e here)
 
       -- its key, by its place
-      pub key-given : (k : ℕ) → (k ≡ keyOf nodes arguments heads names h) × (k < keys) → (p < length order) × (k ≡ keyOf nodes arguments heads names (word order p)) × (k < keys)
+      pub key-given : (k : ℕ) → (k ≡ keyOf nodes arguments heads names h) × (k < keys) →
+          (p < length order) × (k ≡ keyOf nodes arguments heads names (word order p)) × (k < keys)
       key-given k d = (inside, d .0 ∙ ap (keyOf nodes arguments heads names) e, d .1)
 
       -- a node can be put as its name
@@ -228,17 +243,21 @@ module _ (nodes arguments heads order : List ℕ) (o : Nameable nodes arguments 
                 (l, o .node (c - 1) l)
 
             -- an application for which one is found
-            pub step-found : (c ≡ 0 → ⊥) → (g : ℕ) → g ≡ word order (c - 1) → (ms : List ℕ) → ms ≡ set names h g → Naming nodes arguments heads order ms buckets earlier (p + 1)
+            pub step-found : (c ≡ 0 → ⊥) → (g : ℕ) → g ≡ word order (c - 1) → (ms : List ℕ) → ms ≡ set names h g →
+                Naming nodes arguments heads order ms buckets earlier (p + 1)
             step-found n g a ms b = rw (b, e, a) (naming-found applied c (c - 1) t (omega (arith, n)))
 
             -- an application for which none is found
-            pub step-new : c ≡ 0 → (k : ℕ) → (k ≡ keyOf nodes arguments heads names h) × (k < keys) → (ms bs ls : List ℕ) → ms ≡ set names h h → bs ≡ set buckets k (p + 1) → ls ≡ set earlier p (word buckets k) → Naming nodes arguments heads order ms bs ls (p + 1)
+            pub step-new : c ≡ 0 → (k : ℕ) → (k ≡ keyOf nodes arguments heads names h) × (k < keys) → (ms bs ls : List ℕ) → ms ≡ set names h h →
+                bs ≡ set buckets k (p + 1) → ls ≡ set earlier p (word buckets k) → Naming nodes arguments heads order ms bs ls (p + 1)
             step-new z k b ms bs ls x y w =
                 let a = key-given k b in
                 rw (x, y, w, e) (naming-new applied (rw z at t) k (a .1) (a .2))
 
 -- Before the first place nothing is named, and the table is empty.
-pub naming-start : (nodes arguments heads order names : List ℕ) → Sections nodes arguments → Partition (nodeCount nodes) heads → Nameable nodes arguments heads order → length names ≡ nodeCount nodes → WholeOrder nodes heads order names → Naming nodes arguments heads order names (replicate keys 0) (replicate maxNodes 0) 0
+pub naming-start : (nodes arguments heads order names : List ℕ) → Sections nodes arguments → Partition (nodeCount nodes) heads →
+    Nameable nodes arguments heads order → length names ≡ nodeCount nodes → WholeOrder nodes heads order names →
+    Naming nodes arguments heads order names (replicate keys 0) (replicate maxNodes 0) 0
 naming-start nodes arguments heads order names s p o l w =
     record {
       readable = record { sections = s; partition = p; long = l };
@@ -260,7 +279,8 @@ naming-start nodes arguments heads order names s p o l w =
     }
 
 -- At the end every class is named.
-module _ (nodes arguments heads order names : List ℕ) (o : Nameable nodes arguments heads order) (t : Partition (nodeCount nodes) heads) (w : WholeOrder nodes heads order names) (s : NamedBefore nodes arguments heads order names (length order)) where
+module _ (nodes arguments heads order names : List ℕ) (o : Nameable nodes arguments heads order) (t : Partition (nodeCount nodes) heads)
+    (w : WholeOrder nodes heads order names) (s : NamedBefore nodes arguments heads order names (length order)) where
   -- The class of node i has the name of a representative that is alike.
   record ClassNamed (i : ℕ) : Type 0 where
     place : ℕ
@@ -330,7 +350,9 @@ module _ (nodes arguments heads order names : List ℕ) (o : Nameable nodes argu
       let z = b .bare in
       omega (arith, c, d, z)
 
-  named-composed : (i j : ℕ) → i < nodeCount nodes → j < nodeCount nodes → PlacedOrBare i → PlacedOrBare j → Applied nodes heads i → Applied nodes heads j → Alike nodes arguments heads names (classOf heads i) (classOf heads j) → valueName heads names i ≡ valueName heads names j
+  named-composed : (i j : ℕ) → i < nodeCount nodes → j < nodeCount nodes → PlacedOrBare i → PlacedOrBare j → Applied nodes heads i →
+      Applied nodes heads j → Alike nodes arguments heads names (classOf heads i) (classOf heads j) →
+      valueName heads names i ≡ valueName heads names j
   named-composed i j h l (at p) (at q) n m a =
       let t = class-named i p n in
       let u = class-named j q m in
@@ -351,7 +373,8 @@ module _ (nodes arguments heads order names : List ℕ) (o : Nameable nodes argu
       let y : countOf nodes (word order (x .place)) ≡ 0 = rw d (b .bare) in
       omega (arith, c, y)
 
-  named-apart : (i j : ℕ) → PlacedOrBare i → PlacedOrBare j → Applied nodes heads i → Applied nodes heads j → valueName heads names i ≡ valueName heads names j → Alike nodes arguments heads names (classOf heads i) (classOf heads j)
+  named-apart : (i j : ℕ) → PlacedOrBare i → PlacedOrBare j → Applied nodes heads i → Applied nodes heads j →
+      valueName heads names i ≡ valueName heads names j → Alike nodes arguments heads names (classOf heads i) (classOf heads j)
   named-apart i j (at p) (at q) n m e =
       let t = class-named i p n in
       let u = class-named j q m in
@@ -366,7 +389,8 @@ module _ (nodes arguments heads order names : List ℕ) (o : Nameable nodes argu
   named-earlier : NamedEarlier order names
   named-earlier = record { earlier = λ q l. go q l (ℕ-discrete (kindOf nodes (word order q)) 0) }
     where
-      go : (q : ℕ) → q < length order → Dec (kindOf nodes (word order q) ≡ 0) → (r : ℕ) × (r ≤ q) × (word names (word order q) ≡ word order r) × (word names (word order r) ≡ word order r)
+      go : (q : ℕ) → q < length order → Dec (kindOf nodes (word order q) ≡ 0) →
+          (r : ℕ) × (r ≤ q) × (word names (word order q) ≡ word order r) × (word names (word order r) ≡ word order r)
       go q l (yes k) = (q, omega arith, s .variable q l k, s .variable q l k)
       go q l (no n) =
           let r = s .application q l n in
@@ -398,7 +422,9 @@ module _ (nodes arguments heads order names : List ℕ) (o : Nameable nodes argu
       like i (outside b) n = rw (b .itself) (alike-same (classOf heads i))
 
 -- so it is where the last place is passed
-pub naming-end : (nodes arguments heads order names buckets earlier : List ℕ) (p : ℕ) → Naming nodes arguments heads order names buckets earlier p → p ≤ length order → length order ≤ p → NamedAlong nodes arguments heads order names
+pub naming-end : (nodes arguments heads order names buckets earlier : List ℕ) (p : ℕ) →
+    Naming nodes arguments heads order names buckets earlier p → p ≤ length order → length order ≤ p →
+    NamedAlong nodes arguments heads order names
 naming-end nodes arguments heads order names buckets earlier p s l m =
     let e : p ≡ length order = omega arith in
     named-end nodes arguments heads order names (s .ordered) (s .readable .partition) (s .whole) (rw e at (s .named))

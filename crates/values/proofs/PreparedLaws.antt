@@ -73,7 +73,8 @@ module _ (P : ℕ → Type 0) (start : ℕ) (prepared : List ℕ) (count i : ℕ
       }
 
   -- a number with it is put behind the others
-  gathered-put : (prepared′ : List ℕ) → P i → ((p : ℕ) → p < count → word prepared′ (start + p) ≡ word prepared (start + p)) → word prepared′ (start + count) ≡ i → Gathered P start prepared′ (count + 1) (i + 1)
+  gathered-put : (prepared′ : List ℕ) → P i → ((p : ℕ) → p < count → word prepared′ (start + p) ≡ word prepared (start + p)) →
+      word prepared′ (start + count) ≡ i → Gathered P start prepared′ (count + 1) (i + 1)
   gathered-put prepared′ here kept put =
       let f = g .few in
       record {
@@ -121,7 +122,8 @@ open-none counts prepared =
 
 module _ (counts prepared₀ prepared : List ℕ) (count i : ℕ) (o : OpenBefore counts prepared₀ prepared count i) where
   -- a node that is none
-  pub open-skip : word counts i ≡ 0 → {prepared′ : List ℕ} {count′ : ℕ} → prepared′ ≡ prepared → count′ ≡ count → OpenBefore counts prepared₀ prepared′ count′ (i + 1)
+  pub open-skip : word counts i ≡ 0 → {prepared′ : List ℕ} {count′ : ℕ} → prepared′ ≡ prepared → count′ ≡ count →
+      OpenBefore counts prepared₀ prepared′ count′ (i + 1)
   open-skip e x y =
       rw (x, y)
       (record {
@@ -132,19 +134,25 @@ module _ (counts prepared₀ prepared : List ℕ) (count i : ℕ) (o : OpenBefor
       })
 
   -- one that is
-  pub open-put : (word counts i ≡ 0 → ⊥) → length prepared₀ ≡ preparedWords → count < maxNodes → {prepared′ : List ℕ} {count′ : ℕ} → prepared′ ≡ set prepared (512 + count) i → count′ ≡ count + 1 → OpenBefore counts prepared₀ prepared′ count′ (i + 1)
+  pub open-put : (word counts i ≡ 0 → ⊥) → length prepared₀ ≡ preparedWords → count < maxNodes → {prepared′ : List ℕ} {count′ : ℕ} →
+      prepared′ ≡ set prepared (512 + count) i → count′ ≡ count + 1 → OpenBefore counts prepared₀ prepared′ count′ (i + 1)
   open-put n l c x y =
       let s = o .size in
       rw (x, y)
       (record {
         size = length-set prepared (512 + count) i ∙ o .size;
-        gathered = gathered-put (IsOpen counts) 512 prepared count i (o .gathered) (set prepared (512 + count) i) (omega (arith, n)) (λ p h. getD-set-other prepared (512 + count) (512 + p) i 0 (λ z. omega (arith, z, h))) (getD-set-same prepared (512 + count) i 0 (omega (arith, s, l, c)));
+        gathered =
+            gathered-put (IsOpen counts) 512 prepared count i (o .gathered) (set prepared (512 + count) i) (omega (arith, n))
+            (λ p h. getD-set-other prepared (512 + count) (512 + p) i 0 (λ z. omega (arith, z, h)))
+            (getD-set-same prepared (512 + count) i 0 (omega (arith, s, l, c)));
         before = λ k h. getD-set-other prepared (512 + count) k i 0 (λ z. omega (arith, z, h)) ∙ o .before k h;
         behind = λ k h. getD-set-other prepared (512 + count) k i 0 (λ z. omega (arith, z, h, c)) ∙ o .behind k h;
       })
 
 -- the open applications of all nodes
-pub open-all : (nodes arguments counts prepared₀ prepared : List ℕ) (count i n : ℕ) → Sections nodes arguments → Counts nodes arguments counts (nodeCount nodes) → length prepared₀ ≡ preparedWords → n ≡ nodeCount nodes → n ≤ maxNodes → i ≤ n → n ≤ i → OpenBefore counts prepared₀ prepared count i → ListsOpen nodes counts prepared₀ count prepared
+pub open-all : (nodes arguments counts prepared₀ prepared : List ℕ) (count i n : ℕ) → Sections nodes arguments →
+    Counts nodes arguments counts (nodeCount nodes) → length prepared₀ ≡ preparedWords → n ≡ nodeCount nodes → n ≤ maxNodes → i ≤ n → n ≤ i →
+    OpenBefore counts prepared₀ prepared count i → ListsOpen nodes counts prepared₀ count prepared
 open-all nodes arguments counts prepared₀ prepared count i n s c l e m a b o =
     record {
       size = o .size;
@@ -174,17 +182,22 @@ open-all nodes arguments counts prepared₀ prepared count i n s c l e m a b o =
 
     applied : (p : ℕ) → p < count → kindOf nodes (word prepared (512 + p)) ≡ 0 → ⊥
     applied p h =
-        counted-application nodes arguments s (word prepared (512 + p)) 0 (node p h) (looked-at c (word prepared (512 + p)) 0 (node p h) (o .gathered .has p h))
+        counted-application nodes arguments s (word prepared (512 + p)) 0 (node p h)
+        (looked-at c (word prepared (512 + p)) 0 (node p h) (o .gathered .has p h))
 
 -- the key of a node depends on the names of its arguments
-key-same-up-to : (nodes arguments heads heads′ names names′ : List ℕ) (h : ℕ) → ((j : ℕ) → j < countOf nodes h → valueName heads′ names′ (argumentOf nodes arguments h j) ≡ valueName heads names (argumentOf nodes arguments h j)) → (j : ℕ) → j ≤ countOf nodes h → keyUpTo nodes arguments heads′ names′ h j ≡ keyUpTo nodes arguments heads names h j
+key-same-up-to : (nodes arguments heads heads′ names names′ : List ℕ) (h : ℕ) →
+    ((j : ℕ) → j < countOf nodes h → valueName heads′ names′ (argumentOf nodes arguments h j) ≡ valueName heads names (argumentOf nodes arguments h j)) →
+    (j : ℕ) → j ≤ countOf nodes h → keyUpTo nodes arguments heads′ names′ h j ≡ keyUpTo nodes arguments heads names h j
 unfolding keyUpTo
 key-same-up-to nodes arguments heads heads′ names names′ h s zero l = refl
 key-same-up-to nodes arguments heads heads′ names names′ h s (suc j) l =
     rw (key-same-up-to nodes arguments heads heads′ names names′ h s j (omega arith), s j (omega arith))
 
 -- so it is the same where these are
-key-same : (nodes arguments heads heads′ names names′ : List ℕ) (h : ℕ) → ((j : ℕ) → j < countOf nodes h → valueName heads′ names′ (argumentOf nodes arguments h j) ≡ valueName heads names (argumentOf nodes arguments h j)) → keyOf nodes arguments heads′ names′ h ≡ keyOf nodes arguments heads names h
+key-same : (nodes arguments heads heads′ names names′ : List ℕ) (h : ℕ) →
+    ((j : ℕ) → j < countOf nodes h → valueName heads′ names′ (argumentOf nodes arguments h j) ≡ valueName heads names (argumentOf nodes arguments h j)) →
+    keyOf nodes arguments heads′ names′ h ≡ keyOf nodes arguments heads names h
 unfolding keyOf
 key-same nodes arguments heads heads′ names names′ h s =
     key-same-up-to nodes arguments heads heads′ names names′ h s (countOf nodes h) (omega arith)
@@ -206,7 +219,8 @@ pub record IsClosedHead (nodes counts heads : List ℕ) (i : ℕ) : Type 0 where
   pub own : classOf heads i ≡ i
 
 -- the test says so
-head-true : (nodes counts heads : List ℕ) (i : ℕ) → i < nodeCount nodes → closedHeadTest nodes counts heads i ≡ true → IsClosedHead nodes counts heads i
+head-true : (nodes counts heads : List ℕ) (i : ℕ) → i < nodeCount nodes → closedHeadTest nodes counts heads i ≡ true →
+    IsClosedHead nodes counts heads i
 unfolding closedHeadTest
 head-true nodes counts heads i h e =
     let a = and-true-left (closedTest nodes counts i && not (eqb (countOf nodes i) 0)) (eqb (classOf heads i) i) e in
@@ -222,19 +236,24 @@ head-false : (nodes counts heads : List ℕ) (i : ℕ) → closedHeadTest nodes 
 unfolding closedHeadTest
 head-false nodes counts heads i e m =
     let c = m .compound in
-    false≢true (sym e ∙ rw (closed-test nodes counts i (m .is-closed), ne-eqb (countOf nodes i) 0 (λ z. omega (arith, z, c)), eq-eqb (classOf heads i) i (m .own)))
+    false≢true
+    (sym e ∙ rw (closed-test nodes counts i (m .is-closed), ne-eqb (countOf nodes i) 0 (λ z. omega (arith, z, c)), eq-eqb (classOf heads i) i (m .own)))
 
 -- what the words are after a closed application was noted: the key is below the place that is written first
-pub noted-read : (nodes arguments heads names prepared : List ℕ) (place i k : ℕ) → k ≡ keyOf nodes arguments heads names i → k < keys → set (set (set prepared (768 + place) i) (256 + place) (word (set prepared (768 + place) i) k)) k (place + 1) ≡ closedNoted nodes arguments heads names prepared place i
+pub noted-read : (nodes arguments heads names prepared : List ℕ) (place i k : ℕ) → k ≡ keyOf nodes arguments heads names i → k < keys →
+    set (set (set prepared (768 + place) i) (256 + place) (word (set prepared (768 + place) i) k)) k (place + 1) ≡ closedNoted nodes arguments heads names prepared place i
 unfolding closedNoted
 noted-read nodes arguments heads names prepared place i k e h =
-    ap (λ (x : ℕ). set (set (set prepared (768 + place) i) (256 + place) x) k (place + 1)) (getD-set-other prepared (768 + place) k i 0 (λ z. omega (arith, z, h))) ∙ rw e refl
+    ap (λ (x : ℕ). set (set (set prepared (768 + place) i) (256 + place) x) k (place + 1))
+    (getD-set-other prepared (768 + place) k i 0 (λ z. omega (arith, z, h)))
+    ∙ rw e refl
 
 -- a representative depends on the node at its place
 representative-same : (nodes l l′ names : List ℕ) (q : ℕ) → word l′ q ≡ word l q → Representative nodes l names q → Representative nodes l′ names q
 representative-same nodes l l′ names q e r = record { application = rw e (r .application); itself = rw e (r .itself) }
 
-key-at-same : (nodes arguments heads l l′ names : List ℕ) (q : ℕ) → word l′ q ≡ word l q → keyAt nodes arguments heads l′ names q ≡ keyAt nodes arguments heads l names q
+key-at-same : (nodes arguments heads l l′ names : List ℕ) (q : ℕ) → word l′ q ≡ word l q →
+    keyAt nodes arguments heads l′ names q ≡ keyAt nodes arguments heads l names q
 unfolding keyAt
 key-at-same nodes arguments heads l l′ names q e = ap (keyOf nodes arguments heads names) e
 
@@ -242,11 +261,14 @@ key-at-same nodes arguments heads l l′ names q e = ap (keyOf nodes arguments h
 pub record ClosedBefore (nodes arguments counts heads prepared₀ prepared : List ℕ) (count i : ℕ) : Type 0 where
   pub size : length prepared ≡ length prepared₀
   pub gathered : Gathered (IsClosedHead nodes counts heads) 768 prepared count i
-  pub chained : (names : List ℕ) → length names ≡ nodeCount nodes → Themselves names → Chained (Representative nodes (take count (drop 768 prepared)) names) (keyAt nodes arguments heads (take count (drop 768 prepared)) names) (take 256 prepared) (take 256 (drop 256 prepared)) count
+  pub chained : (names : List ℕ) → length names ≡ nodeCount nodes → Themselves names →
+      Chained (Representative nodes (take count (drop 768 prepared)) names) (keyAt nodes arguments heads (take count (drop 768 prepared)) names)
+      (take 256 prepared) (take 256 (drop 256 prepared)) count
   pub open-kept : (k : ℕ) → 512 ≤ k → k < 768 → word prepared k ≡ word prepared₀ k
 
 -- at first there are none
-pub closed-list-none : (nodes arguments counts heads prepared : List ℕ) → ((k : ℕ) → k < 256 → word prepared k ≡ 0) → ClosedBefore nodes arguments counts heads prepared prepared 0 0
+pub closed-list-none : (nodes arguments counts heads prepared : List ℕ) → ((k : ℕ) → k < 256 → word prepared k ≡ 0) →
+    ClosedBefore nodes arguments counts heads prepared prepared 0 0
 closed-list-none nodes arguments counts heads prepared z =
     record {
       size = refl;
@@ -263,9 +285,11 @@ closed-list-none nodes arguments counts heads prepared z =
       open-kept = λ k h l. refl;
     }
 
-module _ (nodes arguments counts heads prepared₀ prepared : List ℕ) (count i : ℕ) (o : ClosedBefore nodes arguments counts heads prepared₀ prepared count i) where
+module _ (nodes arguments counts heads prepared₀ prepared : List ℕ) (count i : ℕ)
+    (o : ClosedBefore nodes arguments counts heads prepared₀ prepared count i) where
   -- a node that is none
-  pub closed-list-skip : (v : Bool) → v ≡ closedHeadTest nodes counts heads i → v ≡ false → {prepared′ : List ℕ} {count′ : ℕ} → prepared′ ≡ prepared → count′ ≡ count → ClosedBefore nodes arguments counts heads prepared₀ prepared′ count′ (i + 1)
+  pub closed-list-skip : (v : Bool) → v ≡ closedHeadTest nodes counts heads i → v ≡ false → {prepared′ : List ℕ} {count′ : ℕ} →
+      prepared′ ≡ prepared → count′ ≡ count → ClosedBefore nodes arguments counts heads prepared₀ prepared′ count′ (i + 1)
   closed-list-skip v e f x y =
       rw (x, y)
       (record {
@@ -275,7 +299,8 @@ module _ (nodes arguments counts heads prepared₀ prepared : List ℕ) (count i
         open-kept = o .open-kept;
       })
 
-  module _ (names : List ℕ) (p : Partition (nodeCount nodes) heads) (s : Sections nodes arguments) (long : length names ≡ nodeCount nodes) (themselves : Themselves names) (h : i < nodeCount nodes) (l : length prepared₀ ≡ preparedWords) (few : count < maxNodes) where
+  module _ (names : List ℕ) (p : Partition (nodeCount nodes) heads) (s : Sections nodes arguments) (long : length names ≡ nodeCount nodes)
+      (themselves : Themselves names) (h : i < nodeCount nodes) (l : length prepared₀ ≡ preparedWords) (few : count < maxNodes) where
     abbrev k : ℕ
     k = keyOf nodes arguments heads names i
 
@@ -297,7 +322,8 @@ module _ (nodes arguments counts heads prepared₀ prepared : List ℕ) (count i
 
     noted-here : word noted (768 + count) ≡ i
     noted-here =
-        getD-set-other (set (set prepared (768 + count) i) (256 + count) (word prepared k)) k (768 + count) (count + 1) 0 (λ z. omega (arith, z, small))
+        getD-set-other (set (set prepared (768 + count) i) (256 + count) (word prepared k)) k (768 + count) (count + 1) 0
+        (λ z. omega (arith, z, small))
         ∙ getD-set-other (set prepared (768 + count) i) (256 + count) (768 + count) (word prepared k) 0 (λ z. omega (arith, z))
         ∙ getD-set-same prepared (768 + count) i 0 (omega (arith, size, few))
 
@@ -316,11 +342,13 @@ module _ (nodes arguments counts heads prepared₀ prepared : List ℕ) (count i
     noted-buckets : take 256 noted ≡ set (take 256 prepared) k (count + 1)
     noted-buckets =
         take-set-lt 256 (set (set prepared (768 + count) i) (256 + count) (word prepared k)) k (count + 1) small
-        ∙ ap (λ (t : List ℕ). set t k (count + 1)) (take-set-le 256 (set prepared (768 + count) i) (256 + count) (word prepared k) (omega arith) ∙ take-set-le 256 prepared (768 + count) i (omega arith))
+        ∙ ap (λ (t : List ℕ). set t k (count + 1))
+        (take-set-le 256 (set prepared (768 + count) i) (256 + count) (word prepared k) (omega arith) ∙ take-set-le 256 prepared (768 + count) i (omega arith))
 
     noted-earlier : take 256 (drop 256 noted) ≡ set (take 256 (drop 256 prepared)) count (word (take 256 prepared) k)
     noted-earlier =
-        ap (take 256) (drop-set-lt 256 (set (set prepared (768 + count) i) (256 + count) (word prepared k)) k (count + 1) small ∙ drop-set-add 256 (set prepared (768 + count) i) count (word prepared k))
+        ap (take 256)
+        (drop-set-lt 256 (set (set prepared (768 + count) i) (256 + count) (word prepared k)) k (count + 1) small ∙ drop-set-add 256 (set prepared (768 + count) i) count (word prepared k))
         ∙ take-set-lt 256 (drop 256 (set prepared (768 + count) i)) count (word prepared k) few
         ∙ ap (λ (t : List ℕ). set t count (word prepared k)) far
         ∙ ap (set (take 256 (drop 256 prepared)) count) (sym (getD-take 256 prepared k 0 small))
@@ -337,10 +365,13 @@ module _ (nodes arguments counts heads prepared₀ prepared : List ℕ) (count i
         (λ j q.
         let a = s .smaller i j h q in
         let b = p .below (argumentOf nodes arguments i j) (omega (arith, a, h)) in
-        t .itself (classOf heads (argumentOf nodes arguments i j)) (omega (arith, b, m)) ∙ sym (themselves .itself (classOf heads (argumentOf nodes arguments i j)) (omega (arith, b, long))))
+        t .itself (classOf heads (argumentOf nodes arguments i j)) (omega (arith, b, m))
+        ∙ sym (themselves .itself (classOf heads (argumentOf nodes arguments i j)) (omega (arith, b, long))))
 
     -- one more is put into the table
-    chained-put : IsClosedHead nodes counts heads i → (names′ : List ℕ) → length names′ ≡ nodeCount nodes → Themselves names′ → Chained (Representative nodes (take (count + 1) (drop 768 noted)) names′) (keyAt nodes arguments heads (take (count + 1) (drop 768 noted)) names′) (take 256 noted) (take 256 (drop 256 noted)) (count + 1)
+    chained-put : IsClosedHead nodes counts heads i → (names′ : List ℕ) → length names′ ≡ nodeCount nodes → Themselves names′ →
+        Chained (Representative nodes (take (count + 1) (drop 768 noted)) names′)
+        (keyAt nodes arguments heads (take (count + 1) (drop 768 noted)) names′) (take 256 noted) (take 256 (drop 256 noted)) (count + 1)
     unfolding keyAt
     chained-put c names′ m t =
         rw (noted-buckets, noted-earlier)
@@ -353,20 +384,28 @@ module _ (nodes arguments counts heads prepared₀ prepared : List ℕ) (count i
         after = take (count + 1) (drop 768 noted)
 
     -- one that is
-    pub closed-list-put : (v : Bool) → v ≡ closedHeadTest nodes counts heads i → v ≡ true → (after : List ℕ) → after ≡ closedNoted nodes arguments heads names prepared count i → {prepared′ : List ℕ} {count′ : ℕ} → prepared′ ≡ after → count′ ≡ count + 1 → ClosedBefore nodes arguments counts heads prepared₀ prepared′ count′ (i + 1)
+    pub closed-list-put : (v : Bool) → v ≡ closedHeadTest nodes counts heads i → v ≡ true → (after : List ℕ) →
+        after ≡ closedNoted nodes arguments heads names prepared count i → {prepared′ : List ℕ} {count′ : ℕ} → prepared′ ≡ after →
+        count′ ≡ count + 1 → ClosedBefore nodes arguments counts heads prepared₀ prepared′ count′ (i + 1)
     unfolding closedNoted
     closed-list-put v e f after d x y =
         let c = head-true nodes counts heads i h (sym e ∙ f) in
         rw (x, y, d)
         (record {
-          size = length-set (set (set prepared (768 + count) i) (256 + count) (word prepared k)) k (count + 1) ∙ length-set (set prepared (768 + count) i) (256 + count) (word prepared k) ∙ length-set prepared (768 + count) i ∙ o .size;
+          size =
+              length-set (set (set prepared (768 + count) i) (256 + count) (word prepared k)) k (count + 1)
+              ∙ length-set (set prepared (768 + count) i) (256 + count) (word prepared k)
+              ∙ length-set prepared (768 + count) i
+              ∙ o .size;
           gathered = gathered-put (IsClosedHead nodes counts heads) 768 prepared count i (o .gathered) noted c noted-list noted-here;
           chained = chained-put c;
           open-kept = λ m a b. noted-other m (λ z. omega (arith, z, b)) (λ z. omega (arith, z, a, few)) (λ z. omega (arith, z, a, small)) ∙ o .open-kept m a b;
         })
 
 -- the closed applications of all nodes
-pub closed-list-all : (nodes arguments counts heads prepared₀ prepared : List ℕ) (count i n : ℕ) → length prepared₀ ≡ preparedWords → n ≡ nodeCount nodes → n ≤ maxNodes → i ≤ n → n ≤ i → ClosedBefore nodes arguments counts heads prepared₀ prepared count i → ListsClosed nodes arguments counts heads prepared₀ count prepared
+pub closed-list-all : (nodes arguments counts heads prepared₀ prepared : List ℕ) (count i n : ℕ) → length prepared₀ ≡ preparedWords →
+    n ≡ nodeCount nodes → n ≤ maxNodes → i ≤ n → n ≤ i → ClosedBefore nodes arguments counts heads prepared₀ prepared count i →
+    ListsClosed nodes arguments counts heads prepared₀ count prepared
 closed-list-all nodes arguments counts heads prepared₀ prepared count i n l e m a b o =
     record {
       size = o .size;
@@ -411,18 +450,22 @@ pub zeros-long : (prepared : List ℕ) → prepared ≡ replicate preparedWords 
 zeros-long prepared e = ap length e ∙ length-replicate {A = ℕ} preparedWords 0
 
 -- before anything is listed the words are all 0
-pub prepared-zero : (prepared₀ nodes counts prepared : List ℕ) (r : ℕ) → prepared₀ ≡ replicate preparedWords 0 → ListsOpen nodes counts prepared₀ r prepared → (length prepared ≡ preparedWords) × ((k : ℕ) → k < 256 → word prepared k ≡ 0)
+pub prepared-zero : (prepared₀ nodes counts prepared : List ℕ) (r : ℕ) → prepared₀ ≡ replicate preparedWords 0 →
+    ListsOpen nodes counts prepared₀ r prepared → (length prepared ≡ preparedWords) × ((k : ℕ) → k < 256 → word prepared k ≡ 0)
 prepared-zero prepared₀ nodes counts prepared r e o =
     (o .size ∙ zeros-long prepared₀ e, λ k h. o .before k (omega arith) ∙ ap (λ (t : List ℕ). word t k) e ∙ getD-replicate {A = ℕ} preparedWords k 0 0 (omega arith))
 
 -- the places of the two counts
-pub count-places : (nodes arguments counts heads prepared₀ opened prepared : List ℕ) (r c : ℕ) → prepared₀ ≡ replicate preparedWords 0 → ListsOpen nodes counts prepared₀ r opened → ListsClosed nodes arguments counts heads opened c prepared → (1024 < length prepared) × (1025 < length (set prepared 1024 r))
+pub count-places : (nodes arguments counts heads prepared₀ opened prepared : List ℕ) (r c : ℕ) → prepared₀ ≡ replicate preparedWords 0 →
+    ListsOpen nodes counts prepared₀ r opened → ListsClosed nodes arguments counts heads opened c prepared →
+    (1024 < length prepared) × (1025 < length (set prepared 1024 r))
 count-places nodes arguments counts heads prepared₀ opened prepared r c e o d =
     let z : length prepared ≡ preparedWords = d .size ∙ o .size ∙ zeros-long prepared₀ e in
     let y = length-set prepared 1024 r in
     (omega (arith, z), omega (arith, z, y))
 
-module _ (nodes arguments counts heads prepared₀ opened prepared : List ℕ) (r c : ℕ) (l : length prepared₀ ≡ preparedWords) (o : ListsOpen nodes counts prepared₀ r opened) (d : ListsClosed nodes arguments counts heads opened c prepared) where
+module _ (nodes arguments counts heads prepared₀ opened prepared : List ℕ) (r c : ℕ) (l : length prepared₀ ≡ preparedWords)
+    (o : ListsOpen nodes counts prepared₀ r opened) (d : ListsClosed nodes arguments counts heads opened c prepared) where
   abbrev full : List ℕ
   full = set (set prepared 1024 r) 1025 c
 
@@ -443,7 +486,10 @@ module _ (nodes arguments counts heads prepared₀ opened prepared : List ℕ) (
   part-full start n h =
       let e : 1025 ≡ start + (1025 - start) = omega arith in
       let f : 1024 ≡ start + (1024 - start) = omega arith in
-      ap (λ (i : ℕ). take n (drop start (set (set prepared 1024 r) i c))) e ∙ part-before start n (1025 - start) c (set prepared 1024 r) (omega arith) ∙ ap (λ (i : ℕ). take n (drop start (set prepared i r))) f ∙ part-before start n (1024 - start) r prepared (omega arith)
+      ap (λ (i : ℕ). take n (drop start (set (set prepared 1024 r) i c))) e
+      ∙ part-before start n (1025 - start) c (set prepared 1024 r) (omega arith)
+      ∙ ap (λ (i : ℕ). take n (drop start (set prepared i r))) f
+      ∙ part-before start n (1024 - start) r prepared (omega arith)
 
   -- the open ones stay listed
   opens-kept : take r (drop 512 prepared) ≡ take r (drop 512 opened)
@@ -506,13 +552,18 @@ chained-kept rep old new buckets earlier p e s =
     }
 
 -- so do the keys of closed applications that keep their heads
-kept-key : (nodes arguments counts heads heads′ l : List ℕ) → Counts nodes arguments counts (nodeCount nodes) → KeepsClosed nodes counts heads heads′ → (names : List ℕ) (q : ℕ) → IsClosed nodes counts (word l q) → keyAt nodes arguments heads′ l names q ≡ keyAt nodes arguments heads l names q
+kept-key : (nodes arguments counts heads heads′ l : List ℕ) → Counts nodes arguments counts (nodeCount nodes) →
+    KeepsClosed nodes counts heads heads′ → (names : List ℕ) (q : ℕ) → IsClosed nodes counts (word l q) →
+    keyAt nodes arguments heads′ l names q ≡ keyAt nodes arguments heads l names q
 unfolding keyAt
 kept-key nodes arguments counts heads heads′ l c k names q m =
-    key-same nodes arguments heads heads′ names names (word l q) (λ j b. ap (word names) (k (argumentOf nodes arguments (word l q) j) (c .below (word l q) (m .node) m j b)))
+    key-same nodes arguments heads heads′ names names (word l q)
+    (λ j b. ap (word names) (k (argumentOf nodes arguments (word l q) j) (c .below (word l q) (m .node) m j b)))
 
 -- what is prepared stays right where closed applications keep their heads
-pub prepared-kept : (nodes arguments counts heads heads′ prepared : List ℕ) → Sections nodes arguments → Counts nodes arguments counts (nodeCount nodes) → KeepsClosed nodes counts heads heads′ → Prepared nodes arguments counts heads prepared → Prepared nodes arguments counts heads′ prepared
+pub prepared-kept : (nodes arguments counts heads heads′ prepared : List ℕ) → Sections nodes arguments →
+    Counts nodes arguments counts (nodeCount nodes) → KeepsClosed nodes counts heads heads′ → Prepared nodes arguments counts heads prepared →
+    Prepared nodes arguments counts heads′ prepared
 prepared-kept nodes arguments counts heads heads′ prepared s c k (nothing e n) = nothing e n
 prepared-kept nodes arguments counts heads heads′ prepared s c k (with-open f) =
     with-open
@@ -531,7 +582,8 @@ prepared-kept nodes arguments counts heads heads′ prepared s c k (with-open f)
       closed-table = record {
         buckets-long = t .buckets-long;
         earlier-long = t .earlier-long;
-        chained = λ names a b. chained-kept (Representative nodes (closedIn prepared) names) (keyAt nodes arguments heads (closedIn prepared) names) (keyAt nodes arguments heads′ (closedIn prepared) names) (bucketsIn prepared) (earlierIn prepared) (length (closedIn prepared)) (λ q h. kept-key nodes arguments counts heads heads′ (closedIn prepared) c k names q (l .is-closed q h)) (t .chained names a b);
+        chained =
+            λ names a b. chained-kept (Representative nodes (closedIn prepared) names) (keyAt nodes arguments heads (closedIn prepared) names) (keyAt nodes arguments heads′ (closedIn prepared) names) (bucketsIn prepared) (earlierIn prepared) (length (closedIn prepared)) (λ q h. kept-key nodes arguments counts heads heads′ (closedIn prepared) c k names q (l .is-closed q h)) (t .chained names a b);
       };
     })
   where

@@ -46,12 +46,16 @@ use Rattle.values.proofs.StartLaws.{below, itself, start-partition, sta
 use Rattle.values.proofs.NamedLaws.{named-valued}
 
 -- one more node has the name of its head
-pub shared-next : (starts names heads : List ℕ) (i : ℕ) → i < length heads → ((k : ℕ) → k < i → word heads k ≡ word names (word starts k)) → (k : ℕ) → k < i + 1 → word (set heads i (word names (word starts i))) k ≡ word names (word starts k)
+pub shared-next : (starts names heads : List ℕ) (i : ℕ) → i < length heads → ((k : ℕ) → k < i → word heads k ≡ word names (word starts k)) →
+    (k : ℕ) → k < i + 1 → word (set heads i (word names (word starts i))) k ≡ word names (word starts k)
 shared-next starts names heads i h s =
-    below-more (λ k. word (set heads i (word names (word starts i))) k ≡ word names (word starts k)) i (λ k l. getD-set-other heads i k (word names (word starts i)) 0 (λ z. omega (arith, l, z)) ∙ s k l) (getD-set-same heads i (word names (word starts i)) 0 h)
+    below-more (λ k. word (set heads i (word names (word starts i))) k ≡ word names (word starts k)) i
+    (λ k l. getD-set-other heads i k (word names (word starts i)) 0 (λ z. omega (arith, l, z)) ∙ s k l)
+    (getD-set-same heads i (word names (word starts i)) 0 h)
 
 -- all have
-pub shared-all : (starts names heads : List ℕ) (i : ℕ) → length starts ≡ length heads → length starts ≤ i → ((k : ℕ) → k < i → word heads k ≡ word names (word starts k)) → heads ≡ map (word names) starts
+pub shared-all : (starts names heads : List ℕ) (i : ℕ) → length starts ≡ length heads → length starts ≤ i →
+    ((k : ℕ) → k < i → word heads k ≡ word names (word starts k)) → heads ≡ map (word names) starts
 shared-all starts names heads i l m s =
     ext-getD 0 heads (map (word names) starts) (sym l ∙ sym (length-map starts (word names)))
     (λ k h. s k (omega arith) ∙ sym (map-at (word names) starts k (omega arith)))
@@ -67,7 +71,8 @@ named-inside n starts names p l =
     }
 
 -- Heads that are not above their nodes: those that have arguments that are looked at, in rising order.
-module _ (nodes arguments : List ℕ) (s : Sections nodes arguments) (counts : List ℕ) (c : Counts nodes arguments counts (nodeCount nodes)) (starts : List ℕ) (p : Partition (nodeCount nodes) starts) (low : (i : ℕ) → i < nodeCount nodes → classOf starts i ≤ i) where
+module _ (nodes arguments : List ℕ) (s : Sections nodes arguments) (counts : List ℕ) (c : Counts nodes arguments counts (nodeCount nodes))
+    (starts : List ℕ) (p : Partition (nodeCount nodes) starts) (low : (i : ℕ) → i < nodeCount nodes → classOf starts i ≤ i) where
   -- Whether node i is its own head and has such arguments.
   dueHead : ℕ → Bool
   dueHead i = eqb (classOf starts i) i && ltb 0 (word counts i)
@@ -99,10 +104,12 @@ module _ (nodes arguments : List ℕ) (s : Sections nodes arguments) (counts : L
   head-at : (i : ℕ) → i < nodeCount nodes → 0 < word counts (classOf starts i) → (q : ℕ) × (q < length rising) × (classOf starts i ≡ word rising q)
   unfolding rising dueHead
   head-at i h d =
-      member-place rising (classOf starts i) (selected-member dueHead (nodeCount nodes) (classOf starts i) (p .below i h) (rw (eq-eqb (classOf starts (classOf starts i)) (classOf starts i) (p .own i h), lt-ltb 0 (word counts (classOf starts i)) d)))
+      member-place rising (classOf starts i)
+      (selected-member dueHead (nodeCount nodes) (classOf starts i) (p .below i h) (rw (eq-eqb (classOf starts (classOf starts i)) (classOf starts i) (p .own i h), lt-ltb 0 (word counts (classOf starts i)) d)))
 
   -- a head is met before every place that it must be before
-  head-met : (i r : ℕ) → i < nodeCount nodes → ((q : ℕ) → q < length rising → classOf starts i ≡ word rising q → q < r) → Met (word counts) rising r (classOf starts i)
+  head-met : (i r : ℕ) → i < nodeCount nodes → ((q : ℕ) → q < length rising → classOf starts i ≡ word rising q → q < r) →
+      Met (word counts) rising r (classOf starts i)
   head-met i r h b = go (ℕ-discrete (word counts (classOf starts i)) 0)
     where
       go : Dec (word counts (classOf starts i) ≡ 0) → Met (word counts) rising r (classOf starts i)
@@ -130,7 +137,9 @@ module _ (nodes arguments : List ℕ) (s : Sections nodes arguments) (counts : L
       }
 
 -- Classes of no pair, and the names of their values.
-module _ (nodes arguments : List ℕ) (s : Sections nodes arguments) (starts order : List ℕ) (l : length starts ≡ nodeCount nodes) (d : length order ≡ nodeCount nodes) (t : Started nodes arguments starts order (nodeCount nodes)) (names : List ℕ) (m : NamedAlong nodes arguments starts order names) where
+module _ (nodes arguments : List ℕ) (s : Sections nodes arguments) (starts order : List ℕ) (l : length starts ≡ nodeCount nodes)
+    (d : length order ≡ nodeCount nodes) (t : Started nodes arguments starts order (nodeCount nodes)) (names : List ℕ)
+    (m : NamedAlong nodes arguments starts order names) where
   abbrev ns : List Node
   ns = nodesFrom nodes arguments
 
@@ -154,15 +163,19 @@ module _ (nodes arguments : List ℕ) (s : Sections nodes arguments) (starts ord
   enough i h = is-node nodes arguments (classOf starts i) (p .below i (counted nodes arguments i h))
 
   -- the values that no pair gives, by names
-  by-name : (i j : ℕ) → i < length ns → j < length ns → value ns (solution (length ns) ns (classOf starts)) i ≡ value ns (solution (length ns) ns (classOf starts)) j ↔ (name i ≡ name j)
+  by-name : (i j : ℕ) → i < length ns → j < length ns →
+      value ns (solution (length ns) ns (classOf starts)) i ≡ value ns (solution (length ns) ns (classOf starts)) j ↔ (name i ≡ name j)
   by-name =
-      values-named ns w [] none (classOf starts) (λ i. i) (start-solved nodes arguments s starts order l t) (length ns) enough name (named-valued nodes arguments starts names s p (m .named))
+      values-named ns w [] none (classOf starts) (λ i. i) (start-solved nodes arguments s starts order l t) (length ns) enough name
+      (named-valued nodes arguments starts names s p (m .named))
 
   -- every substitution comes after the one that no pair gives
   after : (i : ℕ) → i < length ns → termOf ns i ≡ sub var (value ns (solution (length ns) ns (classOf starts)) i)
   after i h =
       sym (sub-var (termOf ns i))
-      ∙ value-after ns w (solution (length ns) ns (classOf starts)) var var (solution-first ns w [] none (classOf starts) (λ i. i) (start-solved nodes arguments s starts order l t) (length ns) enough var (λ a b m. absurd (List·Memᴰ·not-nil m))) i h
+      ∙ value-after ns w (solution (length ns) ns (classOf starts)) var var
+      (solution-first ns w [] none (classOf starts) (λ i. i) (start-solved nodes arguments s starts order l t) (length ns) enough var (λ a b m. absurd (List·Memᴰ·not-nil m)))
+      i h
 
   -- nodes with one name have one term
   one-term : (i j : ℕ) → i < length ns → j < length ns → name i ≡ name j → termOf ns i ≡ termOf ns j
@@ -302,14 +315,18 @@ module _ (nodes arguments : List ℕ) (s : Sections nodes arguments) (starts ord
       }
 
 -- nodes of one term are put together
-pub shared-together : (nodes arguments starts order names heads : List ℕ) → Sections nodes arguments → length starts ≡ nodeCount nodes → length order ≡ nodeCount nodes → Started nodes arguments starts order (nodeCount nodes) → NamedAlong nodes arguments starts order names → heads ≡ map (word names) starts → Together nodes arguments heads
+pub shared-together : (nodes arguments starts order names heads : List ℕ) → Sections nodes arguments → length starts ≡ nodeCount nodes →
+    length order ≡ nodeCount nodes → Started nodes arguments starts order (nodeCount nodes) → NamedAlong nodes arguments starts order names →
+    heads ≡ map (word names) starts → Together nodes arguments heads
 shared-together nodes arguments starts order names heads s l d t m e =
     rw e
     (record {
       formed = λ counts c. record {
         partition = parts;
         constants = shared-constants nodes arguments s starts order l d t names m;
-        closed = heads-closed nodes arguments s counts c (map (word names) starts) parts low (λ i h. ap (sub var) (head-term nodes arguments s starts order l d t names m i (is-node nodes arguments i h))) one-head;
+        closed =
+            heads-closed nodes arguments s counts c (map (word names) starts) parts low
+            (λ i h. ap (sub var) (head-term nodes arguments s starts order l d t names m i (is-node nodes arguments i h))) one-head;
         order = rising nodes arguments s counts c (map (word names) starts) parts low;
         ordered = rising-ordered nodes arguments s counts c (map (word names) starts) parts low;
       };
@@ -328,12 +345,16 @@ shared-together nodes arguments starts order names heads s l d t m e =
     parts : Partition (nodeCount nodes) (map (word names) starts)
     parts = shared-partition nodes arguments s starts order l d t names m
 
-    one-head : (i j : ℕ) → i < nodeCount nodes → j < nodeCount nodes → value (nodesFrom nodes arguments) var i ≡ value (nodesFrom nodes arguments) var j → classOf (map (word names) starts) i ≡ classOf (map (word names) starts) j
+    one-head : (i j : ℕ) → i < nodeCount nodes → j < nodeCount nodes →
+        value (nodesFrom nodes arguments) var i ≡ value (nodesFrom nodes arguments) var j →
+        classOf (map (word names) starts) i ≡ classOf (map (word names) starts) j
     one-head i j h k q =
-        term-head nodes arguments s starts order l d t names m i j (is-node nodes arguments i h) (is-node nodes arguments j k) (sym (sub-var (termOf (nodesFrom nodes arguments) i)) ∙ q ∙ sub-var (termOf (nodesFrom nodes arguments) j))
+        term-head nodes arguments s starts order l d t names m i j (is-node nodes arguments i h) (is-node nodes arguments j k)
+        (sym (sub-var (termOf (nodesFrom nodes arguments) i)) ∙ q ∙ sub-var (termOf (nodesFrom nodes arguments) j))
 
 -- what unifying begins with, by its parts
-pub begun-shared : {nodes arguments starts : List ℕ} {v : Variables} → Lists nodes arguments v → Together nodes arguments starts → BeginsShared nodes arguments v starts
+pub begun-shared : {nodes arguments starts : List ℕ} {v : Variables} → Lists nodes arguments v → Together nodes arguments starts →
+    BeginsShared nodes arguments v starts
 begun-shared l t =
     record {
       lists = l;

@@ -31,7 +31,8 @@ use Rattle.values.specs.Code.Begins.{Lists}
 use Rattle.values.proofs.LeastLaws.{present-least, least-long}
 
 -- the head of a variable
-start-variable : (nodes arguments : List ℕ) (i : ℕ) → kindOf nodes i ≡ 0 → startHead nodes arguments i ≡ nodeOf (nodesFrom nodes arguments) (nameOf nodes i)
+start-variable : (nodes arguments : List ℕ) (i : ℕ) → kindOf nodes i ≡ 0 →
+    startHead nodes arguments i ≡ nodeOf (nodesFrom nodes arguments) (nameOf nodes i)
 unfolding startHead
 start-variable nodes arguments i k = rw (eq-eqb (kindOf nodes i) 0 k)
 
@@ -45,15 +46,20 @@ pub started-none : (nodes arguments heads order : List ℕ) → Started nodes ar
 started-none nodes arguments heads order = record { head = λ k h. absurd (omega arith); place = λ k h. absurd (omega arith) }
 
 -- one node more
-pub started-next : (nodes arguments heads order : List ℕ) (i h : ℕ) → i < length heads → i < length order → h ≡ startHead nodes arguments i → Started nodes arguments heads order i → Started nodes arguments (set heads i h) (set order i i) (i + 1)
+pub started-next : (nodes arguments heads order : List ℕ) (i h : ℕ) → i < length heads → i < length order → h ≡ startHead nodes arguments i →
+    Started nodes arguments heads order i → Started nodes arguments (set heads i h) (set order i i) (i + 1)
 started-next nodes arguments heads order i h a b e s =
     record {
-      head = below-more (λ k. word (set heads i h) k ≡ startHead nodes arguments k) i (λ k l. getD-set-other heads i k h 0 (λ z. omega (arith, l, z)) ∙ s .head k l) (getD-set-same heads i h 0 a ∙ e);
+      head =
+          below-more (λ k. word (set heads i h) k ≡ startHead nodes arguments k) i
+          (λ k l. getD-set-other heads i k h 0 (λ z. omega (arith, l, z)) ∙ s .head k l) (getD-set-same heads i h 0 a ∙ e);
       place = below-more (λ k. word (set order i i) k ≡ k) i (λ k l. getD-set-other order i k i 0 (λ z. omega (arith, l, z)) ∙ s .place k l) (getD-set-same order i i 0 b);
     }
 
 module _ (nodes arguments : List ℕ) (s : Sections nodes arguments) where
-  least : (i : ℕ) → i < nodeCount nodes → kindOf nodes i ≡ 0 → Least (λ j. (j < length (nodesFrom nodes arguments)) × (nodeAt (nodesFrom nodes arguments) j ≡ variable (nameOf nodes i))) (nodeOf (nodesFrom nodes arguments) (nameOf nodes i))
+  least : (i : ℕ) → i < nodeCount nodes → kindOf nodes i ≡ 0 →
+      Least (λ j. (j < length (nodesFrom nodes arguments)) × (nodeAt (nodesFrom nodes arguments) j ≡ variable (nameOf nodes i)))
+      (nodeOf (nodesFrom nodes arguments) (nameOf nodes i))
   least i h k =
       node-of (nodesFrom nodes arguments) (nameOf nodes i) (i, rw (nodes-long nodes arguments) h, variable-from nodes arguments i h k)
 
@@ -68,7 +74,8 @@ module _ (nodes arguments : List ℕ) (s : Sections nodes arguments) where
       go (no k) = rw (start-other nodes arguments i k) (omega arith)
 
   -- the head of a variable is read from the list by variable number
-  pub start-read : (least : List ℕ) → LeastByName nodes arguments least → (i x : ℕ) → i < nodeCount nodes → eqb (kindOf nodes i) 0 ≡ true → x ≡ nameOf nodes i → (x < length least) × (word least x ≡ startHead nodes arguments i) × (word least x ≤ i)
+  pub start-read : (least : List ℕ) → LeastByName nodes arguments least → (i x : ℕ) → i < nodeCount nodes → eqb (kindOf nodes i) 0 ≡ true →
+      x ≡ nameOf nodes i → (x < length least) × (word least x ≡ startHead nodes arguments i) × (word least x ≤ i)
   start-read least l i x h e q =
       let k = eqb-true _ _ e in
       let b = s .variable-name i h k in
@@ -83,7 +90,8 @@ module _ (nodes arguments : List ℕ) (s : Sections nodes arguments) where
     below i h = rw (t .head i h) (start-below i h)
 
     -- the head of a variable is a node of it
-    of-variable : (i x : ℕ) → i < nodeCount nodes → nodeAt (nodesFrom nodes arguments) i ≡ variable x → classOf heads i ≡ nodeOf (nodesFrom nodes arguments) x
+    of-variable : (i x : ℕ) → i < nodeCount nodes → nodeAt (nodesFrom nodes arguments) i ≡ variable x →
+        classOf heads i ≡ nodeOf (nodesFrom nodes arguments) x
     of-variable i x h e =
         let v = section-variable nodes arguments s i h x .0 e in
         t .head i h ∙ start-variable nodes arguments i (v .0) ∙ ap (nodeOf (nodesFrom nodes arguments)) (sym (v .1))
@@ -108,7 +116,8 @@ module _ (nodes arguments : List ℕ) (s : Sections nodes arguments) where
         own : (i : ℕ) → i < nodeCount nodes → Dec (kindOf nodes i ≡ 0) → classOf heads (classOf heads i) ≡ classOf heads i
         own i h (yes k) =
             let b = below i h in
-            of-variable (classOf heads i) (nameOf nodes i) (omega (arith, b)) (at-head i h k) ∙ sym (of-variable i (nameOf nodes i) h (variable-from nodes arguments i h k))
+            of-variable (classOf heads i) (nameOf nodes i) (omega (arith, b)) (at-head i h k)
+            ∙ sym (of-variable i (nameOf nodes i) h (variable-from nodes arguments i h k))
         own i h (no k) = ap (classOf heads) (itself i h k)
 
     -- they are the classes of no pair
@@ -117,7 +126,9 @@ module _ (nodes arguments : List ℕ) (s : Sections nodes arguments) where
         record {
           joined = λ i h. joined i (rw (nodes-long nodes arguments) at h) (ℕ-discrete (kindOf nodes i) 0);
           given = λ a b n. absurd (List·Memᴰ·not-nil n);
-          one-variable = λ i j x p q d e. of-variable i x (rw (nodes-long nodes arguments) at p) d ∙ sym (of-variable j x (rw (nodes-long nodes arguments) at q) e);
+          one-variable =
+              λ i j x p q d e. of-variable i x (rw (nodes-long nodes arguments) at p) d
+              ∙ sym (of-variable j x (rw (nodes-long nodes arguments) at q) e);
           applications = λ i f us p e.
               let h : i < nodeCount nodes = rw (nodes-long nodes arguments) at p in
               record {
@@ -132,7 +143,8 @@ module _ (nodes arguments : List ℕ) (s : Sections nodes arguments) where
         joined i h (yes k) =
             let b = below i h in
             let c : classOf heads i < nodeCount nodes = omega (arith, b) in
-            one-variable {i = i} {j = classOf heads i} (rw (nodes-long nodes arguments) h) (rw (nodes-long nodes arguments) c) (variable-from nodes arguments i h k) (at-head i h k)
+            one-variable {i = i} {j = classOf heads i} (rw (nodes-long nodes arguments) h) (rw (nodes-long nodes arguments) c)
+            (variable-from nodes arguments i h k) (at-head i h k)
         joined i h (no k) = rw (itself i h k) (same {i = i} (rw (nodes-long nodes arguments) h))
 
     -- they are a solved form: an argument's head is below its node
@@ -177,7 +189,8 @@ module _ (nodes arguments : List ℕ) (s : Sections nodes arguments) where
           (classOf heads i, omega (arith, b), t .place (classOf heads i) (omega (arith, b))))
 
 -- the variables present, by their least nodes
-pub present-lists : {v : Variables} (nodes arguments least : List ℕ) (n : ℕ) → Sections nodes arguments → LeastByName nodes arguments least → n ≡ nodeCount nodes → ListsPresent least n (v .count) (v .nodes) → Lists nodes arguments v
+pub present-lists : {v : Variables} (nodes arguments least : List ℕ) (n : ℕ) → Sections nodes arguments → LeastByName nodes arguments least →
+    n ≡ nodeCount nodes → ListsPresent least n (v .count) (v .nodes) → Lists nodes arguments v
 present-lists nodes arguments least n s l e p =
     record {
       within = p .within;

@@ -74,7 +74,9 @@ abbrev idle : ℕ → Written
 idle at = record { used = at; missed = 0 }
 
 -- where there are no entries, nothing is to be done
-nothing-below : {es : List (List ℕ)} {nodes arguments left right : List ℕ} {i : ℕ} {entry memory lent : List ℕ} {at : ℕ} → Remembers nodes arguments left right memory lent at → at ≤ length lent → es ≡ [] → WritesBelow es nodes arguments left right i entry memory lent at entry memory lent (idle at)
+nothing-below : {es : List (List ℕ)} {nodes arguments left right : List ℕ} {i : ℕ} {entry memory lent : List ℕ} {at : ℕ} →
+    Remembers nodes arguments left right memory lent at → at ≤ length lent → es ≡ [] →
+    WritesBelow es nodes arguments left right i entry memory lent at entry memory lent (idle at)
 nothing-below {es} {entry = entry} {lent = lent} {at = at} r h e =
     record {
       writes = rw e (writes-none lent at h);
@@ -93,24 +95,34 @@ either i n j m h = pick (eqb i n) refl (eqb j m) refl h
     pick false p false q e = absurd (false≢true e)
 
 -- the pairs of a branch are of nodes
-branch-inside : {nodes arguments left right : List ℕ} {labels : Labels} {entry : List ℕ} {key weight unpaired i : ℕ} → Listable nodes arguments left right labels → Branching nodes arguments left right entry key weight unpaired i → Inside (nodesFrom nodes arguments) (pairsIn left right entry i)
+branch-inside : {nodes arguments left right : List ℕ} {labels : Labels} {entry : List ℕ} {key weight unpaired i : ℕ} →
+    Listable nodes arguments left right labels → Branching nodes arguments left right entry key weight unpaired i →
+    Inside (nodesFrom nodes arguments) (pairsIn left right entry i)
 branch-inside {arguments = arguments} l g = pairable-inside arguments (branch-pairable l g)
 
-module _ {nodes arguments left right : List ℕ} {labels : Labels} {known prepared heads next : List ℕ} {key weight unpaired i : ℕ} {entry memory lent : List ℕ} {at : ℕ} (g : Walking nodes arguments left right labels known prepared heads next key weight unpaired i entry memory lent at) where
+module _ {nodes arguments left right : List ℕ} {labels : Labels} {known prepared heads next : List ℕ} {key weight unpaired i : ℕ}
+    {entry memory lent : List ℕ} {at : ℕ}
+    (g : Walking nodes arguments left right labels known prepared heads next key weight unpaired i entry memory lent at) where
   -- a hopeless branch has no entries
-  pub hopeless-walked : hopeless (labels .left) (labels .right) (length left - i) unpaired ≡ true → Walked nodes arguments left right labels i entry memory lent at entry memory lent (idle at)
+  pub hopeless-walked : hopeless (labels .left) (labels .right) (length left - i) unpaired ≡ true →
+      Walked nodes arguments left right labels i entry memory lent at entry memory lent (idle at)
   hopeless-walked h =
       let e : hopeless (labels .left) (labels .right) (length (drop i left)) (unpairedIn (marksIn left right entry)) ≡ true =
       rw (length-drop i left, ← g .branching .counted) h in
-      nothing-below (g .remembers) (g .room) (below-hopeless (nodesFrom nodes arguments) right (labels .left) (labels .right) (drop i left) (take i entry) (pairsIn left right entry i) (marksIn left right entry) e)
+      nothing-below (g .remembers) (g .room)
+      (below-hopeless (nodesFrom nodes arguments) right (labels .left) (labels .right) (drop i left) (take i entry) (pairsIn left right entry i) (marksIn left right entry) e)
 
   -- nor has one with a term that must be paired and has no partner
-  pub stuck-walked : stuck (labels .left) (labels .right) (mayIn known) i (length left) (marksIn left right entry) ≡ true → Walked nodes arguments left right labels i entry memory lent at entry memory lent (idle at)
+  pub stuck-walked : stuck (labels .left) (labels .right) (mayIn known) i (length left) (marksIn left right entry) ≡ true →
+      Walked nodes arguments left right labels i entry memory lent at entry memory lent (idle at)
   stuck-walked s =
-      nothing-below (g .remembers) (g .room) (below-stuck nodes arguments left right (mayIn known) labels i (take i entry) (pairsIn left right entry i) (marksIn left right entry) (g .listable) (g .partners) (g .branching .depth) (marks-long (g .branching)) (branch-inside (g .listable) (g .branching)) s)
+      nothing-below (g .remembers) (g .room)
+      (below-stuck nodes arguments left right (mayIn known) labels i (take i entry) (pairsIn left right entry i) (marksIn left right entry) (g .listable) (g .partners) (g .branching .depth) (marks-long (g .branching)) (branch-inside (g .listable) (g .branching)) s)
 
   -- what is known of a branch stands where it is kept
-  walking-kept : {entry′ memory′ lent′ : List ℕ} {at′ : ℕ} → length entry′ ≡ length entry → KeepsBranch left right i entry entry′ → Remembers nodes arguments left right memory′ lent′ at′ → at′ ≤ length lent′ → Walking nodes arguments left right labels known prepared heads next key weight unpaired i entry′ memory′ lent′ at′
+  walking-kept : {entry′ memory′ lent′ : List ℕ} {at′ : ℕ} → length entry′ ≡ length entry → KeepsBranch left right i entry entry′ →
+      Remembers nodes arguments left right memory′ lent′ at′ → at′ ≤ length lent′ →
+      Walking nodes arguments left right labels known prepared heads next key weight unpaired i entry′ memory′ lent′ at′
   walking-kept l k r h =
       record {
         listable = g .listable;
@@ -184,7 +196,8 @@ module _ {nodes arguments left right : List ℕ} {labels : Labels} {known prepar
       pairs-placed = rw digits-next (paired-placed left right (take i entry) d [] l)
 
       -- the walk goes on with it
-      pub placed-next : {entry₁ : List ℕ} → entry₁ ≡ set entry i d → Walking nodes arguments left right labels known prepared heads next key (weight * 16) unpaired (i + 1) entry₁ memory lent at
+      pub placed-next : {entry₁ : List ℕ} → entry₁ ≡ set entry i d →
+          Walking nodes arguments left right labels known prepared heads next key (weight * 16) unpaired (i + 1) entry₁ memory lent at
       placed-next z =
           rw z
           record {
@@ -201,13 +214,18 @@ module _ {nodes arguments left right : List ℕ} {labels : Labels} {known prepar
           }
 
       -- and its entries are those below it
-      placed-entries : digitEntries nodes arguments left right labels entry i d ≡ branchEntries nodes arguments left right labels (set entry i d) (i + 1)
+      placed-entries :
+          digitEntries nodes arguments left right labels entry i d ≡ branchEntries nodes arguments left right labels (set entry i d) (i + 1)
       placed-entries =
-          digit-label (nodesFrom nodes arguments) right (below (nodesFrom nodes arguments) right (labels .left) (labels .right) (drop (i + 1) left)) (take i entry) (pairsIn left right entry i) (marksIn left right entry) (word left i) d l
+          digit-label (nodesFrom nodes arguments) right
+          (below (nodesFrom nodes arguments) right (labels .left) (labels .right) (drop (i + 1) left)) (take i entry)
+          (pairsIn left right entry i) (marksIn left right entry) (word left i) d l
           ∙ rw (pairs-placed, digits-next, set-marks left right entry i d h) refl
 
       -- so that they are written
-      pub placed-stepped : {entry₁ entry′ memory′ lent′ : List ℕ} {w : Written} → entry₁ ≡ set entry i d → Walked nodes arguments left right labels (i + 1) entry₁ memory lent at entry′ memory′ lent′ w → Stepped nodes arguments left right labels i d entry memory lent at entry′ memory′ lent′ w
+      pub placed-stepped : {entry₁ entry′ memory′ lent′ : List ℕ} {w : Written} → entry₁ ≡ set entry i d →
+          Walked nodes arguments left right labels (i + 1) entry₁ memory lent at entry′ memory′ lent′ w →
+          Stepped nodes arguments left right labels i d entry memory lent at entry′ memory′ lent′ w
       placed-stepped {entry₁} {entry′} z y =
           record {
             writes = rw (placed-entries, ← z) (y .writes);
@@ -233,11 +251,18 @@ module _ {nodes arguments left right : List ℕ} {labels : Labels} {known prepar
           mark-known : word (mayIn known) (maxTerms * i + (d - 1)) ≡ word known (256 + (maxTerms * i + (d - 1)))
           mark-known = may-word known (maxTerms * i + (d - 1)) (omega (arith, h, p, l, g .listable .left-few, g .listable .right-few))
 
-          pick : (x : Bool) → eqb (word entry q) 0 ≡ x → (y : Bool) → eqb (word known m) 0 ≡ y → x || y ≡ true → digitEntries nodes arguments left right labels entry i d ≡ []
+          pick : (x : Bool) → eqb (word entry q) 0 ≡ x → (y : Bool) → eqb (word known m) 0 ≡ y → x || y ≡ true →
+              digitEntries nodes arguments left right labels entry i d ≡ []
           pick true z y u v =
-              digit-taken (nodesFrom nodes arguments) right (below (nodesFrom nodes arguments) right (labels .left) (labels .right) (drop (i + 1) left)) (take i entry) (pairsIn left right entry i) (marksIn left right entry) (word left i) d l (mark-word left right entry q d refl p l ∙ eqb-true (word entry q) 0 z)
+              digit-taken (nodesFrom nodes arguments) right
+              (below (nodesFrom nodes arguments) right (labels .left) (labels .right) (drop (i + 1) left)) (take i entry)
+              (pairsIn left right entry i) (marksIn left right entry) (word left i) d l
+              (mark-word left right entry q d refl p l ∙ eqb-true (word entry q) 0 z)
           pick false z true u v =
-              may-none nodes arguments left right (mayIn known) labels i d (below (nodesFrom nodes arguments) right (labels .left) (labels .right) (drop (i + 1) left)) (take i entry) (pairsIn left right entry i) (marksIn left right entry) (g .listable) (g .partners) h p l (branch-inside (g .listable) (g .branching)) (mark-known ∙ eqb-true (word known m) 0 u)
+              may-none nodes arguments left right (mayIn known) labels i d
+              (below (nodesFrom nodes arguments) right (labels .left) (labels .right) (drop (i + 1) left)) (take i entry)
+              (pairsIn left right entry i) (marksIn left right entry) (g .listable) (g .partners) h p l
+              (branch-inside (g .listable) (g .branching)) (mark-known ∙ eqb-true (word known m) 0 u)
           pick false z false u v = absurd (false≢true v)
 
       module _ (n : mark ≡ 0 → ⊥) where
@@ -286,7 +311,9 @@ module _ {nodes arguments left right : List ℕ} {labels : Labels} {known prepar
 
         module _ {entry₁ : List ℕ} (z : entry₁ ≡ paired) where
           -- the pair is to be joined to the classes
-          pub joining : Joining nodes arguments left right labels known prepared heads next (key + d * weight) (weight * 16) (unpaired - 1) i (word left i) (word right (d - 1)) entry₁ memory lent at
+          pub joining :
+              Joining nodes arguments left right labels known prepared heads next (key + d * weight) (weight * 16) (unpaired - 1) i (word left i)
+              (word right (d - 1)) entry₁ memory lent at
           joining =
               rw z
               record {
@@ -309,33 +336,39 @@ module _ {nodes arguments left right : List ℕ} {labels : Labels} {known prepar
               keyed = rw (key-paired (length right) (take i entry) d l, digits-long, ← g .branching .weighed, ← g .branching .keyed) refl
 
           -- its entries are those below it, if it can be
-          joined-entries : digitEntries nodes arguments left right labels entry i d ≡ ifUnified (outcome (nodesFrom nodes arguments) ((word left i, word right (d - 1)) ∷ pairsIn left right paired i)) (branchEntries nodes arguments left right labels paired (i + 1))
+          joined-entries :
+              digitEntries nodes arguments left right labels entry i d ≡ ifUnified (outcome (nodesFrom nodes arguments) ((word left i, word right (d - 1)) ∷ pairsIn left right paired i)) (branchEntries nodes arguments left right labels paired (i + 1))
           joined-entries =
-              digit-pair (nodesFrom nodes arguments) right (below (nodesFrom nodes arguments) right (labels .left) (labels .right) (drop (i + 1) left)) (take i entry) (pairsIn left right entry i) (marksIn left right entry) (word left i) d l unmarked
+              digit-pair (nodesFrom nodes arguments) right
+              (below (nodesFrom nodes arguments) right (labels .left) (labels .right) (drop (i + 1) left)) (take i entry)
+              (pairsIn left right entry i) (marksIn left right entry) (word left i) d l unmarked
               ∙ rw (pairs-next, pairs-before, paired-digits, paired-marks) refl
 
-          module _ {entry′ memory′ lent′ : List ℕ} {w : Written} (r : WalkedJoined nodes arguments left right labels i (word left i) (word right (d - 1)) entry₁ memory lent at entry′ memory′ lent′ w) where
-            -- the place of the mark is in what is left of the entry
-            pub mark-inside : length left + d ≤ length entry′
-            mark-inside = omega (arith, r .size, ap length z, paired-long, branch-room (g .branching), p, l)
+          module _ {entry′ memory′ lent′ : List ℕ} {w : Written}
+              (r : WalkedJoined nodes arguments left right labels i (word left i) (word right (d - 1)) entry₁ memory lent at entry′ memory′ lent′ w)
+            where
+              -- the place of the mark is in what is left of the entry
+              pub mark-inside : length left + d ≤ length entry′
+              mark-inside = omega (arith, r .size, ap length z, paired-long, branch-room (g .branching), p, l)
 
-            -- the mark is put back
-            pub joined-stepped : {entry″ : List ℕ} → entry″ ≡ set entry′ q mark → Stepped nodes arguments left right labels i d entry memory lent at entry″ memory′ lent′ w
-            joined-stepped {entry″} u =
-                record {
-                  writes = rw (joined-entries, ← z) (r .writes);
-                  size = ap length u ∙ length-set entry′ q mark ∙ r .size ∙ ap length z ∙ paired-long;
-                  keeps = λ k. record { digits = ap (take i) u ∙ mark-digits left right entry′ q d refl p l i mark (omega (arith, h)) ∙ digits-before entry′ (r .keeps k .digits ∙ ap (take (i + 1)) z ∙ paired-digits); marks = ap (marksIn left right) u ∙ marks k };
-                  remembers = r .remembers;
-                }
-              where
-                marks : w .missed ≡ 0 → marksIn left right (set entry′ q mark) ≡ marksIn left right entry
-                marks k =
-                    mark-marks left right entry′ q d refl p l mark
-                    ∙ ap (λ (zs : List ℕ). set zs (d - 1) mark) (r .keeps k .marks ∙ ap (marksIn left right) z ∙ paired-marks)
-                    ∙ set-set (marksIn left right entry) (d - 1) 0 mark
-                    ∙ ap (set (marksIn left right entry) (d - 1)) (f .some n ∙ sym (mark-word left right entry q d refl p l))
-                    ∙ set-getD (marksIn left right entry) (d - 1) 0
+              -- the mark is put back
+              pub joined-stepped : {entry″ : List ℕ} → entry″ ≡ set entry′ q mark →
+                  Stepped nodes arguments left right labels i d entry memory lent at entry″ memory′ lent′ w
+              joined-stepped {entry″} u =
+                  record {
+                    writes = rw (joined-entries, ← z) (r .writes);
+                    size = ap length u ∙ length-set entry′ q mark ∙ r .size ∙ ap length z ∙ paired-long;
+                    keeps = λ k. record { digits = ap (take i) u ∙ mark-digits left right entry′ q d refl p l i mark (omega (arith, h)) ∙ digits-before entry′ (r .keeps k .digits ∙ ap (take (i + 1)) z ∙ paired-digits); marks = ap (marksIn left right) u ∙ marks k };
+                    remembers = r .remembers;
+                  }
+                where
+                  marks : w .missed ≡ 0 → marksIn left right (set entry′ q mark) ≡ marksIn left right entry
+                  marks k =
+                      mark-marks left right entry′ q d refl p l mark
+                      ∙ ap (λ (zs : List ℕ). set zs (d - 1) mark) (r .keeps k .marks ∙ ap (marksIn left right) z ∙ paired-marks)
+                      ∙ set-set (marksIn left right entry) (d - 1) 0 mark
+                      ∙ ap (set (marksIn left right entry) (d - 1)) (f .some n ∙ sym (mark-word left right entry q d refl p l))
+                      ∙ set-getD (marksIn left right entry) (d - 1) 0
 
   -- before the first digit
   pub turning-first : i < length left → Turning nodes arguments left right labels i entry lent at 1 entry memory lent at
@@ -347,24 +380,36 @@ module _ {nodes arguments left right : List ℕ} {labels : Labels} {known prepar
         size = refl;
         keeps = record { digits = refl; marks = refl };
         remembers = g .remembers;
-        remains = rw (q, ← below-over (nodesFrom nodes arguments) left right (labels .left) (labels .right) i (take i entry) (pairsIn left right entry i) (marksIn left right entry) h) (remains-whole (branchEntries nodes arguments left right labels entry i) lent at (g .room));
+        remains =
+            rw
+            (q, ← below-over (nodesFrom nodes arguments) left right (labels .left) (labels .right) i (take i entry) (pairsIn left right entry i) (marksIn left right entry) h)
+            (remains-whole (branchEntries nodes arguments left right labels entry i) lent at (g .room));
       }
 
 -- the digits of the next left term have been gone through up to d
-module _ {nodes arguments left right : List ℕ} {labels : Labels} {i : ℕ} {entry₀ lent₀ : List ℕ} {at₀ d : ℕ} {entry memory lent : List ℕ} {at : ℕ} (t : Turning nodes arguments left right labels i entry₀ lent₀ at₀ d entry memory lent at) where
+module _ {nodes arguments left right : List ℕ} {labels : Labels} {i : ℕ} {entry₀ lent₀ : List ℕ} {at₀ d : ℕ} {entry memory lent : List ℕ}
+    {at : ℕ} (t : Turning nodes arguments left right labels i entry₀ lent₀ at₀ d entry memory lent at) where
   -- the branch is kept, so that the entries of a digit are the same
   digit-kept : digitEntries nodes arguments left right labels entry i d ≡ digitEntries nodes arguments left right labels entry₀ i d
   digit-kept = rw (t .keeps .digits, t .keeps .marks) refl
 
   -- what is known of the branch still stands, where the classes are the same
-  pub turning-walking : {known prepared heads next heads′ next′ : List ℕ} {key weight unpaired : ℕ} {memory₀ : List ℕ} → heads′ ≡ heads → next′ ≡ next → Walking nodes arguments left right labels known prepared heads next key weight unpaired i entry₀ memory₀ lent₀ at₀ → Walking nodes arguments left right labels known prepared heads′ next′ key weight unpaired i entry memory lent at
+  pub turning-walking : {known prepared heads next heads′ next′ : List ℕ} {key weight unpaired : ℕ} {memory₀ : List ℕ} → heads′ ≡ heads →
+      next′ ≡ next → Walking nodes arguments left right labels known prepared heads next key weight unpaired i entry₀ memory₀ lent₀ at₀ →
+      Walking nodes arguments left right labels known prepared heads′ next′ key weight unpaired i entry memory lent at
   turning-walking p q g = rw (p, q) (walking-kept g (t .size) (t .keeps) (t .remembers) (t .remains .within))
 
   module _ (h : d ≤ length right + labels .right) where
-    next-remains : Remains (branchEntries nodes arguments left right labels entry₀ i) lent₀ at₀ (digitEntries nodes arguments left right labels entry₀ i d ++ over (d + 1) (suc (length right + labels .right) - (d + 1)) (λ e. digitEntries nodes arguments left right labels entry₀ i e)) lent at
-    next-remains = rw (over-next (λ e. digitEntries nodes arguments left right labels entry₀ i e) d (suc (length right + labels .right)) (omega (arith, h))) at (t .remains)
+    next-remains :
+        Remains (branchEntries nodes arguments left right labels entry₀ i) lent₀ at₀
+        (digitEntries nodes arguments left right labels entry₀ i d ++ over (d + 1) (suc (length right + labels .right) - (d + 1)) (λ e. digitEntries nodes arguments left right labels entry₀ i e))
+        lent at
+    next-remains =
+        rw
+        (over-next (λ e. digitEntries nodes arguments left right labels entry₀ i e) d (suc (length right + labels .right)) (omega (arith, h))) at (t .remains)
 
-    module _ {entry′ memory′ lent′ : List ℕ} {w : Written} (y : Stepped nodes arguments left right labels i d entry memory lent at entry′ memory′ lent′ w) where
+    module _ {entry′ memory′ lent′ : List ℕ} {w : Written}
+        (y : Stepped nodes arguments left right labels i d entry memory lent at entry′ memory′ lent′ w) where
       stepped : Writes (digitEntries nodes arguments left right labels entry₀ i d) lent at lent′ w
       stepped = rw digit-kept at (y .writes)
 
@@ -381,36 +426,52 @@ module _ {nodes arguments left right : List ℕ} {labels : Labels} {i : ℕ} {en
           }
 
       -- where an entry does not fit
-      pub turning-full : (memory₀ : List ℕ) → (w .missed ≡ 0 → ⊥) → Walked nodes arguments left right labels i entry₀ memory₀ lent₀ at₀ entry′ memory′ lent′ w
+      pub turning-full : (memory₀ : List ℕ) → (w .missed ≡ 0 → ⊥) →
+          Walked nodes arguments left right labels i entry₀ memory₀ lent₀ at₀ entry′ memory′ lent′ w
       turning-full memory₀ f =
           record {
-            writes = remains-full (digitEntries nodes arguments left right labels entry₀ i d) (over (d + 1) (suc (length right + labels .right) - (d + 1)) (λ e. digitEntries nodes arguments left right labels entry₀ i e)) next-remains lent′ w stepped f;
+            writes =
+                remains-full (digitEntries nodes arguments left right labels entry₀ i d)
+                (over (d + 1) (suc (length right + labels .right) - (d + 1)) (λ e. digitEntries nodes arguments left right labels entry₀ i e))
+                next-remains lent′ w stepped f;
             size = y .size ∙ t .size;
             keeps = λ z. absurd (f z);
             remembers = λ z. absurd (f z);
           }
 
   -- after the last digit
-  pub turning-done : (memory₀ : List ℕ) → length right + labels .right < d → Walked nodes arguments left right labels i entry₀ memory₀ lent₀ at₀ entry memory lent (idle at)
+  pub turning-done : (memory₀ : List ℕ) → length right + labels .right < d →
+      Walked nodes arguments left right labels i entry₀ memory₀ lent₀ at₀ entry memory lent (idle at)
   turning-done memory₀ h =
       record {
-        writes = remains-done (rw (over-end (λ e. digitEntries nodes arguments left right labels entry₀ i e) d (suc (length right + labels .right)) (omega (arith, h))) at (t .remains));
+        writes =
+            remains-done
+            (rw (over-end (λ e. digitEntries nodes arguments left right labels entry₀ i e) d (suc (length right + labels .right)) (omega (arith, h))) at (t .remains));
         size = t .size;
         keeps = λ z. t .keeps;
         remembers = λ z. t .remembers;
       }
 
 -- a pair is to be joined to the classes
-module _ {nodes arguments left right : List ℕ} {labels : Labels} {known prepared heads next : List ℕ} {key weight unpaired i a b : ℕ} {entry memory lent : List ℕ} {at : ℕ} (g : Joining nodes arguments left right labels known prepared heads next key weight unpaired i a b entry memory lent at) where
+module _ {nodes arguments left right : List ℕ} {labels : Labels} {known prepared heads next : List ℕ} {key weight unpaired i a b : ℕ}
+    {entry memory lent : List ℕ} {at : ℕ}
+    (g : Joining nodes arguments left right labels known prepared heads next key weight unpaired i a b entry memory lent at) where
   -- it fails or not, whichever of the two lists it comes to
-  joined-unified : outcome (nodesFrom nodes arguments) ((a, b) ∷ g .standing .pairs) ≡ unified ↔ (outcome (nodesFrom nodes arguments) ((a, b) ∷ pairsIn left right entry i) ≡ unified)
+  joined-unified :
+      outcome (nodesFrom nodes arguments) ((a, b) ∷ g .standing .pairs) ≡ unified ↔
+      (outcome (nodesFrom nodes arguments) ((a, b) ∷ pairsIn left right entry i) ≡ unified)
   joined-unified =
       let x = is-node nodes arguments a (g .first) in
       let y = is-node nodes arguments b (g .second) in
-      same-unified (nodesFrom nodes arguments) (sections-well-formed nodes arguments (g .listable .sections)) ((a, b) ∷ g .standing .pairs) ((a, b) ∷ pairsIn left right entry i) (inside-more (nodesFrom nodes arguments) a b (g .standing .pairs) x y (g .standing .stands .inside)) (rw (g .pair) at (branch-inside (g .listable) (g .branching))) (same-more (nodesFrom nodes arguments) (a, b) (g .standing .pairs) (pairsIn left right entry i) (g .standing .unifiers))
+      same-unified (nodesFrom nodes arguments) (sections-well-formed nodes arguments (g .listable .sections)) ((a, b) ∷ g .standing .pairs)
+      ((a, b) ∷ pairsIn left right entry i) (inside-more (nodesFrom nodes arguments) a b (g .standing .pairs) x y (g .standing .stands .inside))
+      (rw (g .pair) at (branch-inside (g .listable) (g .branching)))
+      (same-more (nodesFrom nodes arguments) (a, b) (g .standing .pairs) (pairsIn left right entry i) (g .standing .unifiers))
 
   -- where it does not, it is walked on with
-  walking-on : {heads′ next′ : List ℕ} → Formed nodes arguments known heads′ → Trailed (nodeCount nodes) heads′ next′ → Prepared nodes arguments known heads′ prepared → Stands nodes arguments heads′ ((a, b) ∷ g .standing .pairs) → Walking nodes arguments left right labels known prepared heads′ next′ key weight unpaired (i + 1) entry memory lent at
+  walking-on : {heads′ next′ : List ℕ} → Formed nodes arguments known heads′ → Trailed (nodeCount nodes) heads′ next′ →
+      Prepared nodes arguments known heads′ prepared → Stands nodes arguments heads′ ((a, b) ∷ g .standing .pairs) →
+      Walking nodes arguments left right labels known prepared heads′ next′ key weight unpaired (i + 1) entry memory lent at
   walking-on f o y s =
       record {
         listable = g .listable;
@@ -426,7 +487,9 @@ module _ {nodes arguments left right : List ℕ} {labels : Labels} {known prepar
       }
 
   -- and its entries are those below it
-  walked-on : outcome (nodesFrom nodes arguments) ((a, b) ∷ g .standing .pairs) ≡ unified → {entry′ memory′ lent′ : List ℕ} {w : Written} → Walked nodes arguments left right labels (i + 1) entry memory lent at entry′ memory′ lent′ w → WalkedJoined nodes arguments left right labels i a b entry memory lent at entry′ memory′ lent′ w
+  walked-on : outcome (nodesFrom nodes arguments) ((a, b) ∷ g .standing .pairs) ≡ unified → {entry′ memory′ lent′ : List ℕ} {w : Written} →
+      Walked nodes arguments left right labels (i + 1) entry memory lent at entry′ memory′ lent′ w →
+      WalkedJoined nodes arguments left right labels i a b entry memory lent at entry′ memory′ lent′ w
   unfolding ifUnified
   walked-on u r = rw (joined-unified .0 u) r
 
@@ -441,7 +504,10 @@ module _ {nodes arguments left right : List ℕ} {labels : Labels} {known prepar
     kept-key = eqb-true (word memory (slotOf key)) (key + 1) (sym y ∙ and-true-right (eqb unpaired 0 || eqb (i + 1) (length left)) x e)
 
   -- pairs for which they are kept have a unifier, so that the entries of the pair are those below it
-  pub kept-joined : outcome (nodesFrom nodes arguments) (pairsIn left right entry (i + 1)) ≡ unified → {entry′ memory′ lent′ : List ℕ} {w : Written} → Walked nodes arguments left right labels (i + 1) entry memory lent at entry′ memory′ lent′ w → WalkedJoined nodes arguments left right labels i a b entry memory lent at entry′ memory′ lent′ w
+  pub kept-joined : outcome (nodesFrom nodes arguments) (pairsIn left right entry (i + 1)) ≡ unified →
+      {entry′ memory′ lent′ : List ℕ} {w : Written} →
+      Walked nodes arguments left right labels (i + 1) entry memory lent at entry′ memory′ lent′ w →
+      WalkedJoined nodes arguments left right labels i a b entry memory lent at entry′ memory′ lent′ w
   unfolding ifUnified
   kept-joined u r = rw (sym (ap (outcome (nodesFrom nodes arguments)) (g .pair)) ∙ u) r
 
@@ -457,15 +523,22 @@ module _ {nodes arguments left right : List ℕ} {labels : Labels} {known prepar
 
     -- the classes stand for the pair as well
     at-once : Stands nodes arguments heads ((a, b) ∷ g .standing .pairs)
-    at-once = together nodes arguments known heads (g .listable .sections) (g .formed) a b (g .first) (g .second) e (g .standing .pairs) (g .standing .stands)
+    at-once =
+        together nodes arguments known heads (g .listable .sections) (g .formed) a b (g .first) (g .second) e (g .standing .pairs)
+        (g .standing .stands)
 
     -- so the walk goes on with them
     pub same-next : Walking nodes arguments left right labels known prepared heads next key weight unpaired (i + 1) entry memory lent at
     same-next = walking-on (g .formed) (g .trailed) (g .ready) at-once
 
     -- and the pair has the entries below it
-    pub same-joined : {entry′ memory′ lent′ : List ℕ} {w : Written} → Walked nodes arguments left right labels (i + 1) entry memory lent at entry′ memory′ lent′ w → WalkedJoined nodes arguments left right labels i a b entry memory lent at entry′ memory′ lent′ w
-    same-joined r = walked-on (formed-unified nodes arguments known heads (g .listable .sections) (g .formed) (g .known-right .counts) ((a, b) ∷ g .standing .pairs) at-once) r
+    pub same-joined : {entry′ memory′ lent′ : List ℕ} {w : Written} →
+        Walked nodes arguments left right labels (i + 1) entry memory lent at entry′ memory′ lent′ w →
+        WalkedJoined nodes arguments left right labels i a b entry memory lent at entry′ memory′ lent′ w
+    same-joined r =
+        walked-on
+        (formed-unified nodes arguments known heads (g .listable .sections) (g .formed) (g .known-right .counts) ((a, b) ∷ g .standing .pairs) at-once)
+        r
 
   -- the classes are extended
   module _ {r : Extended} {heads′ next′ : List ℕ} (x : Extends nodes arguments known heads next a b r heads′ next′) where
@@ -474,15 +547,18 @@ module _ {nodes arguments left right : List ℕ} {labels : Labels} {known prepar
     came-to = sym (x .answers (g .standing .pairs) (g .standing .stands))
 
     -- a pair that fails has no entries below it, and the classes are as before
-    failed-joined : (extended r ≡ unified → ⊥) → WalkedJoined nodes arguments left right labels i a b entry memory lent at entry memory lent (idle at) × ((heads′ ≡ heads) × (next′ ≡ next))
+    failed-joined : (extended r ≡ unified → ⊥) →
+        WalkedJoined nodes arguments left right labels i a b entry memory lent at entry memory lent (idle at) × ((heads′ ≡ heads) × (next′ ≡ next))
     failed-joined f = (nothing-below (g .remembers) (g .room) (not-unified _ _ (λ z. f (sym came-to ∙ joined-unified .1 z))), x .failed (λ z. f (ap extended z)))
 
     -- a clash
-    pub clash-joined : r ≡ Clash → WalkedJoined nodes arguments left right labels i a b entry memory lent at entry memory lent (idle at) × ((heads′ ≡ heads) × (next′ ≡ next))
+    pub clash-joined : r ≡ Clash →
+        WalkedJoined nodes arguments left right labels i a b entry memory lent at entry memory lent (idle at) × ((heads′ ≡ heads) × (next′ ≡ next))
     clash-joined e = failed-joined (λ z. let y = ap extended e in let o : _≡_ {A = ℕ} 0 1 = cc in omega arith)
 
     -- a variable in a term that holds it
-    pub occurs-joined : r ≡ Occurs → WalkedJoined nodes arguments left right labels i a b entry memory lent at entry memory lent (idle at) × ((heads′ ≡ heads) × (next′ ≡ next))
+    pub occurs-joined : r ≡ Occurs →
+        WalkedJoined nodes arguments left right labels i a b entry memory lent at entry memory lent (idle at) × ((heads′ ≡ heads) × (next′ ≡ next))
     occurs-joined e = failed-joined (λ z. let y = ap extended e in let o : _≡_ {A = ℕ} 0 1 = cc in omega arith)
 
     module _ (e : r ≡ Unified) where
@@ -496,7 +572,9 @@ module _ {nodes arguments left right : List ℕ} {labels : Labels} {known prepar
           (x .stands e (g .standing .pairs) (g .standing .stands))
 
       -- and the pair has the entries below it
-      pub unified-joined : {entry′ memory′ lent′ : List ℕ} {w : Written} → Walked nodes arguments left right labels (i + 1) entry memory lent at entry′ memory′ lent′ w → WalkedJoined nodes arguments left right labels i a b entry memory lent at entry′ memory′ lent′ w
+      pub unified-joined : {entry′ memory′ lent′ : List ℕ} {w : Written} →
+          Walked nodes arguments left right labels (i + 1) entry memory lent at entry′ memory′ lent′ w →
+          WalkedJoined nodes arguments left right labels i a b entry memory lent at entry′ memory′ lent′ w
       unified-joined y = walked-on (came-to ∙ ap extended e) y
 
       -- after the walk they are the same, and the joins can be undone
@@ -506,5 +584,6 @@ module _ {nodes arguments left right : List ℕ} {labels : Labels} {known prepar
         joins-since = rw (s .0, s .1) (merges-since (g .trailed) (joined-next .formed .partition .size) (x .merges))
 
         -- these are the classes before the joins
-        pub joins-undone : {heads₁ next₁ : List ℕ} → ComesFrom (length heads″) (gone next) heads₁ next₁ heads″ next″ → (heads₁ ≡ heads) × (next₁ ≡ next)
+        pub joins-undone : {heads₁ next₁ : List ℕ} → ComesFrom (length heads″) (gone next) heads₁ next₁ heads″ next″ →
+            (heads₁ ≡ heads) × (next₁ ≡ next)
         joins-undone o = merges-back (joined-next .formed .partition .size) (x .merges) (rw (s .0, s .1) at o)

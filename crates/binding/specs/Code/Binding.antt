@@ -54,12 +54,14 @@ pub record NamesLeast (nodes arguments counts heads names : List ℕ) : Type 0 w
 -- they have that name.
 pub record OpenNoted (nodes heads names opens by : List ℕ) (k : ℕ) : Type 0 where
   pub long : length by ≡ nodeCount nodes
-  pub named : (s : ℕ) → s < nodeCount nodes → IsApplied nodes s → valueName heads names s ≡ s → (word by s < nodeCount nodes) × IsApplied nodes (word by s) × (valueName heads names (word by s) ≡ s) × (word by s ≤ s)
+  pub named : (s : ℕ) → s < nodeCount nodes → IsApplied nodes s → valueName heads names s ≡ s →
+      (word by s < nodeCount nodes) × IsApplied nodes (word by s) × (valueName heads names (word by s) ≡ s) × (word by s ≤ s)
   pub least : (p : ℕ) → p < k → word by (valueName heads names (word opens p)) ≤ word opens p
 
 -- At the name of an application stands the least of that name.
 pub record ApplicationsNoted (nodes heads names by : List ℕ) : Type 0 where
-  pub least : (i : ℕ) → i < nodeCount nodes → Applied nodes heads i → Least (λ k. (k < nodeCount nodes) × IsApplied nodes k × (valueName heads names k ≡ valueName heads names i)) (word by (valueName heads names i))
+  pub least : (i : ℕ) → i < nodeCount nodes → Applied nodes heads i →
+      Least (λ k. (k < nodeCount nodes) × IsApplied nodes k × (valueName heads names k ≡ valueName heads names i)) (word by (valueName heads names i))
 
 -- The nodes from place k on whose heads are variables are noted, and what stands at applications is as it was.
 pub record FreeFrom (nodes heads names list by by′ : List ℕ) (k : ℕ) : Type 0 where

@@ -44,7 +44,8 @@ pub record Lies (nodes arguments left right : List ℕ) (key place : ℕ) (out :
   pub keyed : key ≡ suc (keyOfDigits (length right) digits)
   pub room : place + widthOf nodes arguments left right ≤ at
   pub unifiable : outcome (nodesFrom nodes arguments) (pairedBy left right digits []) ≡ unified
-  pub bound : take (length (variablesOf (nodesFrom nodes arguments))) (drop (place + (length left + length right)) out) ≡ wordsOf (nodesFrom nodes arguments) (pairedBy left right digits [])
+  pub bound :
+      take (length (variablesOf (nodesFrom nodes arguments))) (drop (place + (length left + length right)) out) ≡ wordsOf (nodesFrom nodes arguments) (pairedBy left right digits [])
 
 -- What is remembered: in each slot nothing, or one more than a key, and a place.
 pub record Remembers (nodes arguments left right memory out : List ℕ) (at : ℕ) : Type 0 where

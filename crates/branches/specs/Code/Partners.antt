@@ -33,7 +33,8 @@ pub record Trying (nodes arguments heads next : List ℕ) : Type 0 where
 -- A pair of terms with mark 0 has no common value.
 pub record MayPair (nodes arguments left right may : List ℕ) : Type 0 where
   pub size : length may ≡ maxTerms * maxTerms
-  pub never : (i j : ℕ) → i < length left → j < length right → word may (maxTerms * i + j) ≡ 0 → Never (nodesFrom nodes arguments) (word left i) (word right j)
+  pub never : (i j : ℕ) → i < length left → j < length right → word may (maxTerms * i + j) ≡ 0 →
+      Never (nodesFrom nodes arguments) (word left i) (word right j)
 
 -- Left term q may be paired with right term j, and the mark of this is not 0.
 unfoldable pub partnerAt : List ℕ → ℕ → List ℕ → ℕ → Bool

@@ -91,12 +91,14 @@ pub record Ending (nodes arguments left right : List ℕ) (labels : Labels) (key
 -- The entries below the branch that stands in an entry at depth i.
 abbrev pub branchEntries : List ℕ → List ℕ → List ℕ → List ℕ → Labels → List ℕ → ℕ → List (List ℕ)
 branchEntries nodes arguments left right labels entry i =
-    below (nodesFrom nodes arguments) right (labels .left) (labels .right) (drop i left) (take i entry) (pairsIn left right entry i) (marksIn left right entry)
+    below (nodesFrom nodes arguments) right (labels .left) (labels .right) (drop i left) (take i entry) (pairsIn left right entry i)
+    (marksIn left right entry)
 
 -- Those whose next left term has digit d.
 abbrev pub digitEntries : List ℕ → List ℕ → List ℕ → List ℕ → Labels → List ℕ → ℕ → ℕ → List (List ℕ)
 digitEntries nodes arguments left right labels entry i d =
-    onDigit (nodesFrom nodes arguments) right (below (nodesFrom nodes arguments) right (labels .left) (labels .right) (drop (i + 1) left)) (take i entry) (pairsIn left right entry i) (marksIn left right entry) (word left i) d
+    onDigit (nodesFrom nodes arguments) right (below (nodesFrom nodes arguments) right (labels .left) (labels .right) (drop (i + 1) left))
+    (take i entry) (pairsIn left right entry i) (marksIn left right entry) (word left i) d
 
 -- The digits of the first i left terms and the marks are as before.
 pub record KeepsBranch (left right : List ℕ) (i : ℕ) (entry entry′ : List ℕ) : Type 0 where
@@ -139,7 +141,9 @@ pub record Joining (nodes arguments left right : List ℕ) (labels : Labels) (kn
 -- The entries below the branch are written, if the pair of a and b can be joined to those before it.
 abbrev pub WalkedJoined : List ℕ → List ℕ → List ℕ → List ℕ → Labels → ℕ → ℕ → ℕ → List ℕ → List ℕ → List ℕ → ℕ → List ℕ → List ℕ → List ℕ → Written → Type 0
 WalkedJoined nodes arguments left right labels i a b entry memory out at entry′ memory′ out′ w =
-    WritesBelow (ifUnified (outcome (nodesFrom nodes arguments) ((a, b) ∷ pairsIn left right entry i)) (branchEntries nodes arguments left right labels entry (i + 1))) nodes arguments left right (i + 1) entry memory out at entry′ memory′ out′ w
+    WritesBelow
+    (ifUnified (outcome (nodesFrom nodes arguments) ((a, b) ∷ pairsIn left right entry i)) (branchEntries nodes arguments left right labels entry (i + 1)))
+    nodes arguments left right (i + 1) entry memory out at entry′ memory′ out′ w
 
 -- What the loop over digits keeps: those from d on are still to be written, and the branch is as it was.
 pub record Turning (nodes arguments left right : List ℕ) (labels : Labels) (i : ℕ) (entry₀ out₀ : List ℕ) (at₀ d : ℕ) (entry memory out : List ℕ) (at : ℕ) : Type 0 where
@@ -148,7 +152,9 @@ pub record Turning (nodes arguments left right : List ℕ) (labels : Labels) (i 
   pub size : length entry ≡ length entry₀
   pub keeps : KeepsBranch left right i entry₀ entry
   pub remembers : Remembers nodes arguments left right memory out at
-  pub remains : Remains (branchEntries nodes arguments left right labels entry₀ i) out₀ at₀ (over d (suc (length right + labels .right) - d) (λ e. digitEntries nodes arguments left right labels entry₀ i e)) out at
+  pub remains :
+      Remains (branchEntries nodes arguments left right labels entry₀ i) out₀ at₀
+      (over d (suc (length right + labels .right) - d) (λ e. digitEntries nodes arguments left right labels entry₀ i e)) out at
 
 -- The entries below the branch without digits.
 abbrev pub allEntries : List ℕ → List ℕ → List ℕ → List ℕ → Labels → List (List ℕ)

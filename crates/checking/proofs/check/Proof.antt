@@ -28,15 +28,19 @@ passed-4 : (c : tie.Else4) → Passed 4 (conditions (c .before .before .before .
 unfolding conditions
 passed-4 c = passed-3 (c .before .before) ∙ not-held _ _ (sym (c .before .wrong-node .ensures) ∙ c .if4 .left)
 
-passed-5 : (c : tie.Else5) → Passed 5 (conditions (c .before .before .before .before .before .before .before .before .before .before .args .table .now))
+passed-5 : (c : tie.Else5) →
+    Passed 5 (conditions (c .before .before .before .before .before .before .before .before .before .before .args .table .now))
 unfolding conditions
 passed-5 c = passed-4 (c .before .before) ∙ not-held _ _ (sym (c .before .wrong-argument .ensures) ∙ c .if5 .left)
 
-passed-6 : (c : tie.Else6) → Passed 6 (conditions (c .before .before .before .before .before .before .before .before .before .before .before .before .args .table .now))
+passed-6 : (c : tie.Else6) →
+    Passed 6 (conditions (c .before .before .before .before .before .before .before .before .before .before .before .before .args .table .now))
 unfolding conditions
 passed-6 c = passed-5 (c .before .before) ∙ not-held _ _ (sym (c .before .wrong-term .ensures) ∙ c .if6 .left)
 
-passed-7 : (c : tie.Else7) → Passed 7 (conditions (c .before .before .before .before .before .before .before .before .before .before .before .before .before .before .args .table .now))
+passed-7 : (c : tie.Else7) →
+    Passed 7
+    (conditions (c .before .before .before .before .before .before .before .before .before .before .before .before .before .before .args .table .now))
 unfolding conditions
 passed-7 c = passed-6 (c .before .before) ∙ not-held _ _ (sym (c .before .wrong-label .ensures) ∙ c .if7 .left)
 

@@ -33,7 +33,8 @@ pub record ClosureUpTo (ns : List Node) (ps : List (ℕ × ℕ)) (heads : List �
   pub joined : (i : ℕ) → i < length ns → Joined ns ps i (classOf heads i)
   pub wanted : (a b : ℕ) → List·Memᴰ (a, b) todo → Joined ns ps a b
   pub given : (a b : ℕ) → List·Memᴰ (a, b) ps → Linked heads todo a b
-  pub one-variable : (i j x : ℕ) → i < length ns → j < length ns → nodeAt ns i ≡ variable x → nodeAt ns j ≡ variable x → classOf heads i ≡ classOf heads j
+  pub one-variable : (i j x : ℕ) → i < length ns → j < length ns → nodeAt ns i ≡ variable x → nodeAt ns j ≡ variable x →
+      classOf heads i ≡ classOf heads j
   pub applications : (i f : ℕ) (us : List ℕ) → i < length ns → nodeAt ns i ≡ application f us → HeadLinks ns heads todo i f us
 
 -- Arguments j of nodes g and h.
@@ -60,5 +61,7 @@ pub record Joins (nodes arguments counts heads next : List ℕ) (a b : ℕ) (fin
   pub fewer : roots (nodeCount nodes) heads′ ≤ roots (nodeCount nodes) heads
   pub stay : (i : ℕ) → i < nodeCount nodes → classOf heads (classOf heads′ i) ≡ classOf heads′ i
   pub kept : KeepsClosed nodes counts heads heads′
-  pub done : fine ≡ true → (ps todo : List (ℕ × ℕ)) → ClosureUpTo (nodesFrom nodes arguments) ps heads ((a, b) ∷ todo) → ClosureUpTo (nodesFrom nodes arguments) ps heads′ todo
-  pub clashes : fine ≡ false → (ps todo : List (ℕ × ℕ)) → ClosureUpTo (nodesFrom nodes arguments) ps heads ((a, b) ∷ todo) → Clash (nodesFrom nodes arguments) ps
+  pub done : fine ≡ true → (ps todo : List (ℕ × ℕ)) → ClosureUpTo (nodesFrom nodes arguments) ps heads ((a, b) ∷ todo) →
+      ClosureUpTo (nodesFrom nodes arguments) ps heads′ todo
+  pub clashes : fine ≡ false → (ps todo : List (ℕ × ℕ)) → ClosureUpTo (nodesFrom nodes arguments) ps heads ((a, b) ∷ todo) →
+      Clash (nodesFrom nodes arguments) ps

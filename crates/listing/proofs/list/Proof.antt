@@ -22,14 +22,16 @@ list-accepted-requires c κs =
 
 returns : tie.Need-returns
 returns c =
-    refused-table _ _ _ _ (c .before .refusal .given .0 .0) (sym (ap told (c .before .refusal .given .1)) ∙ c .before .before .before .check .ensures) refl refl
+    let e = sym (ap told (c .before .refusal .given .1)) ∙ c .before .before .before .check .ensures in
+    refused-table _ _ _ _ (c .before .refusal .given .0 .0) e refl refl
 
 same-length : tie.Need-same-length
 same-length c = search needs
 
 returns-2 : tie.Need-returns-2
 returns-2 c =
-    let g = accepted _ .0 (sym (c .before .before .before .before .before .before .check .ensures) ∙ ap told (c .before .before .before .before .enum-told .given .1)) in
+    let a = c .before .before .before .before in
+    let g = accepted _ .0 (sym (a .before .before .check .ensures) ∙ ap told (a .enum-told .given .1)) in
     accepted-table _ _ _ _ g (c .before .before .list-accepted .ensures)
 
 pub list-spec : {M : Type 1} → statement M

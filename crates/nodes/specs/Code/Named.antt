@@ -38,8 +38,10 @@ pub record Named (nodes arguments heads names : List ℕ) : Type 0 where
   pub node : (i : ℕ) → i < nodeCount nodes → valueName heads names i < nodeCount nodes
   pub variable : (i : ℕ) → i < nodeCount nodes → kindOf nodes (classOf heads i) ≡ 0 → valueName heads names i ≡ classOf heads i
   pub application : (i : ℕ) → i < nodeCount nodes → Applied nodes heads i → kindOf nodes (valueName heads names i) ≡ 0 → ⊥
-  pub composed : (i j : ℕ) → i < nodeCount nodes → j < nodeCount nodes → Applied nodes heads i → Applied nodes heads j → Alike nodes arguments heads names (classOf heads i) (classOf heads j) → valueName heads names i ≡ valueName heads names j
-  pub taken-apart : (i j : ℕ) → i < nodeCount nodes → j < nodeCount nodes → Applied nodes heads i → Applied nodes heads j → valueName heads names i ≡ valueName heads names j → Alike nodes arguments heads names (classOf heads i) (classOf heads j)
+  pub composed : (i j : ℕ) → i < nodeCount nodes → j < nodeCount nodes → Applied nodes heads i → Applied nodes heads j →
+      Alike nodes arguments heads names (classOf heads i) (classOf heads j) → valueName heads names i ≡ valueName heads names j
+  pub taken-apart : (i j : ℕ) → i < nodeCount nodes → j < nodeCount nodes → Applied nodes heads i → Applied nodes heads j →
+      valueName heads names i ≡ valueName heads names j → Alike nodes arguments heads names (classOf heads i) (classOf heads j)
 
 -- Each number names itself.
 pub record Themselves (names : List ℕ) : Type 0 where

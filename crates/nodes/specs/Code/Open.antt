@@ -44,7 +44,8 @@ pub record ClosedHeads (nodes arguments counts heads : List ℕ) : Type 0 where
   pub closed : (i : ℕ) → IsClosed nodes counts i → IsClosed nodes counts (classOf heads i)
   pub least : (i : ℕ) → IsClosed nodes counts i → classOf heads i ≤ i
   pub valued : (i : ℕ) → IsClosed nodes counts i → value (nodesFrom nodes arguments) var (classOf heads i) ≡ value (nodesFrom nodes arguments) var i
-  pub shared : (i j : ℕ) → IsClosed nodes counts i → IsClosed nodes counts j → value (nodesFrom nodes arguments) var i ≡ value (nodesFrom nodes arguments) var j → classOf heads i ≡ classOf heads j
+  pub shared : (i j : ℕ) → IsClosed nodes counts i → IsClosed nodes counts j →
+      value (nodesFrom nodes arguments) var i ≡ value (nodesFrom nodes arguments) var j → classOf heads i ≡ classOf heads j
 
 -- Closed applications have the heads that they had.
 abbrev pub KeepsClosed : List ℕ → List ℕ → List ℕ → List ℕ → Type 0

@@ -10,7 +10,8 @@ use Rattle.unification.specs.Computed.Classes.{classOf}
 
 -- Node h leads to node g: g is the head of an argument of h, or what such a head leads to.
 pub data Leads (nodes arguments : List ℕ) (due : ℕ → ℕ) (heads : List ℕ) : ℕ → ℕ → Type 0 where
-  next : {h g : ℕ} (j : ℕ) → h < nodeCount nodes → j < due h → classOf heads (argumentOf nodes arguments h j) ≡ g → Leads nodes arguments due heads h g
+  next : {h g : ℕ} (j : ℕ) → h < nodeCount nodes → j < due h → classOf heads (argumentOf nodes arguments h j) ≡ g →
+      Leads nodes arguments due heads h g
   further : {h g k : ℕ} → Leads nodes arguments due heads h g → Leads nodes arguments due heads g k → Leads nodes arguments due heads h k
 
 -- Some node leads to itself.
@@ -27,7 +28,8 @@ pub record Listed (nodes arguments : List ℕ) (due : ℕ → ℕ) (heads order 
   pub node : (p : ℕ) → p < length order → word order p < nodeCount nodes
   pub compound : (p : ℕ) → p < length order → 0 < due (word order p)
   pub once : (p q : ℕ) → p < q → q < length order → word order p ≡ word order q → ⊥
-  pub first : (p : ℕ) → p < length order → (j : ℕ) → j < due (word order p) → Met due order p (classOf heads (argumentOf nodes arguments (word order p) j))
+  pub first : (p : ℕ) → p < length order → (j : ℕ) → j < due (word order p) →
+      Met due order p (classOf heads (argumentOf nodes arguments (word order p) j))
 
 -- Every head with arguments that are looked at stands in such an order.
 pub record Ordered (nodes arguments : List ℕ) (due : ℕ → ℕ) (heads order : List ℕ) : Type 0 where

@@ -49,7 +49,8 @@ OneMerged n heads next heads′ next′ = (g : ℕ) × (h : ℕ) × Merged n hea
 -- One after the other has.
 pub data Merges (n : ℕ) (heads next : List ℕ) : List ℕ → List ℕ → Type 0 where
   none : Merges n heads next heads next
-  more : {heads₁ next₁ heads₂ next₂ : List ℕ} → Merges n heads next heads₁ next₁ → OneMerged n heads₁ next₁ heads₂ next₂ → Merges n heads next heads₂ next₂
+  more : {heads₁ next₁ heads₂ next₂ : List ℕ} → Merges n heads next heads₁ next₁ → OneMerged n heads₁ next₁ heads₂ next₂ →
+      Merges n heads next heads₂ next₂
 
 -- Classes before the last head went.
 pub record Last (n : ℕ) (heads′ next′ : List ℕ) : Type 0 where

@@ -23,7 +23,9 @@ pub record Lists (nodes arguments : List ℕ) (v : Variables) : Type 0 where
 
 -- The binding words stand in the lent words, before those past them, for whatever pairs the classes stand for.
 abbrev pub Leaves : List ℕ → List ℕ → List ℕ → List ℕ → List ℕ → Type 0
-Leaves nodes arguments heads out out′ = (ps : List (ℕ × ℕ)) → Stands nodes arguments heads ps → out′ ≡ wordsOf (nodesFrom nodes arguments) ps ++ drop (length (variablesOf (nodesFrom nodes arguments))) out
+Leaves nodes arguments heads out out′ =
+    (ps : List (ℕ × ℕ)) → Stands nodes arguments heads ps →
+    out′ ≡ wordsOf (nodesFrom nodes arguments) ps ++ drop (length (variablesOf (nodesFrom nodes arguments))) out
 
 -- What unifying begins with: the variables present, and classes in which nodes of one term are together. They stand for
 -- pairs of nodes of one term, which every substitution unifies.

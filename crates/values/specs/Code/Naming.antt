@@ -15,7 +15,8 @@ use Rattle.nodes.specs.Code.Formed.{OneConstant}
 pub record Nameable (nodes arguments heads order : List ℕ) : Type 0 where
   pub node : (p : ℕ) → p < length order → word order p < nodeCount nodes
   pub once : (p q : ℕ) → p < q → q < length order → word order p ≡ word order q → ⊥
-  pub first : (p q j : ℕ) → q ≤ p → p < length order → j < countOf nodes (word order q) → classOf heads (argumentOf nodes arguments (word order q) j) ≡ word order p → ⊥
+  pub first : (p q j : ℕ) → q ≤ p → p < length order → j < countOf nodes (word order q) →
+      classOf heads (argumentOf nodes arguments (word order q) j) ≡ word order p → ⊥
 
 -- Node g stands at some place of the order.
 abbrev pub IsPlaced : List ℕ → ℕ → Type 0
@@ -82,7 +83,8 @@ pub record Represented (nodes arguments heads order names : List ℕ) (q : ℕ) 
 pub record NamedBefore (nodes arguments heads order names : List ℕ) (p : ℕ) : Type 0 where
   pub variable : (q : ℕ) → q < p → kindOf nodes (word order q) ≡ 0 → word names (word order q) ≡ word order q
   pub application : (q : ℕ) → q < p → (kindOf nodes (word order q) ≡ 0 → ⊥) → Represented nodes arguments heads order names q
-  pub apart : (q r : ℕ) → q < p → r < p → Representative nodes order names q → Representative nodes order names r → Alike nodes arguments heads names (word order q) (word order r) → q ≡ r
+  pub apart : (q r : ℕ) → q < p → r < p → Representative nodes order names q → Representative nodes order names r →
+      Alike nodes arguments heads names (word order q) (word order r) → q ≡ r
 
 -- The nodes before place p have their names, and the representatives among them are in the table.
 pub record Naming (nodes arguments heads order names buckets earlier : List ℕ) (p : ℕ) : Type 0 where
@@ -113,4 +115,5 @@ pub record Found (nodes arguments heads order names : List ℕ) (p c : ℕ) : Ty
 -- On the way along the representatives with key k: those with the key from cursor c on are not alike the node at place p.
 pub record Searching (nodes arguments heads order names : List ℕ) (p k c : ℕ) : Type 0 where
   pub at : (b : ℕ) → c ≡ suc b → (b < p) × Representative nodes order names b × (keyAt nodes arguments heads order names b ≡ k)
-  pub passed : (q : ℕ) → q < p → c ≤ q → Representative nodes order names q → keyAt nodes arguments heads order names q ≡ k → Alike nodes arguments heads names (word order q) (word order p) → ⊥
+  pub passed : (q : ℕ) → q < p → c ≤ q → Representative nodes order names q → keyAt nodes arguments heads order names q ≡ k →
+      Alike nodes arguments heads names (word order q) (word order p) → ⊥

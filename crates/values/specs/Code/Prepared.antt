@@ -22,7 +22,8 @@ pub record ClosedListed (nodes counts heads closed : List ℕ) : Type 0 where
 pub record ClosedTable (nodes arguments heads closed buckets earlier : List ℕ) : Type 0 where
   pub buckets-long : length buckets ≡ keys
   pub earlier-long : length earlier ≡ maxNodes
-  pub chained : (names : List ℕ) → length names ≡ nodeCount nodes → Themselves names → Chained (Representative nodes closed names) (keyAt nodes arguments heads closed names) buckets earlier (length closed)
+  pub chained : (names : List ℕ) → length names ≡ nodeCount nodes → Themselves names →
+      Chained (Representative nodes closed names) (keyAt nodes arguments heads closed names) buckets earlier (length closed)
 
 -- How many words they take: the table, open applications, closed ones, and how many there are of each.
 abbrev pub preparedWords : ℕ

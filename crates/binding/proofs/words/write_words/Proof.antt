@@ -9,7 +9,8 @@ use Rattle.binding.proofs.words.write_words.Statement.{statement}
 use Rattle.binding.proofs.words.write_words.Tie as tie
 
 abbrev Inv-loop : tie.InvT-loop
-Inv-loop nodes arguments heads names by list out₀ k₀ out k = (k ≤ length list) × (length out ≡ length out₀) × (out ≡ readTo heads names by list out₀ k)
+Inv-loop nodes arguments heads names by list out₀ k₀ out k =
+    (k ≤ length list) × (length out ≡ length out₀) × (out ≡ readTo heads names by list out₀ k)
 
 abbrev μ-loop : tie.MeasureT-loop
 μ-loop nodes arguments heads names by list out₀ k₀ out k = length list - k

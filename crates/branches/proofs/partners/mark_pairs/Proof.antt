@@ -9,7 +9,8 @@ use Rattle.branches.proofs.partners.mark_pairs.Tie as tie
 
 abbrev Inv-loop : tie.InvT-loop
 Inv-loop nodes arguments left right labels heads₀ next₀ known₀ i₀ heads next known i =
-    (i ≤ length left) × PairsKnown nodes arguments left right known × KeepsCounts nodes known₀ known × (length known ≡ length known₀) × (heads ≡ heads₀) × (next ≡ next₀)
+    (i ≤ length left) × PairsKnown nodes arguments left right known × KeepsCounts nodes known₀ known × (length known ≡ length known₀) ×
+    (heads ≡ heads₀) × (next ≡ next₀)
 
 abbrev μ-loop : tie.MeasureT-loop
 μ-loop nodes arguments left right labels heads₀ next₀ known₀ i₀ heads next known i = length left - i

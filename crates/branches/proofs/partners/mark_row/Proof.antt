@@ -12,7 +12,8 @@ use Rattle.branches.proofs.partners.mark_row.Tie as tie
 
 abbrev Inv-loop : tie.InvT-loop
 Inv-loop nodes arguments left right heads₀ next₀ known₀ i a j₀ heads next known j =
-    (j ≤ length right) × PairsKnown nodes arguments left right known × KeepsCounts nodes known₀ known × (length known ≡ length known₀) × (heads ≡ heads₀) × (next ≡ next₀)
+    (j ≤ length right) × PairsKnown nodes arguments left right known × KeepsCounts nodes known₀ known × (length known ≡ length known₀) ×
+    (heads ≡ heads₀) × (next ≡ next₀)
 
 abbrev μ-loop : tie.MeasureT-loop
 μ-loop nodes arguments left right heads₀ next₀ known₀ i a j₀ heads next known j = length right - j

@@ -46,7 +46,8 @@ claims t =
 
 abbrev join-Inv-loop : join-lts.InvT-loop
 join-Inv-loop nodes arguments counts heads₀ next₀ i j g h first second count k₀ heads next k =
-    (count ≡ countOf nodes g) × (k ≤ count) × (length heads ≡ length heads₀) × (length next ≡ length next₀) × Advances nodes arguments counts heads₀ next₀ (firstPairs nodes arguments g h k) heads next
+    (count ≡ countOf nodes g) × (k ≤ count) × (length heads ≡ length heads₀) × (length next ≡ length next₀) ×
+    Advances nodes arguments counts heads₀ next₀ (firstPairs nodes arguments g h k) heads next
 
 abbrev join-μ-loop : join-lts.MeasureT-loop
 join-μ-loop nodes arguments counts heads₀ next₀ i j g h first second count k₀ heads next k = count - k
@@ -66,6 +67,10 @@ Alike t = join-lts.Else3 (claims t) (join-at t) join.Post join-Inv-loop join-μ-
 
 abbrev start : (t : ℕ) → Apart t → join-lts.Start (claims t) (join-at t) join.Post join-Inv-loop join-μ-loop
 start t c = c .before .before .before .before .before .before .before .before .before .before
+
+-- The place where the heads were found, from where they are tested.
+abbrev met : (t : ℕ) → Tested t → Apart t
+met t c = c .before .before .before .before .before .before .before
 
 -- the two nodes are of different classes
 meets : (t : ℕ) (c : Apart t) → let s = start t c in Meeting (s .args .nodes .now) (s .args .arguments .now) (s .args .counts .now) (s .args .heads .now) (s .args .next .now) (s .args .a .0) (s .args .b .0)
@@ -91,22 +96,29 @@ second-kind t c =
     c .is-variable2 .ensures ∙ ap (λ (k : ℕ). eqb (kindOf (start t (c .before .before .before .before) .args .nodes .now) k) 0) (c .before .before .node2 .ensures .0)
 
 -- both heads are applications
-applied : (t : ℕ) (c : Tested t) → (kindOf (start t (c .before .before .before .before .before .before .before) .args .nodes .now) (first-head t (c .before .before .before .before .before .before .before)) ≡ 0 → ⊥) × (kindOf (start t (c .before .before .before .before .before .before .before) .args .nodes .now) (second-head t (c .before .before .before .before .before .before .before)) ≡ 0 → ⊥)
+applied : (t : ℕ) (c : Tested t) →
+    (kindOf (start t (met t c) .args .nodes .now) (first-head t (met t c)) ≡ 0 → ⊥) ×
+    (kindOf (start t (met t c) .args .nodes .now) (second-head t (met t c)) ≡ 0 → ⊥)
 applied t c =
-    applied-tested (start t (c .before .before .before .before .before .before .before) .args .nodes .now) _ _ (c .before .before .before .before .is-variable .result) (c .before .before .before .is-variable2 .result) (first-kind t (c .before .before .before)) (second-kind t (c .before .before .before)) (c .before .before .if2 .left)
+    applied-tested (start t (met t c) .args .nodes .now) _ _ (c .before .before .before .before .is-variable .result)
+    (c .before .before .before .is-variable2 .result) (first-kind t (c .before .before .before)) (second-kind t (c .before .before .before))
+    (c .before .before .if2 .left)
 
 -- their test for one symbol
-symbols : (t : ℕ) (c : Tested t) → c .before .one-symbol .result ≡ symbolTest (start t (c .before .before .before .before .before .before .before) .args .nodes .now) (first-head t (c .before .before .before .before .before .before .before)) (second-head t (c .before .before .before .before .before .before .before))
+symbols : (t : ℕ) (c : Tested t) →
+    c .before .one-symbol .result ≡ symbolTest (start t (met t c) .args .nodes .now) (first-head t (met t c)) (second-head t (met t c))
 symbols t c =
-    let ns = start t (c .before .before .before .before .before .before .before) .args .nodes .now in
+    let ns = start t (met t c) .args .nodes .now in
     tested-by (symbolTest ns) _ _ _ _ _ (c .before .before .before .before .before .before .node .ensures .0) (c .before .before .before .before .before .node2 .ensures .0) (c .before .one-symbol .ensures)
 
 -- their test for closed applications
-closed : (t : ℕ) (c : Tested t) → c .both-closed .result ≡ (closedTest (start t (c .before .before .before .before .before .before .before) .args .nodes .now) (start t (c .before .before .before .before .before .before .before) .args .counts .now) (first-head t (c .before .before .before .before .before .before .before)) && closedTest (start t (c .before .before .before .before .before .before .before) .args .nodes .now) (start t (c .before .before .before .before .before .before .before) .args .counts .now) (second-head t (c .before .before .before .before .before .before .before)))
+closed : (t : ℕ) (c : Tested t) →
+    c .both-closed .result ≡ (closedTest (start t (met t c) .args .nodes .now) (start t (met t c) .args .counts .now) (first-head t (met t c)) && closedTest (start t (met t c) .args .nodes .now) (start t (met t c) .args .counts .now) (second-head t (met t c)))
 closed t c =
-    let ns = start t (c .before .before .before .before .before .before .before) .args .nodes .now in
-    let ks = start t (c .before .before .before .before .before .before .before) .args .counts .now in
-    tested-by (λ i j. closedTest ns ks i && closedTest ns ks j) _ _ _ _ _ (c .before .before .before .before .before .before .node .ensures .0) (c .before .before .before .before .before .node2 .ensures .0) (c .both-closed .ensures)
+    let ns = start t (met t c) .args .nodes .now in
+    let ks = start t (met t c) .args .counts .now in
+    tested-by (λ i j. closedTest ns ks i && closedTest ns ks j) _ _ _ _ _ (c .before .before .before .before .before .before .node .ensures .0)
+    (c .before .before .before .before .before .node2 .ensures .0) (c .both-closed .ensures)
 
 -- they have one symbol and are not both closed
 alike : (t : ℕ) (c : Alike t) → let s = start t (c .before .before .before .before .before .before .before .before) in OneSymbolHeads (s .args .nodes .now) (s .args .arguments .now) (s .args .counts .now) (s .args .heads .now) (s .args .a .0) (s .args .b .0)

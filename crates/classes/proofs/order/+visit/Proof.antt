@@ -37,7 +37,8 @@ claims t =
     (argument-head-reads.Asked, argument-head-reads.Learnt, is-due-reads.Asked, is-due-reads.Learnt, visit-below t, visit.Post)
 
 abbrev visit-Inv-loop : visit-lts.InvT-loop
-visit-Inv-loop nodes arguments counts heads marks₀ order₀ placed h i mark n count₀ j₀ marks order count j = (j ≤ n) × Turn nodes arguments (word counts) heads marks₀ (h .0) marks order count j
+visit-Inv-loop nodes arguments counts heads marks₀ order₀ placed h i mark n count₀ j₀ marks order count j =
+    (j ≤ n) × Turn nodes arguments (word counts) heads marks₀ (h .0) marks order count j
 
 abbrev visit-μ-loop : visit-lts.MeasureT-loop
 visit-μ-loop nodes arguments counts heads marks₀ order₀ placed h i mark n count₀ j₀ marks order count j = n - j

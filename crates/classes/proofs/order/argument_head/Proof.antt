@@ -17,7 +17,8 @@ returns : tie.Need-returns
 returns c =
     let s = c .before .before .before .before .before .before in
     let a = c .before .before .argument in
-    argument-head (s .args .nodes .now) (s .args .arguments .now) (s .args .heads .now) (s .args .node .0) (s .args .j) (a .result .0) (c .node-in .result .0) (s .pre .1 .0) (s .pre .1 .1 .0) (a .ensures .0) (a .ensures .1) (c .node-in .ensures .0)
+    argument-head (s .args .nodes .now) (s .args .arguments .now) (s .args .heads .now) (s .args .node .0) (s .args .j) (a .result .0)
+    (c .node-in .result .0) (s .pre .1 .0) (s .pre .1 .1 .0) (a .ensures .0) (a .ensures .1) (c .node-in .ensures .0)
 
 pub argument-head-spec : {M : Type 1} → statement M
 argument-head-spec = tie.close (tie.spec argument-requires cast-node-in node-in-requires returns)

@@ -28,7 +28,8 @@ shared-slice-read-if1 c =
 returns : tie.Need-returns
 returns c =
     let s = c .before .before .before .before .before .before .before .before .before .args in
-    searched-leaf (s .nodes .now) (s .arguments .now) (word (s .counts .now)) (s .heads .now) (s .a .0) _ (c .before .before .before .node-in .ensures .0) (c .if1 .taken)
+    searched-leaf (s .nodes .now) (s .arguments .now) (word (s .counts .now)) (s .heads .now) (s .a .0) _
+    (c .before .before .before .node-in .ensures .0) (c .if1 .taken)
 
 node-count-requires : tie.Need-node-count-requires
 node-count-requires c κs = search needs

@@ -14,7 +14,8 @@ use Rattle.classes.proofs.order.put_in_order.Statement.{statement}
 use Rattle.classes.proofs.order.put_in_order.Tie as tie
 
 abbrev Inv-loop : tie.InvT-loop
-Inv-loop nodes arguments counts heads opens marks₀ order₀ count₀ i₀ marks order count i = (i ≤ length opens) × Sweep nodes arguments (word counts) heads opens marks order count i
+Inv-loop nodes arguments counts heads opens marks₀ order₀ count₀ i₀ marks order count i =
+    (i ≤ length opens) × Sweep nodes arguments (word counts) heads opens marks order count i
 
 abbrev μ-loop : tie.MeasureT-loop
 μ-loop nodes arguments counts heads opens marks₀ order₀ count₀ i₀ marks order count i = length opens - i

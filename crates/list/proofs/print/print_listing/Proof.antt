@@ -26,7 +26,8 @@ number-requires c κs = search needs
 
 write-title-requires : tie.Need-write-title-requires
 write-title-requires c κs =
-    title-fits _ _ _ (omega arith) (search needs) (c .before .before .before .before .before .before .before .before .before .before .before .before .before .before .pre .1)
+    title-fits _ _ _ (omega arith) (search needs)
+    (c .before .before .before .before .before .before .before .before .before .before .before .before .before .before .pre .1)
 
 enum-known-answer-2 : tie.Need-enum-known-answer-2
 enum-known-answer-2 c = search needs

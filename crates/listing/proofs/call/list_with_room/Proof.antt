@@ -62,10 +62,18 @@ prepare-and-list-requires c κs =
     (p .0, (k .0, (rw (k .1 .1 .0, k .1 .1 .1) (begun-classes (p .0) (b .ensures) e (k .0 .0) (c .before .before .before .before .before .before .before .before .before .before .before .before .before .before .before .before .before .before .before .before .before .before .before .make-circles .ensures)), (begun-width (p .0) (b .ensures), omega (arith, c .before .before .before .before .before .before .before .before .before .before .before .before .before .before .before .before .before .before .before .before .before .before .before .before .before .before .if1 .left)))))
 
 same-length-2 : tie.Need-same-length-2
-same-length-2 c = c .before .before .before .before .before .before .prepare-and-list .kept .1 .1 .1 .1 .1 .1 .0 ∙ c .before .before .before .before .before .before .before .before .before .before .before .before .before .before .before .before .before .before .complete-known .kept .1 .1 .1 .1 .1 .1 .0 ∙ c .before .before .before .before .before .before .before .before .before .before .before .before .before .before .before .before .before .before .before .before .before .before .before .before .before .before .before .before .before .before .before .before .before .before .before .before .before .begin-shared .kept .1 .1 .0
+same-length-2 c =
+    let listed = c .before .before .before .before .before .before in
+    let known = listed .before .before .before .before .before .before .before .before .before .before .before .before in
+    let begun = known .before .before .before .before .before .before .before .before .before .before .before .before .before .before .before .before .before .before .before in
+    listed .prepare-and-list .kept .1 .1 .1 .1 .1 .1 .0 ∙ known .complete-known .kept .1 .1 .1 .1 .1 .1 .0 ∙ begun .begin-shared .kept .1 .1 .0
 
 same-length-3 : tie.Need-same-length-3
-same-length-3 c = c .before .before .before .before .before .before .prepare-and-list .kept .1 .1 .1 .1 .1 .1 .1 .0 ∙ c .before .before .before .before .before .before .before .before .before .before .before .before .before .before .before .before .before .before .complete-known .kept .1 .1 .1 .1 .1 .1 .1 .0 ∙ c .before .before .before .before .before .before .before .before .before .before .before .before .before .before .before .before .before .before .before .before .before .before .before .before .before .before .before .before .before .before .make-circles .kept .1 .0
+same-length-3 c =
+    let listed = c .before .before .before .before .before .before in
+    let known = listed .before .before .before .before .before .before .before .before .before .before .before .before in
+    let begun = known .before .before .before .before .before .before .before .before .before .before .before .before in
+    listed .prepare-and-list .kept .1 .1 .1 .1 .1 .1 .1 .0 ∙ known .complete-known .kept .1 .1 .1 .1 .1 .1 .1 .0 ∙ begun .make-circles .kept .1 .0
 
 same-length-4 : tie.Need-same-length-4
 same-length-4 c = search needs

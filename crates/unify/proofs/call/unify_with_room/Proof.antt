@@ -77,7 +77,11 @@ bind-requires c κs =
     let g = c .before .before .before .before .before .before .before .before .before .before .before .before .before .before .before .before .before .before .before .before .before .before .before .before .before .before .before .before .before .before .before .before .before .before .before .before .begin-shared in
     let x = c .before .before .before .before .before .before .before .before .before .before .before .before .extend .ensures in
     let e = c .before .before .before .before .before .before .enum-told3 .given .1 in
-    ((s .pre .0, k), ((x .formed e (g .ensures .pairs) (g .ensures .stands), prepared-kept _ _ _ _ _ _ (s .pre .0) k (x .kept e) (with-open (c .before .before .before .before .before .before .before .before .before .before .before .before .before .before .before .before .before .before .before .prepare .ensures))), list-given _ _ (g .result) _ (g .ensures .lists) (c .before .before .before .before .before .before .before .before .before .before .before .before .before .before .before .before .before .before .before .before .before .before .before .before .before .before .before .before .before .before .before .before .if1 .left)))
+    let ready = c .before .before .before .before .before .before .before .before .before .before .before .before .before .before .before .before .before .before .before .prepare .ensures in
+    let more = c .before .before .before .before .before .before .before .before .before .before .before .before in
+    let apart = more .before .before .before .before .before .before .before .before .before .before .before .before .before .before .before .before .before .before .before .before .if1 .left in
+    let kept = prepared-kept _ _ _ _ _ _ (s .pre .0) k (x .kept e) (with-open ready) in
+    ((s .pre .0, k), ((x .formed e (g .ensures .pairs) (g .ensures .stands), kept), list-given _ _ (g .result) _ (g .ensures .lists) apart))
 
 same-length-2 : tie.Need-same-length-2
 same-length-2 c = search needs

@@ -12,7 +12,8 @@ use Rattle.values.proofs.beginning.share_heads.Tie as tie
 
 abbrev Inv-loop : tie.InvT-loop
 Inv-loop starts names heads₀ i₀ heads i =
-    (length starts ≡ length heads) × (length heads ≡ length heads₀) × (i ≤ length starts) × HeadsNamed starts names × ((k : ℕ) → k < i → word heads k ≡ word names (word starts k))
+    (length starts ≡ length heads) × (length heads ≡ length heads₀) × (i ≤ length starts) × HeadsNamed starts names ×
+    ((k : ℕ) → k < i → word heads k ≡ word names (word starts k))
 
 abbrev μ-loop : tie.MeasureT-loop
 μ-loop starts names heads₀ i₀ heads i = length starts - i
@@ -53,7 +54,8 @@ same-length c = search needs
 returns : tie.Need-returns Inv-loop μ-loop
 returns c =
     let l = c .before .loop in
-    shared-all (c .before .before .args .starts .now) (c .before .before .args .names .now) (l .heads) (l .i) (l .inv .0) (c .loop-test .left) (l .inv .4)
+    shared-all (c .before .before .args .starts .now) (c .before .before .args .names .now) (l .heads) (l .i) (l .inv .0) (c .loop-test .left)
+    (l .inv .4)
 
 pub share-heads-spec : {M : Type 1} → statement M
 share-heads-spec =

@@ -12,7 +12,8 @@ use Rattle.values.proofs.beginning.start.Statement.{statement}
 use Rattle.values.proofs.beginning.start.Tie as tie
 
 abbrev Inv-loop : tie.InvT-loop
-Inv-loop nodes arguments least heads₀ order₀ n i₀ heads order i = (n ≡ nodeCount nodes) × (n ≤ maxNodes) × (i ≤ n) × (length heads ≡ n) × (length order ≡ n) × Started nodes arguments heads order i
+Inv-loop nodes arguments least heads₀ order₀ n i₀ heads order i =
+    (n ≡ nodeCount nodes) × (n ≤ maxNodes) × (i ≤ n) × (length heads ≡ n) × (length order ≡ n) × Started nodes arguments heads order i
 
 abbrev μ-loop : tie.MeasureT-loop
 μ-loop nodes arguments least heads₀ order₀ n i₀ heads order i = n - i

@@ -15,7 +15,8 @@ use Rattle.values.proofs.prepared.list_closed.Tie as tie
 
 abbrev Inv-loop : tie.InvT-loop
 Inv-loop nodes arguments counts heads names prepared₀ n count₀ i₀ prepared count i =
-    (n ≡ nodeCount nodes) × (n ≤ maxNodes) × (i ≤ n) × (length prepared₀ ≡ preparedWords) × ClosedBefore nodes arguments counts heads prepared₀ prepared count i
+    (n ≡ nodeCount nodes) × (n ≤ maxNodes) × (i ≤ n) × (length prepared₀ ≡ preparedWords) ×
+    ClosedBefore nodes arguments counts heads prepared₀ prepared count i
 
 abbrev μ-loop : tie.MeasureT-loop
 μ-loop nodes arguments counts heads names prepared₀ n count₀ i₀ prepared count i = n - i

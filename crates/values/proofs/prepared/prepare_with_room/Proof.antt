@@ -46,7 +46,8 @@ same-length-2 c =
 returns : tie.Need-returns
 returns c =
     let s = c .before .before .before .before .before .before .before .before .before .before .before .before .before .before .before .before .before .before .before in
-    prepared-whole _ _ _ _ _ _ _ _ _ (zeros-long _ (s .pre .1 .1 .1)) (c .before .before .before .before .before .before .before .list-open .ensures) (c .before .before .list-closed .ensures)
+    prepared-whole _ _ _ _ _ _ _ _ _ (zeros-long _ (s .pre .1 .1 .1))
+    (c .before .before .before .before .before .before .before .list-open .ensures) (c .before .before .list-closed .ensures)
 
 pub prepare-with-room-spec : {M : Type 1} → statement M
 prepare-with-room-spec =

@@ -224,7 +224,8 @@ step-returns-3 t c =
 
 abbrev walk-Inv-loop : walk-lts.InvT-loop
 walk-Inv-loop nodes arguments left right labels known prepared heads₀ next₀ key weight unpaired i entry₀ memory₀ out₀ at n last used₀ d₀ heads next entry memory out used d =
-    (last ≡ length right + labels .right) × (heads ≡ heads₀) × (next ≡ next₀) × Turning nodes arguments left right labels i entry₀ out₀ at d entry memory out used
+    (last ≡ length right + labels .right) × (heads ≡ heads₀) × (next ≡ next₀) ×
+    Turning nodes arguments left right labels i entry₀ out₀ at d entry memory out used
 
 abbrev walk-μ-loop : walk-lts.MeasureT-loop
 walk-μ-loop nodes arguments left right labels known prepared heads₀ next₀ key weight unpaired i entry₀ memory₀ out₀ at n last used₀ d₀ heads next entry memory out used d =

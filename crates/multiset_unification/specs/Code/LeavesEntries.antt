@@ -6,6 +6,6 @@ use lib.ListN.{length}
 use Rattle.multiset_unification.specs.Answer.{Told, listed, lentAfter}
 
 -- A call answers w and leaves these words of those lent: those of a listing of the entries es.
-pub record Leaves (es : List (List ℕ)) (lent : List ℕ) (w : Told) (lent′ : List ℕ) : Type 0 where
+pub record LeavesEntries (es : List (List ℕ)) (lent : List ℕ) (w : Told) (lent′ : List ℕ) : Type 0 where
   pub answer : w ≡ listed [] es (length lent)
   pub words : lent′ ≡ lentAfter [] es lent
