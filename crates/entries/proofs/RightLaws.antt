@@ -1,4 +1,4 @@
--- The entries that differ in their right digits, place by place: a 0 stays, any other digit goes from 1 to k.
+-- The entries that differ in their right digits, from the last place back: a 0 stays, a 1 goes from 1 to k.
 -- By cutting the entry at the place, and by unfolding `branch` a digit at a time. Assumes nothing.
 use Prim.Native.Nat.{ℕ, zero, suc, _+_, _-_, _<_, _≤_}
 use mathlib.Core.Bool.{Bool, true, false, cond}
@@ -10,13 +10,12 @@ use native.Mathlib.Numerals.{add-one}
 use native.Mathlib.Omega.{arith}
 use borrow.Author.Tests.{eq-eqb, ne-eqb}
 use lib.Dec.{eqb}
-use lib.ListN.{length, getD, take, drop, set, length-set, length-append, length-drop, take-append-drop}
-use lib.Seq.{drop-cons, length-take-le, drop-at, take-suc, take-suc-set, drop-set-lt, set-getD, set-set}
+use lib.ListN.{length, getD, take, drop, set, length-append, length-drop, take-append-drop}
+use lib.Seq.{drop-cons, length-take-le, drop-at, take-suc, set-at, set-append-left}
 use Rattle.unification.proofs.ListLaws.{map-same}
 use Rattle.multiset_unification.specs.Computed.Choices.{branch}
-use Rattle.entries.specs.declared.Written.{Written}
-use Rattle.entries.specs.Code.Writing.{Writes, Remains, marked, marksFrom, rightEntries, NextMarked, Restored}
-use Rattle.entries.proofs.WritingLaws.{remains-whole, remains-next, remains-full, remains-done}
+use Rattle.entries.specs.Code.Writing.{put, full, Writes, Block, repeated, marked, marksFrom, rightEntries, Least}
+use Rattle.entries.proofs.WritingLaws.{entry-fits, none-fits, writes-block, writes-full, repeat-writes}
 
 -- the marks from a place on are its word and those after it
 marks-cons : (e : List ℕ) (p end : ℕ) → p < end → end ≤ length e → marksFrom e p end ≡ getD e p 0 ∷ marksFrom e (p + 1) end
@@ -40,11 +39,11 @@ marked-unpaired k e p end h l z =
     ap (marked k) (marks-cons e p end h l) ∙ rw (ne-eqb (getD e p 0) 0 z) refl
 
 -- an entry with the digits ds in the place of those from p up to `end`
-abbrev pub with : List ℕ → ℕ → ℕ → List ℕ → List ℕ
+abbrev with : List ℕ → ℕ → ℕ → List ℕ → List ℕ
 with e p end ds = take p e ++ ds ++ drop end e
 
 -- a digit before the digits from the next place on
-pub with-digit : (e e′ : List ℕ) (p end d : ℕ) (ds : List ℕ) → take (p + 1) e′ ≡ take p e ++ (d ∷ []) → drop end e′ ≡ drop end e → with e′ (p + 1) end ds ≡ with e p end (d ∷ ds)
+with-digit : (e e′ : List ℕ) (p end d : ℕ) (ds : List ℕ) → take (p + 1) e′ ≡ take p e ++ (d ∷ []) → drop end e′ ≡ drop end e → with e′ (p + 1) end ds ≡ with e p end (d ∷ ds)
 with-digit e e′ p end d ds t l = rw (t, l) (ap (λ (r : List ℕ). r ++ drop end e) (append-assoc (take p e) (d ∷ []) ds))
 
 -- no place is left: the entry itself
@@ -69,152 +68,105 @@ rights-paired k e p end h l z =
     ∙ map-map (with e p end) (0 ∷_) m
     ∙ sym (map-same (with e (p + 1) end) (λ ds. with e p end (0 ∷ ds)) m (λ ds q. with-digit e e p end 0 ds t refl))
 
--- the search for the next place that is not 0 begins
-pub search-first : (e : List ℕ) (p : ℕ) → NextMarked e p p p
-search-first e p =
-    record { least = omega arith; most = omega arith; noughts = λ j h q. absurd (omega (arith, h, q)); marked-there = λ h z. omega (arith, h) }
+-- a digit set at a place stands before the digits from the next place on
+with-set : (e : List ℕ) (p end d : ℕ) (ds : List ℕ) → p < length e → set (with e (p + 1) end ds) p d ≡ with e p end (d ∷ ds)
+with-set e p end d ds h =
+    let t = length-take-le (p + 1) e (omega (arith, h)) in
+    let a = length-append (take (p + 1) e) ds in
+    set-append-left (take (p + 1) e ++ ds) (drop end e) p d (omega (arith, t, a))
+    ∙ ap (λ (r : List ℕ). r ++ drop end e) (set-append-left (take (p + 1) e) ds p d (omega (arith, t)))
+    ∙ ap (λ (r : List ℕ). set r p d ++ ds ++ drop end e) (next-digit e p h)
+    ∙ ap (λ (r : List ℕ). r ++ ds ++ drop end e) (set-at (take p e) (getD e p 0) [] d p (length-take-le p e (omega (arith, h))))
+    ∙ ap (λ (r : List ℕ). r ++ drop end e) (append-assoc (take p e) (d ∷ []) ds)
 
-module _ {e : List ℕ} {p q : ℕ} (s : NextMarked e p q q) where
-  -- it goes on past a 0
-  pub search-next : getD e q 0 ≡ 0 → NextMarked e p (q + 1) (q + 1)
-  search-next z =
-      record {
-        least = omega (arith, s .least);
-        most = omega arith;
-        noughts = λ j h l. pick j h l (ℕ-discrete j q);
-        marked-there = λ h n. omega (arith, h);
-      }
-    where
-      pick : (j : ℕ) → p ≤ j → j < q + 1 → Dec (j ≡ q) → getD e j 0 ≡ 0
-      pick j h l (yes i) = rw i z
-      pick j h l (no n) = s .noughts j h (omega (arith, l, n))
+-- each of c digits from d on at a place, before the same digits from the next place on
+branch-repeated : (e : List ℕ) (p end d c : ℕ) (m : List (List ℕ)) → p < length e → map (with e p end) (branch d c (λ x. m)) ≡ repeated p d c (map (with e (p + 1) end) m)
+unfolding branch repeated
+branch-repeated e p end d zero m h = refl
+branch-repeated e p end d (suc c) m h =
+    let a : map (with e p end) (map (d ∷_) m) ≡ map (λ f. set f p d) (map (with e (p + 1) end) m) =
+    map-map (with e p end) (d ∷_) m
+    ∙ sym (map-same (λ ds. set (with e (p + 1) end ds) p d) (λ ds. with e p end (d ∷ ds)) m (λ ds z. with-set e p end d ds h))
+    ∙ sym (map-map (λ f. set f p d) (with e (p + 1) end) m) in
+    map-append (with e p end) (map (d ∷_) m) (branch (suc d) c (λ x. m))
+    ∙ ap (λ (zs : List (List ℕ)). zs ++ map (with e p end) (branch (suc d) c (λ x. m))) a
+    ∙ ap (map (λ f. set f p d) (map (with e (p + 1) end) m) ++_) (branch-repeated e p end (suc d) c m h)
 
-  -- it ends where there is no 0
-  pub search-found : (end : ℕ) → q ≤ end → (getD e q 0 ≡ 0 → ⊥) → NextMarked e p end q
-  search-found end h n = record { least = s .least; most = h; noughts = s .noughts; marked-there = λ l z. n z }
-
-  -- or at the end
-  pub search-end : (end : ℕ) → q ≡ end → NextMarked e p end end
-  search-end end h =
-      record {
-        least = omega (arith, s .least, h);
-        most = omega arith;
-        noughts = λ j a b. s .noughts j a (omega (arith, b, h));
-        marked-there = λ l z. omega (arith, l);
-      }
-
--- the places before the next that is not 0 change nothing
-rights-skip : (k : ℕ) (e : List ℕ) (p end q : ℕ) → end ≤ length e → NextMarked e p end q → rightEntries k e p end ≡ rightEntries k e q end
-rights-skip k e p end q l s = go (q - p) p (omega (arith, s .least)) (s .noughts)
-  where
-    go : (c r : ℕ) → r + c ≡ q → ((j : ℕ) → r ≤ j → j < q → getD e j 0 ≡ 0) → rightEntries k e r end ≡ rightEntries k e q end
-    go zero r n z = ap (λ (j : ℕ). rightEntries k e j end) (omega (arith, n))
-    go (suc c) r n z =
-        rights-paired k e r end (omega (arith, n, s .most)) l (z r (omega arith) (omega (arith, n)))
-        ∙ go c (r + 1) (omega (arith, n)) (λ j a b. z j (omega (arith, a)) b)
-
--- The entries in which the word at place p goes from d to k.
-unfoldable pub rightsFrom : ℕ → List ℕ → ℕ → ℕ → ℕ → List (List ℕ)
-rightsFrom k e p end d = map (with e p end) (branch d (k + 1 - d) (λ x. marked k (marksFrom e (p + 1) end)))
-
--- the word at the place is not 0: it goes from 1 to k
-rights-unpaired : (k : ℕ) (e : List ℕ) (p end : ℕ) → p < end → end ≤ length e → (getD e p 0 ≡ 0 → ⊥) → rightEntries k e p end ≡ rightsFrom k e p end 1
-unfolding rightEntries rightsFrom
+-- the word at the place is not 0: the entries from the next place on, with each digit from 1 to k there
+rights-unpaired : (k : ℕ) (e : List ℕ) (p end : ℕ) → p < end → end ≤ length e → (getD e p 0 ≡ 0 → ⊥) → rightEntries k e p end ≡ repeated p 1 k (rightEntries k e (p + 1) end)
+unfolding rightEntries
 rights-unpaired k e p end h l z =
-    let n : k ≡ k + 1 - 1 = omega arith in
-    ap (map (with e p end)) (marked-unpaired k e p end h l z ∙ ap (λ (j : ℕ). branch 1 j (λ x. marked k (marksFrom e (p + 1) end))) n)
+    ap (map (with e p end)) (marked-unpaired k e p end h l z)
+    ∙ branch-repeated e p end 1 k (marked k (marksFrom e (p + 1) end)) (omega (arith, h, l))
 
--- no digit is left
-rights-none : (k : ℕ) (e : List ℕ) (p end d : ℕ) → k < d → rightsFrom k e p end d ≡ []
-unfolding rightsFrom branch
-rights-none k e p end d h = let n : k + 1 - d ≡ 0 = omega arith in rw n refl
+-- the entries from the next place on have the word that is at the place
+rights-word : (k : ℕ) (e : List ℕ) (p end : ℕ) → p < length e → map (λ f. set f p (getD e p 0)) (rightEntries k e (p + 1) end) ≡ rightEntries k e (p + 1) end
+unfolding rightEntries
+rights-word k e p end h =
+    let m = marked k (marksFrom e (p + 1) end) in
+    map-map (λ f. set f p (getD e p 0)) (with e (p + 1) end) m
+    ∙ map-same (λ ds. set (with e (p + 1) end ds) p (getD e p 0)) (with e (p + 1) end) m (λ ds z. with-set e p end (getD e p 0) ds h ∙ sym (with-digit e e p end (getD e p 0) ds (next-digit e p h) refl))
 
--- Entry e is e₀ but for the word at place q, where e₀ has the mark.
-pub record Held (e₀ : List ℕ) (q mark : ℕ) (e : List ℕ) : Type 0 where
-  pub back : set e q mark ≡ e₀
+-- the word at the place is 1: the entries from the next place on, and then these with each digit from 2 to k there
+pub rights-marked : (k : ℕ) (e : List ℕ) (p end : ℕ) → p < end → end ≤ length e → getD e p 0 ≡ 1 → 0 < k → rightEntries k e p end ≡ rightEntries k e (p + 1) end ++ repeated p 2 (k - 1) (rightEntries k e (p + 1) end)
+unfolding repeated
+rights-marked k e p end h l o z =
+    let es = rightEntries k e (p + 1) end in
+    let n : k ≡ suc (k - 1) = omega arith in
+    let w : map (λ f. set f p 1) es ≡ es = ap (λ (x : ℕ). map (λ f. set f p x) es) (sym o) ∙ rights-word k e p end (omega (arith, h, l)) in
+    rights-unpaired k e p end h l (λ q. absurd (omega (arith, o, q)))
+    ∙ ap (λ (j : ℕ). repeated p 1 j es) n
+    ∙ ap (λ (zs : List (List ℕ)). zs ++ repeated p 2 (k - 1) es) w
 
--- an entry in its own place
-pub held-whole : (e : List ℕ) (q : ℕ) → Held e q (getD e q 0) e
-held-whole e q = record { back = set-getD e q 0 }
+-- a mark that is not 0 is 1, and there are labels
+mark-one : {k : ℕ} {e : List ℕ} {p end : ℕ} → Least k e p end → (j : ℕ) → p ≤ j → j < end → (getD e j 0 ≡ 0 → ⊥) → (getD e j 0 ≡ 1) × (0 < k)
+mark-one {k} {e} {p} {end} g j h l n =
+    let s = g .small j h l in
+    (omega (arith, s, n), go (ℕ-discrete k 0))
+  where
+    go : Dec (k ≡ 0) → 0 < k
+    go (yes z) = absurd (n (g .noughts z j h l))
+    go (no z) = omega (arith, z)
 
-module _ {e₀ : List ℕ} {q mark : ℕ} {e : List ℕ} (g : Held e₀ q mark e) where
-  -- it has as many words
-  pub held-long : length e ≡ length e₀
-  held-long = sym (length-set e q mark) ∙ ap length (g .back)
+-- with fewer than two labels there is no other string
+pub rights-one : (k : ℕ) (e : List ℕ) (p end : ℕ) → k < 2 → p ≤ end → end ≤ length e → Least k e p end → rightEntries k e p end ≡ e ∷ []
+unfolding repeated
+rights-one k e p end b h l g = go (end - p) p (omega arith) (omega arith)
+  where
+    turn : (r : ℕ) → p ≤ r → r < end → Dec (getD e r 0 ≡ 0) → rightEntries k e r end ≡ rightEntries k e (r + 1) end
+    turn r a m (yes z) = rights-paired k e r end m l z
+    turn r a m (no z) =
+        let o = mark-one g r a m z in
+        let n : k - 1 ≡ 0 = omega (arith, b) in
+        rights-marked k e r end m l (o .0) (o .1)
+        ∙ ap (λ (j : ℕ). rightEntries k e (r + 1) end ++ repeated r 2 j (rightEntries k e (r + 1) end)) n
+        ∙ append-nil (rightEntries k e (r + 1) end)
 
-  -- so it has with another word at the place
-  pub held-set : (d : ℕ) → length (set e q d) ≡ length e₀
-  held-set d = length-set e q d ∙ held-long
+    go : (c r : ℕ) → p ≤ r → r + c ≡ end → rightEntries k e r end ≡ e ∷ []
+    go zero r a n = rights-end k e r end (omega (arith, n))
+    go (suc c) r a n =
+        turn r a (omega (arith, n)) (ℕ-discrete (getD e r 0) 0) ∙ go c (r + 1) (omega (arith, a)) (omega (arith, n))
 
-  -- and it is then the same
-  held-same : (d : ℕ) → set e q d ≡ set e₀ q d
-  held-same d = sym (set-set e q mark d) ∙ ap (λ (xs : List ℕ). set xs q d) (g .back)
+-- the entries from a place on are the first of those from a place before it on
+rights-rest : (k : ℕ) (e : List ℕ) (p end : ℕ) → Least k e p end → end ≤ length e → (q : ℕ) → p ≤ q → q ≤ end → (rest : List (List ℕ)) × (rightEntries k e p end ≡ rightEntries k e q end ++ rest)
+rights-rest k e p end g l q h m = go (q - p) p (omega arith) (omega arith)
+  where
+    turn : (r : ℕ) → p ≤ r → r < end → Dec (getD e r 0 ≡ 0) → (rest : List (List ℕ)) × (rightEntries k e (r + 1) end ≡ rightEntries k e q end ++ rest) → (rest : List (List ℕ)) × (rightEntries k e r end ≡ rightEntries k e q end ++ rest)
+    turn r a n (yes z) s = (s .0, rights-paired k e r end n l z ∙ s .1)
+    turn r a n (no z) s =
+        let o = mark-one g r a n z in
+        let more = repeated r 2 (k - 1) (rightEntries k e (r + 1) end) in
+        (s .0 ++ more, rights-marked k e r end n l (o .0) (o .1) ∙ ap (λ (zs : List (List ℕ)). zs ++ more) (s .1) ∙ append-assoc (rightEntries k e q end) (s .0) more)
 
-  -- the digit d was written at the place, and the others were written over and put back
-  pub held-next : (d : ℕ) {e′ : List ℕ} {w : Written} → Restored (set e q d) w e′ → w .missed ≡ 0 → Held e₀ q mark e′
-  held-next d {e′} {w} r z =
-      record { back = ap (λ (xs : List ℕ). set xs q mark) (r .same z) ∙ set-set e q d mark ∙ g .back }
-
-  -- where an entry did not fit, nothing is put back
-  pub held-missed : (d : ℕ) {e′ : List ℕ} {w : Written} → Restored (set e q d) w e′ → (w .missed ≡ 0 → ⊥) → Restored e₀ w e′
-  held-missed d {e′} {w} r n = record { size = r .size ∙ held-set d; same = λ z. absurd (n z) }
-
-  -- the mark is put back at the place
-  pub held-back : {w : Written} → Restored e₀ w (set e q mark)
-  held-back = record { size = ap length (g .back); same = λ z. g .back }
-
--- an entry that was not written over
-pub same-restored : (e : List ℕ) {w : Written} → Restored e w e
-same-restored e = record { size = refl; same = λ z. refl }
-
--- the entries with the digit d at place q, and those with a greater one
-rights-next : (k : ℕ) (e : List ℕ) (q end d : ℕ) → q < end → end ≤ length e → d ≤ k → rightsFrom k e q end d ≡ rightEntries k (set e q d) (q + 1) end ++ rightsFrom k e q end (d + 1)
-unfolding rightsFrom rightEntries branch
-rights-next k e q end d h l p =
-    let m = marked k (marksFrom e (q + 1) end) in
-    let n : k + 1 - d ≡ suc (k + 1 - (d + 1)) = omega arith in
-    let s : suc d ≡ d + 1 = sym (add-one d) in
-    let rest = k + 1 - (d + 1) in
-    let t : take (q + 1) (set e q d) ≡ take q e ++ (d ∷ []) = ap (λ (j : ℕ). take j (set e q d)) (add-one q) ∙ take-suc-set e q d (omega (arith, h, l)) in
-    let u = drop-set-lt end e q d h in
-    let v : marked k (marksFrom (set e q d) (q + 1) end) ≡ m = ap (λ (r : List ℕ). marked k (take (end - (q + 1)) r)) (drop-set-lt (q + 1) e q d (omega arith)) in
-    ap (λ (j : ℕ). map (with e q end) (branch d j (λ x. m))) n
-    ∙ map-append (with e q end) (map (d ∷_) m) (branch (suc d) rest (λ x. m))
-    ∙ ap (λ (zs : List (List ℕ)). zs ++ map (with e q end) (branch (suc d) rest (λ x. m))) (map-map (with e q end) (d ∷_) m ∙ sym (map-same (with (set e q d) (q + 1) end) (λ ds. with e q end (d ∷ ds)) m (λ ds z. with-digit e (set e q d) q end d ds t u)) ∙ ap (map (with (set e q d) (q + 1) end)) (sym v))
-    ∙ ap (λ (j : ℕ). rightEntries k (set e q d) (q + 1) end ++ map (with e q end) (branch j rest (λ x. m))) s
-
-module _ (k : ℕ) {e : List ℕ} {p end q : ℕ} {lent : List ℕ} {at : ℕ} {lent′ : List ℕ} {w : Written} (s : NextMarked e p end q) (l : end ≤ length e) where
-  -- what is written from the next place that is not 0 is written from the first
-  pub written-skip : Writes (rightEntries k e q end) lent at lent′ w → Writes (rightEntries k e p end) lent at lent′ w
-  written-skip r = rw (rights-skip k e p end q l s) r
-
-  -- where there is no such place, the entry is written
-  pub written-end : q ≡ end → Writes (e ∷ []) lent at lent′ w → Writes (rightEntries k e p end) lent at lent′ w
-  written-end z r = written-skip (rw (rights-end k e q end z) r)
-
--- at the first turn all entries remain
-pub turn-first : (k : ℕ) (e : List ℕ) (q end : ℕ) (lent : List ℕ) (at : ℕ) → q < end → end ≤ length e → (getD e q 0 ≡ 0 → ⊥) → at ≤ length lent → Remains (rightEntries k e q end) lent at (rightsFrom k e q end 1) lent at
-turn-first k e q end lent at h l z m = rw (← rights-unpaired k e q end h l z) (remains-whole (rightEntries k e q end) lent at m)
-
-module _ {k : ℕ} {e₀ : List ℕ} {q end mark : ℕ} {e : List ℕ} {lent₀ lent : List ℕ} {at used : ℕ} {d : ℕ} (r : Remains (rightEntries k e₀ q end) lent₀ at (rightsFrom k e₀ q end d) lent used) (g : Held e₀ q mark e) (h : q < end) (l : end ≤ length e₀) where
-  -- what remains begins with the entries with the digit d at place q
-  turn : d ≤ k → Remains (rightEntries k e₀ q end) lent₀ at (rightEntries k (set e q d) (q + 1) end ++ rightsFrom k e₀ q end (d + 1)) lent used
-  turn p = rw (held-same g d, ← rights-next k e₀ q end d h l p) r
-
-  -- a turn writes the entries with the digit d at place q
-  pub turn-next : d ≤ k → (lent′ : List ℕ) (w : Written) → Writes (rightEntries k (set e q d) (q + 1) end) lent used lent′ w → w .missed ≡ 0 → Remains (rightEntries k e₀ q end) lent₀ at (rightsFrom k e₀ q end (d + 1)) lent′ (w .used)
-  turn-next p lent′ w s f = remains-next (rightEntries k (set e q d) (q + 1) end) (turn p) lent′ w s f
-
-  -- where one of them does not fit, all is written that fits
-  pub turn-full : d ≤ k → (lent′ : List ℕ) (w : Written) → Writes (rightEntries k (set e q d) (q + 1) end) lent used lent′ w → (w .missed ≡ 0 → ⊥) → Writes (rightEntries k e₀ q end) lent₀ at lent′ w
-  turn-full p lent′ w s f = remains-full (rightEntries k (set e q d) (q + 1) end) (rightsFrom k e₀ q end (d + 1)) (turn p) lent′ w s f
-
-  -- after the last digit all is written
-  pub turn-last : k < d → Writes (rightEntries k e₀ q end) lent₀ at lent (record { used = used; missed = 0 })
-  turn-last p = remains-done (rw (rights-none k e₀ q end d p) at r)
+    go : (c r : ℕ) → p ≤ r → r + c ≡ q → (rest : List (List ℕ)) × (rightEntries k e r end ≡ rightEntries k e q end ++ rest)
+    go zero r a n =
+        let z : r ≡ q = omega (arith, n) in
+        ([], ap (λ (j : ℕ). rightEntries k e j end) z ∙ sym (append-nil (rightEntries k e q end)))
+    go (suc c) r a n =
+        turn r a (omega (arith, n, m)) (ℕ-discrete (getD e r 0) 0) (go c (r + 1) (omega (arith, a)) (omega (arith, n)))
 
 -- what holds of each string of f, a digit before it, holds of each that branches
-pub branch-each : (P : List ℕ → Type 0) (d c : ℕ) (f : ℕ → List (List ℕ)) → ((e : ℕ) (x : List ℕ) → List·Memᴰ x (f e) → P (e ∷ x)) → (x : List ℕ) → List·Memᴰ x (branch d c f) → P x
+branch-each : (P : List ℕ → Type 0) (d c : ℕ) (f : ℕ → List (List ℕ)) → ((e : ℕ) (x : List ℕ) → List·Memᴰ x (f e) → P (e ∷ x)) → (x : List ℕ) → List·Memᴰ x (branch d c f) → P x
 unfolding branch
 branch-each P d zero f h x m = absurd (List·Memᴰ·not-nil m)
 branch-each P d (suc c) f h x m = go (branch-each P (suc d) c f h x) (List·Memᴰ·append-cases (map (d ∷_) (f d)) m)
@@ -234,7 +186,7 @@ marked-long k (z ∷ zs) es m = pick (eqb z 0) (λ e fs n. ap suc (marked-long k
     pick false h n = branch-each (λ fs. length fs ≡ suc (length zs)) 1 k (λ d. marked k zs) h es n
 
 -- as many digits in the place of those from p up to `end` leave as many words, and the same behind them
-pub with-words : (e : List ℕ) (p end : ℕ) (ds : List ℕ) → p ≤ end → end ≤ length e → length ds ≡ end - p → (length (with e p end ds) ≡ length e) × (drop end (with e p end ds) ≡ drop end e)
+with-words : (e : List ℕ) (p end : ℕ) (ds : List ℕ) → p ≤ end → end ≤ length e → length ds ≡ end - p → (length (with e p end ds) ≡ length e) × (drop end (with e p end ds) ≡ drop end e)
 with-words e p end ds h l n =
     let a = length-take-le p e (omega (arith, h, l)) in
     let b = length-append (take p e) ds in
@@ -243,10 +195,58 @@ with-words e p end ds h l n =
     (omega (arith, a, b, c, d, n, h, l), drop-at (take p e ++ ds) (drop end e) end (omega (arith, a, b, n, h)))
 
 -- entries that differ in their right digits alone have as many words, and the same behind the digits
-pub right-words : (k : ℕ) (e : List ℕ) (n m : ℕ) → n + m ≤ length e → (f : List ℕ) → List·Memᴰ f (rightEntries k e n (n + m)) → (length f ≡ length e) × (drop (n + m) f ≡ drop (n + m) e)
+rights-kept : (k : ℕ) (e : List ℕ) (p end : ℕ) → p ≤ end → end ≤ length e → (f : List ℕ) → List·Memᴰ f (rightEntries k e p end) → (length f ≡ length e) × (drop end f ≡ drop end e)
 unfolding rightEntries
-right-words k e n m l f i =
-    let r = Memᴰ·of-map (with e n (n + m)) (marked k (marksFrom e n (n + m))) i in
-    let a = marked-long k (marksFrom e n (n + m)) (r .0) (r .1) in
-    let b = length-take-le (n + m - n) (drop n e) (omega (arith, length-drop n e, l)) in
-    rw (← r .2) (with-words e n (n + m) (r .0) (omega arith) l (a ∙ b))
+rights-kept k e p end h l f i =
+    let r = Memᴰ·of-map (with e p end) (marked k (marksFrom e p end)) i in
+    let a = marked-long k (marksFrom e p end) (r .0) (r .1) in
+    let b = length-take-le (end - p) (drop p e) (omega (arith, length-drop p e, l)) in
+    rw (← r .2) (with-words e p end (r .0) h l (a ∙ b))
+
+-- those of n left digits and m right ones
+pub right-words : (k : ℕ) (e : List ℕ) (n m : ℕ) → n + m ≤ length e → (f : List ℕ) → List·Memᴰ f (rightEntries k e n (n + m)) → (length f ≡ length e) × (drop (n + m) f ≡ drop (n + m) e)
+right-words k e n m l f i = rights-kept k e n (n + m) (omega arith) l f i
+
+-- at the end of the places the entry is written
+pub rights-first : (k : ℕ) (e : List ℕ) (end : ℕ) (lent : List ℕ) (at : ℕ) {lent′ : List ℕ} → at + length e ≤ length lent → lent′ ≡ put at e lent → Writes (rightEntries k e end end) lent at lent′ (at + length e)
+rights-first k e end lent at h q = rw (rights-end k e end end refl) (entry-fits e lent at (omega (arith, h)) q)
+
+-- with fewer than two labels it is all
+pub rights-few : (k : ℕ) (e : List ℕ) (p end : ℕ) (lent : List ℕ) (at : ℕ) {lent′ : List ℕ} → k < 2 → p ≤ end → end ≤ length e → Least k e p end → at + length e ≤ length lent → lent′ ≡ put at e lent → Writes (rightEntries k e p end) lent at lent′ (at + length e)
+rights-few k e p end lent at b h l g m q = rw (rights-one k e p end b h l g) (entry-fits e lent at (omega (arith, m)) q)
+
+-- where the entry does not fit, none of them does
+pub rights-over : (k : ℕ) (e : List ℕ) (p end : ℕ) (lent : List ℕ) (at : ℕ) → p ≤ end → end ≤ length e → Least k e p end → length lent - at < length e → Writes (rightEntries k e p end) lent at lent full
+rights-over k e p end lent at h l g o =
+    let s = rights-rest k e p end g l end h (omega arith) in
+    let z : 0 < length (rightEntries k e p end) = omega (arith, ap length (s .1), ap length (rights-end k e end end refl), length-append (rightEntries k e end end) (s .0)) in
+    none-fits (rightEntries k e p end) lent at z (λ f i. let n = rights-kept k e p end h l f i in omega (arith, o, n .0))
+
+module _ (k : ℕ) (e : List ℕ) (p q end : ℕ) (h : p < q) (m : q ≤ end) (l : end ≤ length e) {lent : List ℕ} {at : ℕ} {lent₁ : List ℕ} {r₁ : ℕ} (w : Writes (rightEntries k e q end) lent at lent₁ r₁) where
+  -- a place with 0 changes nothing
+  pub rights-skip : getD e (q - 1) 0 ≡ 0 → Writes (rightEntries k e (q - 1) end) lent at lent₁ r₁
+  rights-skip z =
+      let n : q - 1 + 1 ≡ q = omega (arith, h) in
+      rw (rights-paired k e (q - 1) end (omega (arith, h, m)) l z, n) w
+
+  module _ (b : at ≤ length lent) (f : r₁ ≡ full → ⊥) where
+    -- the entries that are written stand there
+    pub rights-block : Block (rightEntries k e q end) (length e) lent₁ at r₁
+    rights-block = writes-block (length e) b w f (λ x i. rights-kept k e q end m l x i .0)
+
+    -- at a place with 1 they are repeated
+    pub rights-repeat : Least k e p end → (getD e (q - 1) 0 ≡ 0 → ⊥) → {lent₂ : List ℕ} {r₂ : ℕ} → Writes (repeated (q - 1) 2 (k - 1) (rightEntries k e q end)) lent₁ r₁ lent₂ r₂ → Writes (rightEntries k e (q - 1) end) lent at lent₂ r₂
+    rights-repeat g z v =
+        let n : q - 1 + 1 ≡ q = omega (arith, h) in
+        let o = mark-one g (q - 1) (omega (arith, h)) (omega (arith, h, m)) z in
+        rw (rights-marked k e (q - 1) end (omega (arith, h, m)) l (o .0) (o .1), n) (repeat-writes (rightEntries k e q end) (q - 1) 2 (k - 1) b w f v)
+
+    -- where they do not all fit, full is answered
+    pub rights-full : Least k e p end → (getD e (q - 1) 0 ≡ 0 → ⊥) → length lent < full → {lent₂ : List ℕ} {r₂ : ℕ} → Writes (repeated (q - 1) 2 (k - 1) (rightEntries k e q end)) lent₁ r₁ lent₂ r₂ → r₂ ≡ full → Writes (rightEntries k e p end) lent at lent₂ full
+    rights-full g z u v t =
+        let s = rights-rest k e p end g l (q - 1) (omega (arith, h)) (omega (arith, m)) in
+        rw (s .1) (writes-full (rightEntries k e (q - 1) end) (s .0) b u (rights-repeat g z v) t)
+
+-- at the first place all is written
+pub rights-last : (k : ℕ) (e : List ℕ) (p q end : ℕ) {lent : List ℕ} {at : ℕ} {lent′ : List ℕ} {r : ℕ} → q ≡ p → Writes (rightEntries k e q end) lent at lent′ r → Writes (rightEntries k e p end) lent at lent′ r
+rights-last k e p q end z w = rw (← z) w

@@ -2,21 +2,20 @@
 -- By induction on the entries for what fits, and by cutting the lent words at the seam. Assumes nothing.
 use Prim.Native.Nat.{ℕ, _+_, _-_, _<_, _≤_}
 use mathlib.Core.Bool.{Bool, true, false, cond}
-use mathlib.Core.List.{List, [], _∷_, _++_, flatten, append-assoc, append-nil}
+use mathlib.Core.List.{List, [], _∷_, _++_, flatten, append-assoc, append-nil, List·Memᴰ, List·Memᴰ·head}
 use mathlib.Core.Path.{_≡_, refl, sym, ap, _∙_}
 use native.Mathlib.Numerals.{add-one}
 use native.Mathlib.Omega.{arith}
 use borrow.Author.Tests.{lt-ltb, le-ltb, ltb-true, ltb-false, le-leb, lt-leb, leb-true}
 use lib.Dec.{leb, ltb}
 use lib.ListN.{length, getD, take, drop, set, length-append, length-drop, take-append-drop}
-use lib.Seq.{length-take-le, take-length, take-at, drop-at, drop-drop, paste, paste-suc}
+use lib.Seq.{length-take-le, take-length, take-at, drop-at, drop-drop, paste, paste-suc, take-append-seam}
 use Rattle.multiset_unification.specs.Answer.{fitting}
 use Rattle.multiset_unification.proofs.AnswerLaws.{fitting-all, fitting-fits}
-use Rattle.entries.specs.declared.Written.{Written}
-use Rattle.entries.specs.Code.Writing.{put, Writes, Remains}
+use Rattle.entries.specs.Code.Writing.{put, full, Writes, Remains, Block, repeated}
 
 -- the words of entries behind entries
-flatten-append : (xs ys : List (List ℕ)) → flatten (xs ++ ys) ≡ flatten xs ++ flatten ys
+pub flatten-append : (xs ys : List (List ℕ)) → flatten (xs ++ ys) ≡ flatten xs ++ flatten ys
 unfolding flatten
 flatten-append [] ys = refl
 flatten-append (x ∷ xs) ys = ap (x ++_) (flatten-append xs ys) ∙ sym (append-assoc x (flatten xs) (flatten ys))
@@ -46,7 +45,7 @@ fitting-before room (x ∷ xs) rest h = pick (leb (length x) room) refl (fitting
     pick false q r = refl
 
 -- the words up to the end of those that are put
-head-long : (at : ℕ) (xs lent : List ℕ) → at + length xs ≤ length lent → length (take at lent ++ xs) ≡ at + length xs
+pub head-long : (at : ℕ) (xs lent : List ℕ) → at + length xs ≤ length lent → length (take at lent ++ xs) ≡ at + length xs
 head-long at xs lent h =
     let a = length-append (take at lent) xs in
     let t = length-take-le at lent (omega (arith, h)) in
@@ -96,80 +95,103 @@ copied-all words lent at i l e =
 
 -- at the start all of the entries remain
 pub remains-whole : (es : List (List ℕ)) (lent : List ℕ) (at : ℕ) → at ≤ length lent → Remains es lent at es lent at
-remains-whole es lent at h = record { size = refl; within = h; closes = λ lent′ w r. r }
+remains-whole es lent at h = record { size = refl; within = h; closes = λ lent′ r w. w }
+
+-- how many words are used where b words are not too many for a
+used-all : (a b n : ℕ) → b ≤ a → cond (ltb a b) full n ≡ n
+used-all a b n h = ap (λ (t : Bool). cond t full n) (le-ltb a b h)
+
+-- and where they are
+used-over : (a b n : ℕ) → a < b → cond (ltb a b) full n ≡ full
+used-over a b n h = ap (λ (t : Bool). cond t full n) (lt-ltb a b h)
+
+-- where full is not answered, they are not too many
+all-used : (a b n : ℕ) → (cond (ltb a b) full n ≡ full → ⊥) → b ≤ a
+all-used a b n q = pick (ltb a b) refl q
+  where
+    pick : (t : Bool) → ltb a b ≡ t → (cond t full n ≡ full → ⊥) → b ≤ a
+    pick true e m = absurd (m refl)
+    pick false e m = ltb-false a b e
+
+-- where it is, they are
+over-used : (a b n : ℕ) → (b ≤ a → n < full) → cond (ltb a b) full n ≡ full → a < b
+over-used a b n l q = pick (ltb a b) refl q
+  where
+    pick : (t : Bool) → ltb a b ≡ t → cond t full n ≡ full → a < b
+    pick true e m = ltb-true a b e
+    pick false e m = let z = l (ltb-false a b e) in absurd (omega (arith, z, m))
+
+module _ {es : List (List ℕ)} {lent : List ℕ} {at : ℕ} {lent′ : List ℕ} {r : ℕ} (w : Writes es lent at lent′ r) where
+  -- where full is not answered, all entries fit
+  writes-fits : (r ≡ full → ⊥) → length (flatten es) ≤ length lent - at
+  writes-fits n = all-used (length lent - at) (length (flatten es)) (at + length (flatten es)) (λ z. n (w .used ∙ z))
+
+  -- and as many words are used as they have
+  writes-used : (r ≡ full → ⊥) → r ≡ at + length (flatten es)
+  writes-used n = w .used ∙ used-all (length lent - at) (length (flatten es)) (at + length (flatten es)) (writes-fits n)
+
+  -- and they are put
+  writes-words : (r ≡ full → ⊥) → lent′ ≡ put at (flatten es) lent
+  writes-words n =
+      w .words ∙ ap (λ (zs : List (List ℕ)). put at (flatten zs) lent) (fitting-all (length lent - at) es (writes-fits n))
+
+  -- where it is, they do not
+  writes-over : at ≤ length lent → length lent < full → r ≡ full → length lent - at < length (flatten es)
+  writes-over h l q =
+      over-used
+      (length lent - at)
+      (length (flatten es))
+      (at + length (flatten es))
+      (λ m. omega (arith, m, h, l))
+      (sym (w .used) ∙ q)
 
 -- what is written leaves as many words, and uses no more
-pub writes-room : {es : List (List ℕ)} {lent : List ℕ} {at : ℕ} {lent′ : List ℕ} {w : Written} → at ≤ length lent → Writes es lent at lent′ w → (length lent′ ≡ length lent) × (w .used ≤ length lent)
-writes-room {es} {lent} {at} {lent′} {w} h r =
+pub writes-room : {es : List (List ℕ)} {lent : List ℕ} {at : ℕ} {lent′ : List ℕ} {r : ℕ} → at ≤ length lent → Writes es lent at lent′ r → (length lent′ ≡ length lent) × ((r ≡ full → ⊥) → (at ≤ r) × (r ≤ length lent))
+writes-room {es} {lent} {at} {lent′} {r} h w =
     let f = fitting-fits (length lent - at) es in
     let l = put-long at (flatten (fitting (length lent - at) es)) lent (omega (arith, h, f)) in
-    (ap length (r .words) ∙ l, omega (arith, r .used, f, h))
-
--- 1 where b words are too many for a, otherwise 0
-abbrev over : ℕ → ℕ → ℕ
-over a b = cond (ltb a b) 1 0
-
--- where they are not too many, it is 0
-none-over : (a b : ℕ) → b ≤ a → 0 ≡ over a b
-none-over a b h = ap (λ (t : Bool). cond t 1 0) (sym (le-ltb a b h))
-
--- where they are, it is 1
-one-over : (a b : ℕ) → a < b → 1 ≡ over a b
-one-over a b h = ap (λ (t : Bool). cond t 1 0) (sym (lt-ltb a b h))
-
--- where it is 0, they are not too many
-over-none : (a b : ℕ) → over a b ≡ 0 → b ≤ a
-over-none a b q = pick (ltb a b) refl q
-  where
-    pick : (t : Bool) → ltb a b ≡ t → _≡_ {A = ℕ} (cond t 1 0) 0 → b ≤ a
-    pick true e z = absurd (omega (arith, z))
-    pick false e z = ltb-false a b e
-
--- where it is not, they are
-over-one : (a b : ℕ) → (over a b ≡ 0 → ⊥) → a < b
-over-one a b q = pick (ltb a b) refl q
-  where
-    pick : (t : Bool) → ltb a b ≡ t → (_≡_ {A = ℕ} (cond t 1 0) 0 → ⊥) → a < b
-    pick true e n = ltb-true a b e
-    pick false e n = absurd (n refl)
+    (ap length (w .words) ∙ l, λ n. (omega (arith, writes-used w n), omega (arith, writes-used w n, writes-fits w n, h)))
 
 -- no entries are written by doing nothing
-pub writes-none : (lent : List ℕ) (at : ℕ) → at ≤ length lent → Writes [] lent at lent (record { used = at; missed = 0 })
+pub writes-none : (lent : List ℕ) (at : ℕ) → at ≤ length lent → Writes [] lent at lent at
 unfolding flatten fitting
 writes-none lent at h =
+    let z : at ≡ at + 0 = omega arith in
+    record { words = sym (put-none at lent); used = z ∙ sym (used-all (length lent - at) 0 (at + 0) (omega arith)) }
+
+-- entries that fit are written
+pub writes-all : (es : List (List ℕ)) (lent : List ℕ) (at : ℕ) {lent′ : List ℕ} → length (flatten es) ≤ length lent - at → lent′ ≡ put at (flatten es) lent → Writes es lent at lent′ (at + length (flatten es))
+writes-all es lent at h q =
+    let f = fitting-all (length lent - at) es h in
     record {
-      words = sym (put-none at lent);
-      used = omega arith;
-      missed = none-over (length lent - at) 0 (omega arith);
+      words = q ∙ ap (λ (zs : List (List ℕ)). put at (flatten zs) lent) (sym f);
+      used = sym (used-all (length lent - at) (length (flatten es)) (at + length (flatten es)) h);
     }
 
 -- an entry that fits is written
-pub entry-fits : (e lent : List ℕ) (at : ℕ) {lent′ : List ℕ} → length e ≤ length lent - at → lent′ ≡ put at e lent → Writes (e ∷ []) lent at lent′ (record { used = at + length e; missed = 0 })
+pub entry-fits : (e lent : List ℕ) (at : ℕ) {lent′ : List ℕ} → length e ≤ length lent - at → lent′ ≡ put at e lent → Writes (e ∷ []) lent at lent′ (at + length e)
 unfolding flatten
-entry-fits e lent at h q =
+entry-fits e lent at {lent′} h q =
     let a : e ++ [] ≡ e = append-nil e in
-    let l : length (e ++ []) ≤ length lent - at = rw a h in
-    let f : flatten (fitting (length lent - at) (e ∷ [])) ≡ e = ap flatten (fitting-all (length lent - at) (e ∷ []) l) ∙ a in
-    record {
-      words = q ∙ ap (λ (zs : List ℕ). put at zs lent) (sym f);
-      used = ap (λ (zs : List ℕ). at + length zs) (sym f);
-      missed = none-over (length lent - at) (length (e ++ [])) l;
-    }
+    rw a at (writes-all (e ∷ []) lent at {lent′ = lent′} (rw a h) (rw a q))
 
--- an entry that does not fit is not
-pub entry-over : (e lent : List ℕ) (at : ℕ) → length lent - at < length e → Writes (e ∷ []) lent at lent (record { used = at; missed = 1 })
+-- of entries that do not all fit those that do are written
+pub writes-cut : (es : List (List ℕ)) (lent : List ℕ) (at : ℕ) {lent′ : List ℕ} → length lent - at < length (flatten es) → lent′ ≡ put at (flatten (fitting (length lent - at) es)) lent → Writes es lent at lent′ full
+writes-cut es lent at h q =
+    record { words = q; used = sym (used-over (length lent - at) (length (flatten es)) (at + length (flatten es)) h) }
+
+-- where there are entries and each is longer than the room, none is
+pub none-fits : (es : List (List ℕ)) (lent : List ℕ) (at : ℕ) → 0 < length es → ((e : List ℕ) → List·Memᴰ e es → length lent - at < length e) → Writes es lent at lent full
 unfolding flatten fitting
-entry-over e lent at h =
-    let f : fitting (length lent - at) (e ∷ []) ≡ [] = rw (lt-leb (length e) (length lent - at) h) in
-    record {
-      words = sym (put-none at lent) ∙ ap (λ (zs : List (List ℕ)). put at (flatten zs) lent) (sym f);
-      used = omega (arith, ap (λ (zs : List (List ℕ)). length (flatten zs)) f);
-      missed = one-over (length lent - at) (length (e ++ [])) (rw (append-nil e) h);
-    }
+none-fits [] lent at z h = absurd (omega (arith, z))
+none-fits (e ∷ es) lent at z h =
+    let l = h e (List·Memᴰ·head refl) in
+    let f : fitting (length lent - at) (e ∷ es) ≡ [] = rw (lt-leb (length e) (length lent - at) l) in
+    writes-cut (e ∷ es) lent at (omega (arith, l, length-append e (flatten es))) (sym (put-none at lent) ∙ ap (λ (zs : List (List ℕ)). put at (flatten zs) lent) (sym f))
 
 -- where all that remained is written, all of the entries are
-pub remains-done : {es : List (List ℕ)} {lent₀ lent : List ℕ} {at₀ at : ℕ} → Remains es lent₀ at₀ [] lent at → Writes es lent₀ at₀ lent (record { used = at; missed = 0 })
-remains-done {es} {lent₀} {lent} {at₀} {at} r = r .closes lent _ (writes-none lent at (r .within))
+pub remains-done : {es : List (List ℕ)} {lent₀ lent : List ℕ} {at₀ at : ℕ} → Remains es lent₀ at₀ [] lent at → Writes es lent₀ at₀ lent at
+remains-done {es} {lent₀} {lent} {at₀} {at} r = r .closes lent at (writes-none lent at (r .within))
 
 -- what is taken off on one side is put to the other
 less-shift : (a b c : ℕ) → b ≤ a → ltb (a - b) c ≡ ltb a (b + c)
@@ -180,50 +202,71 @@ less-shift a b c h = pick (ltb (a - b) c) refl
     pick false q = sym (le-ltb a (b + c) (omega (arith, h, ltb-false (a - b) c q)))
 
 -- entries that fit, and then the rest
-writes-next : (xs rest : List (List ℕ)) (lent : List ℕ) (at : ℕ) (lent′ : List ℕ) (w : Written) → at ≤ length lent → Writes xs lent at lent′ w → w .missed ≡ 0 → (lent″ : List ℕ) (v : Written) → Writes rest lent′ (w .used) lent″ v → Writes (xs ++ rest) lent at lent″ v
-writes-next xs rest lent at lent′ w h r q lent″ v s =
+pub writes-append : (xs ys : List (List ℕ)) {lent : List ℕ} {at : ℕ} {lent₁ : List ℕ} {r₁ : ℕ} {lent₂ : List ℕ} {r₂ : ℕ} → at ≤ length lent → Writes xs lent at lent₁ r₁ → (r₁ ≡ full → ⊥) → Writes ys lent₁ r₁ lent₂ r₂ → Writes (xs ++ ys) lent at lent₂ r₂
+writes-append xs ys {lent} {at} {lent₁} {r₁} {lent₂} {r₂} h w q s =
     let room = length lent - at in
-    let fits = over-none room (length (flatten xs)) (sym (r .missed) ∙ q) in
-    let all = fitting-all room xs fits in
-    let a = fitting-after room xs rest fits in
+    let fits = writes-fits w q in
+    let a = fitting-after room xs ys fits in
     let whole : at + length (flatten xs) ≤ length lent = omega (arith, h, fits) in
-    let u : w .used ≡ at + length (flatten xs) = rw all at (r .used) in
-    let p : lent′ ≡ put at (flatten xs) lent = rw all at (r .words) in
-    let l : length lent′ ≡ length lent = ap length p ∙ put-long at (flatten xs) lent whole in
-    let n : length lent′ - w .used ≡ room - length (flatten xs) = omega (arith, l, u) in
-    let ys = fitting (room - length (flatten xs)) rest in
-    let f : flatten (fitting room (xs ++ rest)) ≡ flatten xs ++ flatten ys = ap flatten a ∙ flatten-append xs ys in
-    let t : length (flatten (xs ++ rest)) ≡ length (flatten xs) + length (flatten rest) = ap length (flatten-append xs rest) ∙ length-append (flatten xs) (flatten rest) in
-    let g : flatten (fitting (length lent′ - w .used) rest) ≡ flatten ys = ap (λ (k : ℕ). flatten (fitting k rest)) n in
+    let u = writes-used w q in
+    let p = writes-words w q in
+    let l : length lent₁ ≡ length lent = ap length p ∙ put-long at (flatten xs) lent whole in
+    let n : length lent₁ - r₁ ≡ room - length (flatten xs) = omega (arith, l, u) in
+    let zs = fitting (room - length (flatten xs)) ys in
+    let f : flatten (fitting room (xs ++ ys)) ≡ flatten xs ++ flatten zs = ap flatten a ∙ flatten-append xs zs in
+    let t : length (flatten (xs ++ ys)) ≡ length (flatten xs) + length (flatten ys) = ap length (flatten-append xs ys) ∙ length-append (flatten xs) (flatten ys) in
+    let g : flatten (fitting (length lent₁ - r₁) ys) ≡ flatten zs = ap (λ (k : ℕ). flatten (fitting k ys)) n in
+    let b : ltb (length lent₁ - r₁) (length (flatten ys)) ≡ ltb room (length (flatten (xs ++ ys))) = ap (λ (k : ℕ). ltb k (length (flatten ys))) n ∙ less-shift room (length (flatten xs)) (length (flatten ys)) fits ∙ ap (ltb room) (sym t) in
+    let m : r₁ + length (flatten ys) ≡ at + length (flatten (xs ++ ys)) = omega (arith, u, t) in
     record {
-      words = s .words ∙ ap (λ (zs : List ℕ). put (w .used) zs lent′) g ∙ ap (λ (k : ℕ). put k (flatten ys) lent′) u ∙ ap (put (at + length (flatten xs)) (flatten ys)) p ∙ put-put at (flatten xs) (flatten ys) lent whole ∙ ap (λ (zs : List ℕ). put at zs lent) (sym f);
-      used = omega (arith, s .used, u, ap length g, ap length f, length-append (flatten xs) (flatten ys));
-      missed = s .missed ∙ ap (λ (b : Bool). cond b 1 0) (ap (λ (k : ℕ). ltb k (length (flatten rest))) n ∙ less-shift room (length (flatten xs)) (length (flatten rest)) fits ∙ ap (ltb room) (sym t));
+      words = s .words ∙ ap (λ (vs : List ℕ). put r₁ vs lent₁) g ∙ ap (λ (k : ℕ). put k (flatten zs) lent₁) u ∙ ap (put (at + length (flatten xs)) (flatten zs)) p ∙ put-put at (flatten xs) (flatten zs) lent whole ∙ ap (λ (vs : List ℕ). put at vs lent) (sym f);
+      used = s .used ∙ ap (λ (k : ℕ). cond (ltb (length lent₁ - r₁) (length (flatten ys))) full k) m ∙ ap (λ (c : Bool). cond c full (at + length (flatten (xs ++ ys)))) b;
     }
+
+-- entries, and then the same with other digits at a place
+pub repeat-writes : (es : List (List ℕ)) (p d c : ℕ) {lent : List ℕ} {at : ℕ} {lent₁ : List ℕ} {r₁ : ℕ} {lent₂ : List ℕ} {r₂ : ℕ} → at ≤ length lent → Writes es lent at lent₁ r₁ → (r₁ ≡ full → ⊥) → Writes (repeated p d c es) lent₁ r₁ lent₂ r₂ → Writes (es ++ repeated p d c es) lent at lent₂ r₂
+repeat-writes es p d c h w q s = writes-append es (repeated p d c es) h w q s
 
 -- entries of which one does not fit: the rest changes nothing
-writes-full : (xs rest : List (List ℕ)) (lent : List ℕ) (at : ℕ) (lent′ : List ℕ) (w : Written) → Writes xs lent at lent′ w → (w .missed ≡ 0 → ⊥) → Writes (xs ++ rest) lent at lent′ w
-writes-full xs rest lent at lent′ w r q =
-    let room = length lent - at in
-    let over = over-one room (length (flatten xs)) (λ z. q (r .missed ∙ z)) in
-    let b = sym (fitting-before room xs rest over) in
+pub writes-full : (xs rest : List (List ℕ)) {lent : List ℕ} {at : ℕ} {lent′ : List ℕ} {r : ℕ} → at ≤ length lent → length lent < full → Writes xs lent at lent′ r → r ≡ full → Writes (xs ++ rest) lent at lent′ full
+writes-full xs rest {lent} {at} {lent′} {r} h l w q =
+    let over = writes-over w h l q in
+    let b = sym (fitting-before (length lent - at) xs rest over) in
     let t : length (flatten (xs ++ rest)) ≡ length (flatten xs) + length (flatten rest) = ap length (flatten-append xs rest) ∙ length-append (flatten xs) (flatten rest) in
-    record {
-      words = r .words ∙ ap (λ (zs : List (List ℕ)). put at (flatten zs) lent) b;
-      used = r .used ∙ ap (λ (zs : List (List ℕ)). at + length (flatten zs)) b;
-      missed = r .missed ∙ sym (one-over room (length (flatten xs)) over) ∙ one-over room (length (flatten (xs ++ rest))) (omega (arith, over, t));
-    }
+    writes-cut (xs ++ rest) lent at (omega (arith, over, t)) (w .words ∙ ap (λ (zs : List (List ℕ)). put at (flatten zs) lent) b)
 
 -- where the next entries are written and fit, the rest remains
-pub remains-next : {es rest : List (List ℕ)} {lent₀ lent : List ℕ} {at₀ at : ℕ} (xs : List (List ℕ)) → Remains es lent₀ at₀ (xs ++ rest) lent at → (lent′ : List ℕ) (w : Written) → Writes xs lent at lent′ w → w .missed ≡ 0 → Remains es lent₀ at₀ rest lent′ (w .used)
-remains-next {es} {rest} {lent₀} {lent} {at₀} {at} xs r lent′ w s q =
-    let m = writes-room (r .within) s in
+pub remains-next : {es rest : List (List ℕ)} {lent₀ lent : List ℕ} {at₀ at : ℕ} (xs : List (List ℕ)) → Remains es lent₀ at₀ (xs ++ rest) lent at → (lent′ : List ℕ) (r : ℕ) → Writes xs lent at lent′ r → (r ≡ full → ⊥) → Remains es lent₀ at₀ rest lent′ r
+remains-next {es} {rest} {lent₀} {lent} {at₀} {at} xs m lent′ r w q =
+    let n = writes-room (m .within) w in
     record {
-      size = m .0 ∙ r .size;
-      within = omega (arith, m .0, m .1);
-      closes = λ lent″ v z. r .closes lent″ v (writes-next xs rest lent at lent′ w (r .within) s q lent″ v z);
+      size = n .0 ∙ m .size;
+      within = omega (arith, n .0, n .1 q .1);
+      closes = λ lent″ v z. m .closes lent″ v (writes-append xs rest (m .within) w q z);
     }
 
 -- where one of the next entries does not fit, all is written that fits
-pub remains-full : {es : List (List ℕ)} {lent₀ lent : List ℕ} {at₀ at : ℕ} (xs rest : List (List ℕ)) → Remains es lent₀ at₀ (xs ++ rest) lent at → (lent′ : List ℕ) (w : Written) → Writes xs lent at lent′ w → (w .missed ≡ 0 → ⊥) → Writes es lent₀ at₀ lent′ w
-remains-full {es} {lent₀} {lent} {at₀} {at} xs rest r lent′ w s q = r .closes lent′ w (writes-full xs rest lent at lent′ w s q)
+pub remains-full : {es : List (List ℕ)} {lent₀ lent : List ℕ} {at₀ at : ℕ} (xs rest : List (List ℕ)) → Remains es lent₀ at₀ (xs ++ rest) lent at → length lent < full → (lent′ : List ℕ) (r : ℕ) → Writes xs lent at lent′ r → r ≡ full → Writes es lent₀ at₀ lent′ full
+remains-full {es} {lent₀} {lent} {at₀} {at} xs rest m l lent′ r w q =
+    m .closes lent′ full (writes-full xs rest (m .within) l w q)
+
+-- words put behind the first `at` words, and in front of others
+pub put-there : (at : ℕ) (xs lent : List ℕ) → at + length xs ≤ length lent → take (length xs) (drop at (put at xs lent)) ≡ xs
+unfolding put
+put-there at xs lent h =
+    let t = length-take-le at lent (omega (arith, h)) in
+    ap (λ (zs : List ℕ). take (length xs) (drop at zs)) (append-assoc (take at lent) xs (drop (at + length xs) lent))
+    ∙ ap (take (length xs)) (drop-at (take at lent) (xs ++ drop (at + length xs) lent) at t)
+    ∙ take-append-seam xs (drop (at + length xs) lent)
+
+-- entries of one width that are written stand there
+pub writes-block : {es : List (List ℕ)} {lent : List ℕ} {at : ℕ} {lent′ : List ℕ} {r : ℕ} (width : ℕ) → at ≤ length lent → Writes es lent at lent′ r → (r ≡ full → ⊥) → ((e : List ℕ) → List·Memᴰ e es → length e ≡ width) → Block es width lent′ at r
+writes-block {es} {lent} {at} {lent′} {r} width h w q k =
+    let n = writes-room h w in
+    let whole : at + length (flatten es) ≤ length lent = omega (arith, h, writes-fits w q) in
+    record {
+      wide = k;
+      end = writes-used w q;
+      within = omega (arith, n .0, n .1 q .1);
+      there = ap (λ (zs : List ℕ). take (length (flatten es)) (drop at zs)) (writes-words w q) ∙ put-there at (flatten es) lent whole;
+    }

@@ -1,10 +1,4 @@
 // Entries in the lent words.
 
-// An entry, or one for each string of digits left, written behind the others: `write_rights`, `write_labels`.
+// Entries written one behind the other, and repeated with other digits: `write_rights`, `repeat`.
 pub mod writing;
-
-// How many lent words are used, and whether an entry did not fit: 1, otherwise 0.
-pub struct Written {
-    pub used: usize,
-    pub missed: usize,
-}

@@ -1,14 +1,16 @@
 // Entries, written into the lent words one behind the other, until one does not fit.
 ghost use mathlib.Core.Path.{_≡_};
-ghost use mathlib.Core.List.{[], _∷_};
-ghost use Prim.Native.Nat.{_+_, _≤_};
-ghost use lib.ListN.{length};
-ghost use Rattle.table.specs.Limits.{maxTerms, maxLabels};
-ghost use Rattle.entries.specs.Code.Writing.{put, Writes, NextMarked, rightEntries, Restored, labelEntries, Relabelled};
-use crate::Written;
+ghost use mathlib.Core.List.{List, map, flatten};
+ghost use Prim.Native.Nat.{ℕ, _+_, _-_, _≤_, _<_};
+ghost use lib.ListN.{length, take, drop, set};
+ghost use Rattle.table.specs.Limits.{maxLabels};
+ghost use Rattle.entries.specs.Code.Writing.{put, Writes, Block, repeated, rightEntries, Least};
+
+// What is answered in the place of how many words are used, where an entry did not fit.
+pub const FULL: usize = 18446744073709551615;
 
 // Copies words into the lent words from `at` on.
-pub fn copy(words: &[u32], out: &mut [u32], at: usize)
+fn copy(words: &[u32], out: &mut [u32], at: usize)
     requires { ⌜ at + length (now words) ≤ length (now out) ⌝ }
     ensures { λ r. ⌜ now (out .exit) ≡ put at (now (words .entry)) (now (out .entry)) ⌝ }
 {
@@ -19,99 +21,108 @@ pub fn copy(words: &[u32], out: &mut [u32], at: usize)
     }
 }
 
-// Writes an entry into the lent words from `at` on, if it fits.
-fn write_entry(entry: &[u32], out: &mut [u32], at: usize) -> Written
-    requires { ⌜ at ≤ length (now out) ⌝ }
-    ensures { λ r. ⌜ Writes (now (entry .entry) ∷ []) (now (out .entry)) at (now (out .exit)) r ⌝ }
+// Copies so many of the lent words, from `from` on, to place `at` behind them.
+fn copy_within(out: &mut [u32], from: usize, count: usize, at: usize)
+    requires { ⌜ (from + count ≤ at) × (at + count ≤ length (now out)) ⌝ }
+    ensures { λ r. ⌜ now (out .exit) ≡ put at (take count (drop from (now (out .entry)))) (now (out .entry)) ⌝ }
 {
-    if out.len() - at < entry.len() {
-        return Written {
-            used: at,
-            missed: 1,
-        };
-    }
-    copy(entry, out, at);
-    Written {
-        used: at + entry.len(),
-        missed: 0,
+    let mut i: usize = 0;
+    while i < count {
+        out[at + i] = out[from + i];
+        i += 1;
     }
 }
 
-// The first place from p up to `end` at which an entry does not have 0; `end` where there is none.
-fn next_marked(entry: &[u32], p: usize, end: usize) -> usize
-    requires { ⌜ (p ≤ end) × (end ≤ length (now entry)) ⌝ }
-    ensures { λ r. ⌜ NextMarked (now (entry .entry)) p end r ⌝ }
+// Puts a digit at place p of each of the entries in so many words.
+fn put_digits(out: &mut [u32], at: usize, count: usize, width: usize, p: usize, d: usize)
+    requires { ⌜ (p < width) × (width ≤ length (now out)) × (at + count ≤ length (now out)) × (d < 4294967296) ⌝ }
+    ensures { λ r. ⌜ ((es : List (List ℕ)) → Block es width (now (out .entry)) at (at + count) → now (out .exit) ≡ put at (flatten (map (λ e. set e p d) es)) (now (out .entry))) ⌝ }
 {
-    let mut q = p;
-    while q < end {
-        if entry[q] != 0 {
-            return q;
+    let mut i = p;
+    while i < count {
+        out[at + i] = d as u32;
+        i += width;
+    }
+}
+
+// Copies entries, in so many words, with another digit at place p.
+fn copy_with(
+    out: &mut [u32],
+    width: usize,
+    from: usize,
+    count: usize,
+    at: usize,
+    p: usize,
+    d: usize,
+)
+    requires { ⌜ (p < width) × (width ≤ length (now out)) × (from + count ≤ at) × (at + count ≤ length (now out)) × (d < 4294967296) ⌝ }
+    ensures { λ r. ⌜ ((es : List (List ℕ)) → Block es width (now (out .entry)) from (from + count) → now (out .exit) ≡ put at (flatten (map (λ e. set e p d) es)) (now (out .entry))) ⌝ }
+{
+    copy_within(out, from, count, at);
+    put_digits(out, at, count, width, p, d);
+}
+
+// Repeats the entries from `from` up to `to`, of so many words each, behind them, with each digit after `first` up to `last` at place p.
+// Fewer words than one entry has are no entries: so a width never leads past the lent words.
+pub fn repeat(
+    out: &mut [u32],
+    width: usize,
+    from: usize,
+    to: usize,
+    p: usize,
+    first: usize,
+    last: usize,
+) -> usize
+    requires { ⌜ (0 < width) × (p < width) × (from ≤ to) × (to ≤ length (now out)) × (first ≤ last) × (last < 4294967296) ⌝ }
+    ensures { λ r. ⌜ ((es : List (List ℕ)) → Block es width (now (out .entry)) from to → Writes (repeated p (first + 1) (last - first) es) (now (out .entry)) to (now (out .exit)) r) ⌝ }
+{
+    let count = to - from;
+    if count < width {
+        return to;
+    }
+    let mut used = to;
+    let mut d = first + 1;
+    while d <= last {
+        let room = out.len() - used;
+        if room < count {
+            copy_with(out, width, from, room / width * width, used, p, d);
+            return FULL;
         }
-        q += 1;
+        copy_with(out, width, from, count, used, p, d);
+        used += count;
+        d += 1;
     }
-    end
+    used
 }
 
-// Writes an entry for each string of right digits from place p up to `end`: a digit 0 stays, any other goes from 1 to k.
+// Writes an entry and, for each other string of right digits from place p up to `end`, the entry with these: a digit 0 stays, any other goes
+// from 1 to k. The entry fits.
 pub fn write_rights(
     k: usize,
-    entry: &mut [u32],
+    entry: &[u32],
     p: usize,
     end: usize,
     out: &mut [u32],
     at: usize,
-) -> Written
-    requires { ⌜ (k ≤ maxLabels) × (p ≤ end) × (end ≤ length (now entry)) × (at ≤ length (now out)) ⌝ }
+) -> usize
+    requires { ⌜ (k ≤ maxLabels) × (p ≤ end) × (end ≤ length (now entry)) × (at + length (now entry) ≤ length (now out)) ⌝ }
+    requires { ⌜ (0 < length (now entry)) × Least k (now entry) p end ⌝ }
     ensures { λ r. ⌜ Writes (rightEntries k (now (entry .entry)) p end) (now (out .entry)) at (now (out .exit)) r ⌝ }
-    ensures { λ r. ⌜ Restored (now (entry .entry)) r (now (entry .exit)) ⌝ }
 {
-    let q = next_marked(entry, p, end);
-    if q == end {
-        return write_entry(entry, out, at);
+    copy(entry, out, at);
+    let mut used = at + entry.len();
+    if k < 2 {
+        return used;
     }
-    let mark = entry[q];
-    let mut used = at;
-    let mut d: usize = 1;
-    while d <= k {
-        entry[q] = d as u32;
-        let w = write_rights(k, entry, q + 1, end, out, used);
-        if w.missed != 0 {
-            return w;
+    let mut q = end;
+    while p < q {
+        q -= 1;
+        if entry[q] != 0 {
+            used = repeat(out, entry.len(), at, used, q, 1, k);
+            if used == FULL {
+                return FULL;
+            }
         }
-        used = w.used;
-        d += 1;
     }
-    entry[q] = mark;
-    Written { used, missed: 0 }
-}
-
-// Writes an entry for each string of left digits from place p up to n that puts these left terms in the l right labels.
-pub fn write_labels(
-    m: usize,
-    l: usize,
-    entry: &mut [u32],
-    p: usize,
-    n: usize,
-    out: &mut [u32],
-    at: usize,
-) -> Written
-    requires { ⌜ (m ≤ maxTerms) × (l ≤ maxLabels) × (p ≤ n) × (n ≤ length (now entry)) × (at ≤ length (now out)) ⌝ }
-    ensures { λ r. ⌜ Writes (labelEntries m l (now (entry .entry)) p n) (now (out .entry)) at (now (out .exit)) r ⌝ }
-    ensures { λ r. ⌜ Relabelled (now (entry .entry)) p n (now (entry .exit)) ⌝ }
-{
-    if p == n {
-        return write_entry(entry, out, at);
-    }
-    let mut used = at;
-    let mut d: usize = 1;
-    while d <= l {
-        entry[p] = (m + d) as u32;
-        let w = write_labels(m, l, entry, p + 1, n, out, used);
-        if w.missed != 0 {
-            return w;
-        }
-        used = w.used;
-        d += 1;
-    }
-    Written { used, missed: 0 }
+    used
 }
