@@ -6,6 +6,7 @@ pub mod ClosureLaws
 pub mod JoinLaws
 pub mod OrderedLaws
 pub mod OrderLaws
+pub mod FollowLaws
 pub mod MendLaws
 pub mod ExtensionLaws
 pub mod AtOnceLaws

@@ -573,7 +573,7 @@ pub searched-cycle : {nodes arguments heads : List ℕ} {due : ℕ → ℕ} {a :
 searched-cycle l = record { cycle = λ e. l; ordered = λ e. absurd (let z : _≡_ {A = ℕ} 0 1 = cc in omega arith) }
 
 -- a search that passes
-searched-order : {nodes arguments heads : List ℕ} {due : ℕ → ℕ} {a : ℕ} → OrderedBelow nodes arguments due heads a →
+pub searched-order : {nodes arguments heads : List ℕ} {due : ℕ → ℕ} {a : ℕ} → OrderedBelow nodes arguments due heads a →
     Searched nodes arguments due heads a false
 searched-order o = record { cycle = λ e. absurd (let z : _≡_ {A = ℕ} 0 1 = cc in omega arith); ordered = λ e. o }
 

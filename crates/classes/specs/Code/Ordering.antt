@@ -1,7 +1,9 @@
--- Putting the heads that have arguments in order by depth-first search: what is marked and listed, and what a visit leaves.
+-- Putting the heads that have arguments in order by depth-first search: what is marked and listed, and what a visit leaves. And following
+-- the only argument that leads on, from head to head.
 use Prim.Native.Nat.{ℕ, _<_, _≤_}
 use mathlib.Core.Bool.{Bool}
 use mathlib.Core.List.{List}
+use mathlib.Core.Logic.{_⊎_}
 use mathlib.Core.Path.{_≡_}
 use lib.Dec.{eqb}
 use lib.ListN.{length}
@@ -12,7 +14,7 @@ use Rattle.unification.specs.Code.Sections.{Sections}
 use Rattle.classes.specs.declared.order.Placed.{Placed}
 use Rattle.classes.specs.declared.order.Placed.the-variants.{Cycle, Count}
 use Rattle.nodes.specs.Code.Open.{Counts}
-use Rattle.nodes.specs.Code.Order.{Leads, Looped, Met}
+use Rattle.nodes.specs.Code.Order.{Leads, Looped, Met, Listed}
 
 -- Node k is not visited yet.
 unfoldable pub isNew : List ℕ → ℕ → Bool
@@ -81,3 +83,41 @@ pub record Sweep (nodes arguments : List ℕ) (due : ℕ → ℕ) (heads list ma
   pub ordering : Ordering nodes arguments due heads marks order count
   pub none-open : (k : ℕ) → k < nodeCount nodes → word marks k ≡ 1 → ⊥
   pub swept : (k : ℕ) → k < i → Settled due marks (classOf heads (word list k))
+
+-- In place of a head: no argument leads on.
+abbrev pub noHead : ℕ
+noHead = 256
+
+-- Several do.
+abbrev pub severalHeads : ℕ
+severalHeads = 257
+
+-- What is found of the arguments after one more, whose head is g: it does not lead on where none of its arguments is looked at.
+pub data Led (due : ℕ → ℕ) (found g : ℕ) : ℕ → Type 0 where
+  led-no : due g ≡ 0 → Led due found g found
+  led-first : found ≡ noHead → Led due found g g
+  led-same : found ≡ g → Led due found g g
+  led-several : Led due found g severalHeads
+
+-- Node h leads to g by one argument, and none of its first j arguments leads on to another head.
+pub record OnlyTo (nodes arguments : List ℕ) (due : ℕ → ℕ) (heads : List ℕ) (h j g : ℕ) : Type 0 where
+  pub node : g < nodeCount nodes
+  pub leads : Leads nodes arguments due heads h g
+  pub only : (i : ℕ) → i < j → (due (classOf heads (argumentOf nodes arguments h i)) ≡ 0) ⊎ (classOf heads (argumentOf nodes arguments h i) ≡ g)
+
+-- What is found of the first j arguments of node h, where they do not lead on to several heads.
+pub record Onward (nodes arguments : List ℕ) (due : ℕ → ℕ) (heads : List ℕ) (h j found : ℕ) : Type 0 where
+  pub none : found ≡ noHead → (i : ℕ) → i < j → due (classOf heads (argumentOf nodes arguments h i)) ≡ 0
+  pub one : (found ≡ noHead → ⊥) → OnlyTo nodes arguments due heads h j found
+
+-- An order of node g and whatever it leads to, in which the heads of arguments come first.
+pub record OrderedTo (nodes arguments : List ℕ) (due : ℕ → ℕ) (heads : List ℕ) (g : ℕ) : Type 0 where
+  pub order : List ℕ
+  pub listed : Listed nodes arguments due heads order
+  pub met : Met due order (length order) g
+
+-- Node g is come to from node h by only arguments: where there is an order for g, there is one for h.
+pub record Followed (nodes arguments : List ℕ) (due : ℕ → ℕ) (heads : List ℕ) (h g : ℕ) : Type 0 where
+  pub node : g < nodeCount nodes
+  pub leads : (g ≡ h) ⊎ Leads nodes arguments due heads h g
+  pub back : OrderedTo nodes arguments due heads g → OrderedTo nodes arguments due heads h

@@ -23,33 +23,36 @@ abbrev μ-loop : tie.MeasureT-loop
 loop-holds : tie.Need-loop-holds Inv-loop μ-loop
 loop-holds c = (search needs, swept-none (c .before .before .before .before .before .before .before .pre .1 .1 .1))
 
-entry-requires : tie.Need-entry-requires Inv-loop μ-loop
-entry-requires c κs = search needs
-
 node-in-requires : tie.Need-node-in-requires Inv-loop μ-loop
-node-in-requires c κs =
-    let s = c .before .before .before .before .before .before .before .before .before .before .pre in
-    let l = c .before .before .loop in
-    let n = s .1 .1 .0 .node (l .i) (c .before .loop-test .taken) in
-    omega (arith, c .entry .ensures, n, s .1 .0 .partition .size)
+node-in-requires c κs = search needs
+
+cast-node-in : tie.Need-cast-node-in Inv-loop μ-loop
+cast-node-in c = search needs
+
+node-in-requires-2 : tie.Need-node-in-requires-2 Inv-loop μ-loop
+node-in-requires-2 c κs =
+    let s = c .before .before .before .before .before .before .before .before .before .before .before .pre in
+    let l = c .before .before .before .loop in
+    let n = s .1 .1 .0 .node (l .i) (c .before .before .loop-test .taken) in
+    omega (arith, c .before .node-in .ensures .0, n, s .1 .0 .partition .size)
 
 is-due-requires : tie.Need-is-due-requires Inv-loop μ-loop
 is-due-requires c κs =
-    let s = c .before .before .before .before .before .before .before .before .before .before .before .before .pre in
-    let l = c .before .before .before .before .loop .inv .1 in
-    let g = c .before .before .entry in
-    let h = c .before .node-in in
-    let n = sweep-node (s .0 .0) (s .0 .1) (s .1 .0 .partition) (s .1 .1 .0) l (c .before .before .before .loop-test .taken) (g .result) (g .ensures) (h .result .0) (h .ensures .0) in
+    let s = c .before .before .before .before .before .before .before .before .before .before .before .before .before .pre in
+    let l = c .before .before .before .before .before .loop .inv .1 in
+    let g = c .before .before .before .node-in in
+    let h = c .before .node-in2 in
+    let n = sweep-node (s .0 .0) (s .0 .1) (s .1 .0 .partition) (s .1 .1 .0) l (c .before .before .before .before .loop-test .taken) (g .result .0) (g .ensures .0) (h .result .0) (h .ensures .0) in
     (omega (arith, n, s .0 .1 .enough), omega (arith, n, l .ordering .marks-size))
 
 visit-requires : tie.Need-visit-requires Inv-loop μ-loop
 visit-requires c κs =
-    let s = c .before .before .before .before .before .before .before .before .before .before .before .before .before .before .before .before in
-    let l = c .before .before .before .before .before .before .before .before .loop in
-    let g = c .before .before .before .before .before .before .entry in
-    let h = c .before .before .before .before .before .node-in in
+    let s = c .before .before .before .before .before .before .before .before .before .before .before .before .before .before .before .before .before in
+    let l = c .before .before .before .before .before .before .before .before .before .loop in
+    let g = c .before .before .before .before .before .before .before .node-in in
+    let h = c .before .before .before .before .before .node-in2 in
     let a = due-some (word (s .args .counts .now)) (l .marks) (h .result .0) _ (c .before .before .before .is-due .ensures) (c .before .before .if1 .taken) in
-    sweep-next (s .pre .0 .0) (s .pre .0 .1) (s .pre .1 .0 .partition) (s .pre .1 .1 .0) (l .inv .1) (c .before .before .before .before .before .before .before .loop-test .taken) (g .result) (g .ensures) (h .result .0) (h .ensures .0) a
+    sweep-next (s .pre .0 .0) (s .pre .0 .1) (s .pre .1 .0 .partition) (s .pre .1 .1 .0) (l .inv .1) (c .before .before .before .before .before .before .before .before .loop-test .taken) (g .result .0) (g .ensures .0) (h .result .0) (h .ensures .0) a
 
 enum-known-c : tie.Need-enum-known-c Inv-loop μ-loop
 enum-known-c c = search needs
@@ -60,18 +63,18 @@ enum-told c = search needs
 same-length : tie.Need-same-length Inv-loop μ-loop
 same-length c =
     let k = c .before .before .before .before .before .before .visit .kept .1 .1 .1 .1 .0 in
-    let o = c .before .before .before .before .before .before .before .before .before .before .before .before .before .before .before .loop .inv .1 .ordering in
-    k ∙ o .marks-size ∙ sym (c .before .before .before .before .before .before .before .before .before .before .before .before .before .before .before .before .before .before .before .before .before .before .before .pre .1 .1 .1 .marks-size)
+    let o = c .before .before .before .before .before .before .before .before .before .before .before .before .before .before .before .before .loop .inv .1 .ordering in
+    k ∙ o .marks-size ∙ sym (c .before .before .before .before .before .before .before .before .before .before .before .before .before .before .before .before .before .before .before .before .before .before .before .before .pre .1 .1 .1 .marks-size)
 
 same-length-2 : tie.Need-same-length-2 Inv-loop μ-loop
 same-length-2 c =
     let k = c .before .before .before .before .before .before .visit .kept .1 .1 .1 .1 .1 .0 in
-    let o = c .before .before .before .before .before .before .before .before .before .before .before .before .before .before .before .loop .inv .1 .ordering in
-    k ∙ o .order-size ∙ sym (c .before .before .before .before .before .before .before .before .before .before .before .before .before .before .before .before .before .before .before .before .before .before .before .pre .1 .1 .1 .order-size)
+    let o = c .before .before .before .before .before .before .before .before .before .before .before .before .before .before .before .before .loop .inv .1 .ordering in
+    k ∙ o .order-size ∙ sym (c .before .before .before .before .before .before .before .before .before .before .before .before .before .before .before .before .before .before .before .before .before .before .before .before .pre .1 .1 .1 .order-size)
 
 returns : tie.Need-returns Inv-loop μ-loop
 returns c =
-    let s = c .before .before .before .before .before .before .before .before .before .before .before .before .before .before .before .before .before .before .before .before .before .before .before .pre in
+    let s = c .before .before .before .before .before .before .before .before .before .before .before .before .before .before .before .before .before .before .before .before .before .before .before .before .pre in
     absurd (ordered-unlooped _ _ (s .0 .0) _ (s .0 .1) _ (s .1 .0 .partition) _ (s .1 .0 .ordered) (c .before .before .before .before .before .before .visit .ensures .cycle (c .enum-told .given .1)))
 
 add-i : tie.Need-add-i Inv-loop μ-loop
@@ -82,15 +85,15 @@ loop-less c = search needs
 
 loop-again : tie.Need-loop-again Inv-loop μ-loop
 loop-again c =
-    let s = c .before .before .before .before .before .before .before .before .before .before .before .before .before .before in
-    let l = c .before .before .before .before .before .before .loop in
-    let b = c .before .before .before .before .before .loop-test .taken in
-    let g = c .before .before .before .before .entry in
-    let h = c .before .before .before .node-in in (
+    let s = c .before .before .before .before .before .before .before .before .before .before .before .before .before .before .before in
+    let l = c .before .before .before .before .before .before .before .loop in
+    let b = c .before .before .before .before .before .before .loop-test .taken in
+    let g = c .before .before .before .before .before .node-in in
+    let h = c .before .before .before .node-in2 in (
       search needs,
       ⊎-elim
-          (λ w. swept (s .pre .0 .0) (s .pre .0 .1) (s .pre .1 .0 .partition) (s .pre .1 .1 .0) (l .inv .1) b (g .result) (g .ensures) (h .result .0) (h .ensures .0) _ _ _ (w .3 .ensures .counted _ (w .9 .given .1)) (w .11) (w .12) (w .13))
-          (λ w. swept-over (s .pre .0 .0) (s .pre .0 .1) (s .pre .1 .0 .partition) (s .pre .1 .1 .0) (l .inv .1) b (g .result) (g .ensures) (h .result .0) (h .ensures .0) (not-due (word (s .args .counts .now)) (l .marks) (h .result .0) _ (c .before .is-due .ensures) (w .0 .left)) (w .1) (w .2) (w .3))
+          (λ w. swept (s .pre .0 .0) (s .pre .0 .1) (s .pre .1 .0 .partition) (s .pre .1 .1 .0) (l .inv .1) b (g .result .0) (g .ensures .0) (h .result .0) (h .ensures .0) _ _ _ (w .3 .ensures .counted _ (w .9 .given .1)) (w .11) (w .12) (w .13))
+          (λ w. swept-over (s .pre .0 .0) (s .pre .0 .1) (s .pre .1 .0 .partition) (s .pre .1 .1 .0) (l .inv .1) b (g .result .0) (g .ensures .0) (h .result .0) (h .ensures .0) (not-due (word (s .args .counts .now)) (l .marks) (h .result .0) _ (c .before .is-due .ensures) (w .0 .left)) (w .1) (w .2) (w .3))
           (c .if1 .came),
     )
 
@@ -113,8 +116,9 @@ put-in-order-spec =
     Inv-loop
     μ-loop
     loop-holds
-    entry-requires
     node-in-requires
+    cast-node-in
+    node-in-requires-2
     is-due-requires
     visit-requires
     enum-known-c
