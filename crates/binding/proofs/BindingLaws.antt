@@ -1,7 +1,7 @@
 -- The words that are found by names are the binding words: the least application with a name, or the least node of the lowest
 -- variable with it, as the variables present are listed in rising order. Assumes nothing.
 use Prim.Native.Nat.{ℕ, suc, _+_, _-_, _<_, _≤_}
-use mathlib.Core.List.{List, [], _∷_, _++_, map, List·Memᴰ, map-map}
+use mathlib.Core.List.{List, _++_, map, List·Memᴰ, map-map}
 use mathlib.Core.Path.{_≡_, refl, sym, ap, _∙_}
 use native.Mathlib.Decide.{ℕ-discrete}
 use native.Mathlib.Nat.{sub-zero}
@@ -15,8 +15,7 @@ use Rattle.unification.specs.Words.{Least, Matched}
 use Rattle.unification.specs.Computed.Classes.{classOf}
 use Rattle.unification.specs.Computed.Variables.{variablesOf}
 use Rattle.unification.specs.Computed.Solution.{nodeOf}
-use Rattle.unification.specs.Computed.Binding.{wordOf, bindingWords}
-use Rattle.unification.specs.Computed.Unifying.{unifier, wordsOf}
+use Rattle.unification.specs.Computed.Unifying.{wordsOf}
 use Rattle.unification.specs.Code.Sections.{Sections}
 use Rattle.unification.specs.Code.Heads.{Partition}
 use Rattle.unification.specs.Code.Solved.{IsClosure}
@@ -48,23 +47,23 @@ module _ (nodes arguments list : List ℕ) (e : list ≡ leastNodes (nodesFrom n
   ns = nodesFrom nodes arguments
 
   -- there is a place for each variable present
-  list-long : length list ≡ length (variablesOf ns)
+  pub list-long : length list ≡ length (variablesOf ns)
   list-long = ap length e ∙ least-long (nodesFrom nodes arguments)
 
   -- with its least node
-  list-at : (k : ℕ) → k < length (variablesOf ns) → word list k ≡ nodeOf ns (word (variablesOf ns) k)
+  pub list-at : (k : ℕ) → k < length (variablesOf ns) → word list k ≡ nodeOf ns (word (variablesOf ns) k)
   unfolding leastNodes
   list-at k h =
       ap (λ (l : List ℕ). word l k) e ∙ map-at (nodeOf ns) (variablesOf ns) k h
 
   -- a variable that is present has a place
-  place-of : (x : ℕ) → Present ns x → (k : ℕ) × (k < length list) × (x ≡ word (variablesOf ns) k) × (word list k ≡ nodeOf ns x)
+  pub place-of : (x : ℕ) → Present ns x → (k : ℕ) × (k < length list) × (x ≡ word (variablesOf ns) k) × (word list k ≡ nodeOf ns x)
   place-of x p =
       let r = member-place (variablesOf ns) x (present-variables ns x p) in
       (r .0, rw list-long (r .1), r .2, list-at (r .0) (r .1) ∙ ap (nodeOf ns) (sym (r .2)))
 
   -- a place has a variable that is present
-  at : (k : ℕ) → k < length list → Present ns (word (variablesOf ns) k)
+  pub at : (k : ℕ) → k < length list → Present ns (word (variablesOf ns) k)
   at k h =
       variables-present ns (word (variablesOf ns) k) (placed (variablesOf ns) k (rw list-long at h))
 
@@ -226,15 +225,3 @@ nothing-placed n m e l =
 pub ordered-part : (nodes arguments : List ℕ) (due : ℕ → ℕ) (heads xs ys : List ℕ) (k : ℕ) → k ≤ length xs →
     Ordered nodes arguments due heads (take k xs) → Ordered nodes arguments due heads (take (k - 0) (xs ++ ys))
 ordered-part nodes arguments due heads xs ys k h o = rw (sub-zero k, take-append-le k xs ys h) o
-
--- where no variable is present there are no words, and nothing is written
-pub leaves-nothing : (nodes arguments heads list out : List ℕ) → list ≡ leastNodes (nodesFrom nodes arguments) → length list ≡ 0 →
-    Leaves nodes arguments heads out out
-unfolding wordsOf bindingWords
-leaves-nothing nodes arguments heads list out e z ps s =
-    pick (variablesOf (nodesFrom nodes arguments)) (sym (ap length e ∙ least-long (nodesFrom nodes arguments)) ∙ z)
-  where
-    pick : (xs : List ℕ) → length xs ≡ 0 →
-        out ≡ map (wordOf (nodesFrom nodes arguments) (unifier (nodesFrom nodes arguments) ps)) xs ++ drop (length xs) out
-    pick [] e = refl
-    pick (x ∷ xs) e = absurd (omega (arith, e))

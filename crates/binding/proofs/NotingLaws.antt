@@ -16,7 +16,7 @@ use Rattle.table.specs.Layout.{word, kindOf, nodeCount}
 use Rattle.unification.specs.Computed.Classes.{classOf}
 use Rattle.nodes.specs.Code.Named.{valueName, Applied, Themselves}
 use Rattle.nodes.specs.Code.Open.{OpenListed}
-use Rattle.binding.specs.Code.Binding.{HeadNames, AreApplied, NamesLeast, applicationNoted, freeNoted, IsApplied, IsFree, nameAt, OpenNoted, ApplicationsNoted, FreeFrom, readAt, AreNodes}
+use Rattle.binding.specs.Code.Binding.{HeadNames, AreApplied, NamesLeast, applicationNoted, freeNoted, IsApplied, IsFree, nameAt, OpenNoted, ApplicationsNoted, FreeFrom, AreNodes}
 use Rattle.values.proofs.KeptLaws.{kept-none, kept-skip, kept-set}
 
 -- an application is noted at its name, where a greater node stands there
@@ -223,26 +223,25 @@ module _ (nodes arguments heads names : List ℕ) (m : HeadNames nodes arguments
     pub free-all : (by′ : List ℕ) (k : ℕ) → k ≤ 0 → FreeFrom nodes heads names list by by′ k → FreeFrom nodes heads names list by by′ 0
     free-all by′ k z r = let e : k ≡ 0 = omega arith in rw e at r
 
-module _ (heads names by list out : List ℕ) where
-  -- The words of the first k nodes of a list, before those past them.
+-- The words of a list of nodes, by a function.
+module _ (f : ℕ → ℕ) (list out : List ℕ) where
+  -- The words of the first k nodes, before those past them.
   pub readTo : ℕ → List ℕ
-  readTo k = readAt heads names by (take k list) ++ drop k out
+  readTo k = map f (take k list) ++ drop k out
 
   -- no word is written yet
   pub read-none : out ≡ readTo 0
-  unfolding readTo readAt
+  unfolding readTo
   read-none = refl
 
   -- one word more
-  pub read-next : (k u : ℕ) → k < length list → k < length out → u ≡ word by (valueName heads names (word list k)) →
-      set (readTo k) k u ≡ readTo (k + 1)
-  unfolding readTo readAt
+  pub read-next : (k u : ℕ) → k < length list → k < length out → u ≡ f (word list k) → set (readTo k) k u ≡ readTo (k + 1)
+  unfolding readTo
   read-next k u a b e =
-      let f : ℕ → ℕ = λ v. word by (valueName heads names v) in
       let n : length (map f (take k list)) ≡ k = length-map (take k list) f ∙ length-take-le k list (omega arith) in
       ap (λ (l : List ℕ). set (map f (take k list) ++ l) k u) (drop-cons out k 0 b) ∙ set-at (map f (take k list)) (word out k) (drop (suc k) out) u k n ∙ sym (append-snoc (map f (take k list)) u (drop (suc k) out)) ∙ ap (λ (l : List ℕ). l ++ drop (suc k) out) (ap (λ (z : ℕ). map f (take k list) ++ (z ∷ [])) e ∙ sym (map-append f (take k list) (word list k ∷ [])) ∙ ap (map f) (sym (take-suc list k 0 a))) ∙ ap (λ (j : ℕ). map f (take j list) ++ drop j out) (sym (add-one k))
 
   -- all are written
-  pub read-all : (k : ℕ) → k ≡ length list → readTo k ≡ readAt heads names by list ++ drop (length list) out
+  pub read-all : (k : ℕ) → k ≡ length list → readTo k ≡ map f list ++ drop (length list) out
   unfolding readTo
-  read-all k e = rw e (ap (λ (l : List ℕ). readAt heads names by l ++ drop (length list) out) (take-length list))
+  read-all k e = rw e (ap (λ (l : List ℕ). map f l ++ drop (length list) out) (take-length list))

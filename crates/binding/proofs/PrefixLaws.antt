@@ -6,7 +6,8 @@ use mathlib.Core.Logic.{_⊎_, inl, inr}
 use mathlib.Core.Path.{_≡_, sym, ap, _∙_}
 use native.Mathlib.Decide.{ℕ-discrete, decLt}
 use native.Mathlib.Omega.{arith}
-use lib.ListN.{length, take, drop, length-append, List·getD-append}
+use borrow.Author.Count.{below-more}
+use lib.ListN.{length, take, drop, replicate, length-append, length-replicate, getD-replicate, List·getD-append}
 use lib.Seq.{getD-append-add, take-at}
 use Rattle.table.specs.Limits.{maxNodes}
 use Rattle.table.specs.Layout.{word, nameOf, countOf, nodeCount, argumentOf}
@@ -15,14 +16,15 @@ use Rattle.unification.specs.Node.{each, nodesFrom}
 use Rattle.unification.specs.Unifier.{value}
 use Rattle.unification.specs.Computed.Classes.{classOf}
 use Rattle.unification.specs.Code.Sections.{Sections}
+use Rattle.unification.specs.Code.Heads.{Partition}
 use Rattle.unification.proofs.NodeLaws.{each-equal, value-application}
 use Rattle.unification.proofs.SectionLaws.{run, is-node, application-from, run-long, counted-application, pair-place, sections-well-formed}
 use Rattle.nodes.specs.Code.Open.{IsClosed, Counts, OpenListed}
 use Rattle.nodes.specs.Code.Order.{Met, leaf, before, Ordered}
 use Rattle.nodes.specs.Code.Named.{valueName, Alike, Applied, Named, Themselves}
 use Rattle.values.specs.Code.Naming.{Nameable, IsPlaced, compounds, keyOf, keyAt, NamedBefore, Naming, NamedAlong}
-use Rattle.binding.specs.Code.Binding.{HeadNames, NamesLeast, AllBelow}
-use Rattle.values.specs.Code.Prepared.{ClosedListed, ClosedTable, bucketsIn, earlierIn, openIn, closedIn, PreparedOpen, Prepared, nothing, with-open}
+use Rattle.binding.specs.Code.Binding.{HeadNames, NamesLeast, AllBelow, NoneLeads}
+use Rattle.values.specs.Code.Prepared.{preparedWords, ClosedListed, ClosedTable}
 use Rattle.nodes.specs.Code.Formed.{Formed}
 use Rattle.values.proofs.AlikeLaws.{alike-same}
 use Rattle.values.proofs.ChainLaws.{chained-same}
@@ -356,28 +358,34 @@ module _ (nodes arguments : List ℕ) (s : Sections nodes arguments) (counts hea
       pub prefix-least : (names : List ℕ) → NamedAlong nodes arguments heads xs names → NamesLeast nodes arguments counts heads names
       prefix-least names m = named-least names (rw e at m)
 
--- where no argument of a node is looked at, none of a head is
-pub none-open : (nodes counts opens : List ℕ) → OpenListed nodes counts opens → length opens ≡ 0 → (i : ℕ) → i < nodeCount nodes → word counts i ≡ 0
-none-open nodes counts opens o z i h = go (ℕ-discrete (word counts i) 0)
+-- no open application is looked at yet
+pub leads-none : (counts opens heads : List ℕ) → NoneLeads counts opens heads 0
+leads-none counts opens heads = record { none = λ p h. absurd (omega arith) }
+
+-- one more has a head that is closed
+pub leads-next : (counts opens heads : List ℕ) (p o h : ℕ) → o ≡ word opens p → h ≡ classOf heads o → word counts h ≡ 0 →
+    NoneLeads counts opens heads p → NoneLeads counts opens heads (p + 1)
+leads-next counts opens heads p o h d e z n =
+    record {
+      none = below-more (λ q. word counts (classOf heads (word opens q)) ≡ 0) p (n .none)
+          (ap (word counts) (sym (e ∙ ap (classOf heads) d)) ∙ z);
+    }
+
+-- all of them
+pub leads-all : (counts opens heads : List ℕ) (p : ℕ) → length opens ≤ p → NoneLeads counts opens heads p →
+    NoneLeads counts opens heads (length opens)
+leads-all counts opens heads p h n = record { none = λ q l. n .none q (omega arith) }
+
+-- so no argument of a head is looked at
+pub none-leads : (nodes counts opens heads : List ℕ) → OpenListed nodes counts opens → Partition (nodeCount nodes) heads →
+    NoneLeads counts opens heads (length opens) → (i : ℕ) → i < nodeCount nodes → word counts (classOf heads i) ≡ 0
+none-leads nodes counts opens heads o q n i h = go (ℕ-discrete (word counts (classOf heads i)) 0)
   where
-    go : Dec (word counts i ≡ 0) → word counts i ≡ 0
+    go : Dec (word counts (classOf heads i) ≡ 0) → word counts (classOf heads i) ≡ 0
     go (yes e) = e
-    go (no n) =
-        let r = o .whole i h (omega (arith, n)) in
-        let l = r .1 in
-        absurd (omega (arith, l, z))
-
--- nor where none of an order is taken
-pub none-placed : (nodes arguments counts heads order : List ℕ) (r : ℕ) → Ordered nodes arguments (word counts) heads (take r order) → r ≡ 0 →
-    (i : ℕ) → i < nodeCount nodes → word counts (classOf heads i) ≡ 0
-none-placed nodes arguments counts heads order r o z i h = met (o .whole i h)
-  where
-    none : length (take r order) ≡ 0
-    none = ap (λ (k : ℕ). length (take k order)) z
-
-    met : Met (word counts) (take r order) (length (take r order)) (classOf heads i) → word counts (classOf heads i) ≡ 0
-    met (leaf e) = e
-    met (before q l e) = absurd (omega (arith, l, none))
+    go (no z) =
+        let r = o .whole (classOf heads i) (q .below i h) (omega (arith, z)) in
+        ap (word counts) (sym (q .own i h) ∙ ap (classOf heads) (sym (r .2))) ∙ n .none (r .0) (r .1)
 
 -- what is put into an order: closed applications, and open ones behind them
 pub order-put : (closed placed xs ys zs : List ℕ) (start end : ℕ) → start ≡ length closed → end ≡ start + length placed → ys ≡ closed ++ drop (length closed) xs → zs ≡ take start ys ++ placed ++ drop (start + length placed) ys → take (end - 0) zs ≡ closed ++ placed
@@ -386,37 +394,13 @@ order-put closed placed xs ys zs start end e d f g =
     let h : take start ys ≡ closed = ap (take start) f ∙ take-at closed (drop (length closed) xs) start (sym e) in
     ap (take (end - 0)) (g ∙ ap (λ (l : List ℕ). l ++ placed ++ drop (start + length placed) ys) h) ∙ take-at (closed ++ placed) (drop (start + length placed) ys) (end - 0) (sym z)
 
--- where there are no prepared words there are no open applications
-pub prepared-none : (nodes arguments counts heads prepared : List ℕ) → Prepared nodes arguments counts heads prepared → length prepared ≡ 0 →
-    OpenListed nodes counts prepared
-prepared-none nodes arguments counts heads prepared (with-open f) z = let s = f .size in absurd (omega (arith, s, z))
-prepared-none nodes arguments counts heads prepared (nothing e n) z =
-    record {
-      node = λ p h. absurd (omega arith);
-      applied = λ p h. absurd (omega arith);
-      whole = λ i h l. let x = n i h in absurd (omega (arith, x, l));
-    }
+-- the parts of the table and the list behind it, as the code takes them
+pub closed-parts : (nodes arguments counts heads prepared : List ℕ) (r : ℕ) → ClosedListed nodes counts heads (take r (drop 512 prepared)) →
+    ClosedTable nodes arguments heads (take r (drop 512 prepared)) (take 256 prepared) (take 256 (drop 256 prepared)) →
+    ClosedListed nodes counts heads (take (512 + r - 512) (drop 512 prepared)) ×
+    ClosedTable nodes arguments heads (take (512 + r - 512) (drop 512 prepared)) (take 256 prepared) (take 256 (drop 256 prepared))
+closed-parts nodes arguments counts heads prepared r l x = let d : 512 + r - 512 ≡ r = omega arith in rw d (l, x)
 
--- and otherwise there are open applications
-pub prepared-open : (nodes arguments counts heads prepared : List ℕ) → Prepared nodes arguments counts heads prepared →
-    (length prepared ≡ 0 → ⊥) → PreparedOpen nodes arguments counts heads prepared
-prepared-open nodes arguments counts heads prepared (with-open f) n = f
-prepared-open nodes arguments counts heads prepared (nothing e z) n = absurd (n e)
-
--- Their parts, as the code takes them.
-module _ (nodes arguments counts heads prepared : List ℕ) (f : PreparedOpen nodes arguments counts heads prepared) where
-  -- the open applications
-  pub prepared-opens : (r : ℕ) → r ≡ word prepared 1024 → OpenListed nodes counts (take (512 + r - 512) (drop 512 prepared))
-  unfolding openIn
-  prepared-opens r e =
-      let d : 512 + r - 512 ≡ word prepared 1024 = omega (arith, e) in
-      rw d (f .open-listed)
-
-  -- the closed ones, and the table of them
-  pub prepared-closed : (r : ℕ) → r ≡ word prepared 1025 →
-      ClosedListed nodes counts heads (take (768 + r - 768) (drop 768 prepared)) ×
-      ClosedTable nodes arguments heads (take (768 + r - 768) (drop 768 prepared)) (take 256 prepared) (take 256 (drop 256 prepared))
-  unfolding closedIn bucketsIn earlierIn
-  prepared-closed r e =
-      let d : 768 + r - 768 ≡ word prepared 1025 = omega (arith, e) in
-      rw d (f .closed-listed, f .closed-table)
+-- a table in words that are all 0 has nothing in it
+pub table-new : (length {A = ℕ} (replicate preparedWords 0) ≡ preparedWords) × ((k : ℕ) → k < 256 → word (replicate preparedWords 0) k ≡ 0)
+table-new = (length-replicate {A = ℕ} preparedWords 0, λ k h. getD-replicate {A = ℕ} preparedWords k 0 0 (omega arith))

@@ -1,8 +1,9 @@
 // The binding words of classes, by the names of their values.
 ghost use mathlib.Core.Path.{_≡_};
+ghost use mathlib.Core.Bool.{true, false};
 ghost use mathlib.Core.List.{_++_};
 ghost use Prim.Native.Nat.{_+_, _≤_, _<_};
-ghost use lib.ListN.{length, drop};
+ghost use lib.ListN.{length, take, drop};
 ghost use Rattle.table.specs.Limits.{maxNodes};
 ghost use Rattle.table.specs.Layout.{word, nodeCount};
 ghost use Rattle.unification.specs.Node.{nodesFrom};
@@ -11,8 +12,8 @@ ghost use Rattle.nodes.specs.Code.Open.{Counts, OpenListed};
 ghost use Rattle.nodes.specs.Code.Order.{Ordered};
 ghost use Rattle.values.specs.Code.Present.{leastNodes};
 ghost use Rattle.nodes.specs.Code.Named.{valueName, Named, Themselves};
-ghost use Rattle.binding.specs.Code.Binding.{HeadNames, NamesLeast, AreApplied, applicationNoted, OpenNoted, freeNoted, FreeFrom, readAt, AreNodes, AllBelow, WordsFound};
-ghost use Rattle.values.specs.Code.Prepared.{ClosedListed, ClosedTable, Prepared};
+ghost use Rattle.binding.specs.Code.Binding.{HeadNames, NamesLeast, AreApplied, applicationNoted, OpenNoted, freeNoted, FreeFrom, readAt, AreNodes, AllBelow, WordsFound, NoneLeads, AreBare, HeadsFrom, plainWord, plainAt, PlainFound};
+ghost use Rattle.values.specs.Code.Prepared.{preparedWords, ClosedListed, ClosedTable};
 ghost use Rattle.nodes.specs.Code.Formed.{Formed};
 ghost use Rattle.values.specs.Code.Begins.{Leaves};
 use classes::order;
@@ -23,10 +24,9 @@ use table::limits::MAX_NODES;
 use values::bytes::put_bytes;
 use values::names;
 use values::prepared::CLOSED;
-use values::prepared::CLOSED_COUNT;
 use values::prepared::EARLIER;
-use values::prepared::OPEN;
-use values::prepared::OPEN_COUNT;
+use values::prepared::PREPARED;
+use values::prepared::list_closed;
 
 // Notes an application at its name, if no smaller node stands there.
 fn note_application(
@@ -52,7 +52,7 @@ fn note_application(
 fn note_applications(
     nodes: &[u32],
     arguments: &[u32],
-    opens: &[u16],
+    opens: &[u8],
     heads: &[u8],
     names: &[u8],
     by: &mut [u8],
@@ -64,7 +64,7 @@ fn note_applications(
 {
     let mut p: usize = 0;
     while p < opens.len() {
-        let i = lists::entry(opens, p);
+        let i = lists::node_in(opens, p).0 as usize;
         note_application(nodes, arguments, heads, names, by, i);
         p += 1;
     }
@@ -156,7 +156,7 @@ fn write_words(
 fn find_words(
     nodes: &[u32],
     arguments: &[u32],
-    opens: &[u16],
+    opens: &[u8],
     heads: &[u8],
     names: &[u8],
     by: &mut [u8],
@@ -223,15 +223,102 @@ fn name_open(
     );
 }
 
-// Writes the binding words of classes where there are open applications, with room for the names of heads and for nodes by name.
-fn bind_open(
+// Whether the head of an open application is one.
+fn some_leads(counts: &[u8], opens: &[u8], heads: &[u8]) -> bool
+    requires { ⌜ AllBelow (length (now heads)) (now opens) × AllBelow (length (now counts)) (now heads) ⌝ }
+    ensures { λ r. ⌜ (r ≡ false → NoneLeads (now (counts .entry)) (now (opens .entry)) (now (heads .entry)) (length (now (opens .entry)))) ⌝ }
+{
+    let mut p: usize = 0;
+    while p < opens.len() {
+        let o = lists::node_in(opens, p);
+        let h = lists::node_in(heads, o.0 as usize);
+        if counts[h.0 as usize] != 0 {
+            return true;
+        }
+        p += 1;
+    }
+    false
+}
+
+// Whether the heads of a list of nodes have no arguments: each is free, or bound to a constant.
+fn all_plain(nodes: &[u32], arguments: &[u32], list: &[u8], heads: &[u8]) -> bool
+    requires { ⌜ Sections (now nodes) (now arguments) ⌝ }
+    requires { ⌜ AllBelow (length (now heads)) (now list) × AllBelow (nodeCount (now nodes)) (now heads) ⌝ }
+    ensures { λ r. ⌜ (r ≡ true → AreBare (now (nodes .entry)) (now (heads .entry)) (now (list .entry)) (length (now (list .entry)))) ⌝ }
+{
+    let mut p: usize = 0;
+    while p < list.len() {
+        let v = lists::node_in(list, p);
+        let h = lists::node_in(heads, v.0 as usize);
+        if sections::arity(nodes, arguments, h) != 0 {
+            return false;
+        }
+        p += 1;
+    }
+    true
+}
+
+// The first node of a list with each head, by the head: the nodes are noted from the last place down.
+fn note_heads(list: &[u8], heads: &[u8], by: &mut [u8])
+    requires { ⌜ AllBelow (length (now heads)) (now list) × (length (now by) ≡ maxNodes) ⌝ }
+    ensures { λ r. ⌜ HeadsFrom (now (heads .entry)) (now (list .entry)) (now (by .exit)) 0 ⌝ }
+{
+    let mut k = list.len();
+    while 0 < k {
+        k -= 1;
+        let z = list[k];
+        let h = heads[z as usize] as usize;
+        by[h] = z;
+    }
+}
+
+// The word of the node at place k of a list by its head: an application, or the node that is noted at a variable.
+fn plain_word(nodes: &[u32], list: &[u8], heads: &[u8], by: &[u8], k: usize) -> u32
+    requires { ⌜ AllBelow (length (now heads)) (now list) × AllBelow (nodeCount (now nodes)) (now heads) ⌝ }
+    requires { ⌜ (k < length (now list)) × (length (now by) ≡ maxNodes) ⌝ }
+    ensures { λ r. ⌜ r ≡ plainWord (now (nodes .entry)) (now (heads .entry)) (now (by .entry)) (word (now (list .entry)) k) ⌝ }
+{
+    let v = lists::node_in(list, k);
+    let h = lists::node_in(heads, v.0 as usize);
+    if sections::is_variable(nodes, h) {
+        return lists::node_in(by, h.0 as usize).0;
+    }
+    h.0
+}
+
+// Writes the words of a list of nodes, by their heads.
+fn write_plain(nodes: &[u32], list: &[u8], heads: &[u8], by: &[u8], out: &mut [u32])
+    requires { ⌜ AllBelow (length (now heads)) (now list) × AllBelow (nodeCount (now nodes)) (now heads) ⌝ }
+    requires { ⌜ (length (now by) ≡ maxNodes) × (length (now list) ≤ length (now out)) ⌝ }
+    ensures { λ r. ⌜ now (out .exit) ≡ plainAt (now (nodes .entry)) (now (heads .entry)) (now (by .entry)) (now (list .entry)) ++ drop (length (now (list .entry))) (now (out .entry)) ⌝ }
+{
+    let mut p: usize = 0;
+    while p < list.len() {
+        out[p] = plain_word(nodes, list, heads, by, p);
+        p += 1;
+    }
+}
+
+// Finds the words of a list of nodes by heads alone.
+fn bind_plain(nodes: &[u32], list: &[u8], heads: &[u8], out: &mut [u32])
+    requires { ⌜ AllBelow (length (now heads)) (now list) × AllBelow (nodeCount (now nodes)) (now heads) ⌝ }
+    requires { ⌜ length (now list) ≤ length (now out) ⌝ }
+    ensures { λ r. ⌜ PlainFound (now (nodes .entry)) (now (heads .entry)) (now (list .entry)) (now (out .entry)) (now (out .exit)) ⌝ }
+{
+    let mut by = [0u8; MAX_NODES];
+    note_heads(list, heads, &mut by);
+    write_plain(nodes, list, heads, &by, out);
+}
+
+// Writes the binding words of classes where open applications are heads: these are named behind the closed ones, which are listed behind a
+// table of them.
+fn bind_listed(
     nodes: &[u32],
     arguments: &[u32],
     counts: &[u8],
-    opens: &[u16],
-    closed: &[u16],
-    buckets: &[u16],
-    earlier: &[u16],
+    opens: &[u8],
+    prepared: &[u16],
+    closed: usize,
     list: &[u8],
     heads: &[u8],
     names: &mut [u8],
@@ -239,14 +326,14 @@ fn bind_open(
     out: &mut [u32],
 )
     requires { ⌜ Sections (now nodes) (now arguments) × Counts (now nodes) (now arguments) (now counts) (nodeCount (now nodes)) ⌝ }
-    requires { ⌜ Formed (now nodes) (now arguments) (now counts) (now heads) ⌝ }
-    requires { ⌜ OpenListed (now nodes) (now counts) (now opens) ⌝ }
-    requires { ⌜ ClosedListed (now nodes) (now counts) (now heads) (now closed) × ClosedTable (now nodes) (now arguments) (now heads) (now closed) (now buckets) (now earlier) ⌝ }
+    requires { ⌜ Formed (now nodes) (now arguments) (now counts) (now heads) × OpenListed (now nodes) (now counts) (now opens) ⌝ }
+    requires { ⌜ (length (now prepared) ≡ preparedWords) × (closed ≤ maxNodes) ⌝ }
+    requires { ⌜ ClosedListed (now nodes) (now counts) (now heads) (take closed (drop 512 (now prepared))) × ClosedTable (now nodes) (now arguments) (now heads) (take closed (drop 512 (now prepared))) (take 256 (now prepared)) (take 256 (drop 256 (now prepared))) ⌝ }
     requires { ⌜ (now list ≡ leastNodes (nodesFrom (now nodes) (now arguments))) × (length (now list) ≤ length (now out)) ⌝ }
-    requires { ⌜ (length (now names) ≡ nodeCount (now nodes)) × (length (now by) ≡ nodeCount (now nodes)) ⌝ }
+    requires { ⌜ (length (now names) ≡ nodeCount (now nodes)) × Themselves (now names) × (length (now by) ≡ nodeCount (now nodes)) ⌝ }
     ensures { λ r. ⌜ Leaves (now (nodes .entry)) (now (arguments .entry)) (now (heads .entry)) (now (out .entry)) (now (out .exit)) ⌝ }
 {
-    names::name_themselves(names);
+    let closed_end = CLOSED + closed;
     let n = sections::node_count(nodes, arguments);
     let mut marks = [0u8; MAX_NODES];
     let mut placed = [0u8; MAX_NODES];
@@ -259,32 +346,28 @@ fn bind_open(
         &mut marks[0..n],
         &mut placed[0..n],
     );
-    if count == 0 {
-        find_words(nodes, arguments, opens, heads, names, by, list, out);
-        return;
-    }
     let mut order = [0u8; MAX_NODES + MAX_NODES];
     name_open(
         nodes,
         arguments,
         counts,
         heads,
-        closed,
+        &prepared[CLOSED..closed_end],
         &placed[0..count],
-        buckets,
-        earlier,
+        &prepared[0..EARLIER],
+        &prepared[EARLIER..CLOSED],
         &mut order,
         names,
     );
     find_words(nodes, arguments, opens, heads, names, by, list, out);
 }
 
-// The same where there are none.
-fn bind_closed(
+// The same, with room for the closed applications. Each node is named by itself.
+fn bind_named(
     nodes: &[u32],
     arguments: &[u32],
     counts: &[u8],
-    none: &[u16],
+    opens: &[u8],
     list: &[u8],
     heads: &[u8],
     names: &mut [u8],
@@ -292,58 +375,20 @@ fn bind_closed(
     out: &mut [u32],
 )
     requires { ⌜ Sections (now nodes) (now arguments) × Counts (now nodes) (now arguments) (now counts) (nodeCount (now nodes)) ⌝ }
-    requires { ⌜ Formed (now nodes) (now arguments) (now counts) (now heads) ⌝ }
-    requires { ⌜ OpenListed (now nodes) (now counts) (now none) × (length (now none) ≡ 0) ⌝ }
+    requires { ⌜ Formed (now nodes) (now arguments) (now counts) (now heads) × OpenListed (now nodes) (now counts) (now opens) ⌝ }
     requires { ⌜ (now list ≡ leastNodes (nodesFrom (now nodes) (now arguments))) × (length (now list) ≤ length (now out)) ⌝ }
-    requires { ⌜ (length (now names) ≡ nodeCount (now nodes)) × (length (now by) ≡ nodeCount (now nodes)) ⌝ }
+    requires { ⌜ (length (now names) ≡ nodeCount (now nodes)) × Themselves (now names) × (length (now by) ≡ nodeCount (now nodes)) ⌝ }
     ensures { λ r. ⌜ Leaves (now (nodes .entry)) (now (arguments .entry)) (now (heads .entry)) (now (out .entry)) (now (out .exit)) ⌝ }
 {
-    names::name_themselves(names);
-    find_words(nodes, arguments, none, heads, names, by, list, out);
-}
-
-// The same, by the words that were prepared for it.
-fn bind_prepared(
-    nodes: &[u32],
-    arguments: &[u32],
-    counts: &[u8],
-    prepared: &[u16],
-    list: &[u8],
-    heads: &[u8],
-    names: &mut [u8],
-    by: &mut [u8],
-    out: &mut [u32],
-)
-    requires { ⌜ Sections (now nodes) (now arguments) × Counts (now nodes) (now arguments) (now counts) (nodeCount (now nodes)) ⌝ }
-    requires { ⌜ Formed (now nodes) (now arguments) (now counts) (now heads) × Prepared (now nodes) (now arguments) (now counts) (now heads) (now prepared) ⌝ }
-    requires { ⌜ (now list ≡ leastNodes (nodesFrom (now nodes) (now arguments))) × (length (now list) ≤ length (now out)) ⌝ }
-    requires { ⌜ (length (now names) ≡ nodeCount (now nodes)) × (length (now by) ≡ nodeCount (now nodes)) ⌝ }
-    ensures { λ r. ⌜ Leaves (now (nodes .entry)) (now (arguments .entry)) (now (heads .entry)) (now (out .entry)) (now (out .exit)) ⌝ }
-{
-    if prepared.len() == 0 {
-        bind_closed(
-            nodes,
-            arguments,
-            counts,
-            prepared,
-            list,
-            heads,
-            names,
-            by,
-            out,
-        );
-        return;
-    }
-    let open_end = OPEN + lists::entry(prepared, OPEN_COUNT);
-    let closed_end = CLOSED + lists::entry(prepared, CLOSED_COUNT);
-    bind_open(
+    let mut prepared = [0u16; PREPARED];
+    let closed = list_closed(nodes, arguments, counts, heads, names, &mut prepared);
+    bind_listed(
         nodes,
         arguments,
         counts,
-        &prepared[OPEN..open_end],
-        &prepared[CLOSED..closed_end],
-        &prepared[0..EARLIER],
-        &prepared[EARLIER..OPEN],
+        opens,
+        &prepared,
+        closed,
         list,
         heads,
         names,
@@ -352,33 +397,60 @@ fn bind_prepared(
     );
 }
 
-// Writes the binding words of the classes of a list of pairs, given what was prepared for them and the least nodes of the variables
-// present, in rising order of variable number: none where no variable is present.
+// The same where open applications need not be heads, with room for the names of heads and for nodes by name.
+fn bind_with_room(
+    nodes: &[u32],
+    arguments: &[u32],
+    counts: &[u8],
+    opens: &[u8],
+    list: &[u8],
+    heads: &[u8],
+    names: &mut [u8],
+    by: &mut [u8],
+    out: &mut [u32],
+)
+    requires { ⌜ Sections (now nodes) (now arguments) × Counts (now nodes) (now arguments) (now counts) (nodeCount (now nodes)) ⌝ }
+    requires { ⌜ Formed (now nodes) (now arguments) (now counts) (now heads) × OpenListed (now nodes) (now counts) (now opens) ⌝ }
+    requires { ⌜ (now list ≡ leastNodes (nodesFrom (now nodes) (now arguments))) × (length (now list) ≤ length (now out)) ⌝ }
+    requires { ⌜ (length (now names) ≡ nodeCount (now nodes)) × (length (now by) ≡ nodeCount (now nodes)) ⌝ }
+    ensures { λ r. ⌜ Leaves (now (nodes .entry)) (now (arguments .entry)) (now (heads .entry)) (now (out .entry)) (now (out .exit)) ⌝ }
+{
+    names::name_themselves(names);
+    if some_leads(counts, opens, heads) {
+        bind_named(nodes, arguments, counts, opens, list, heads, names, by, out);
+        return;
+    }
+    find_words(nodes, arguments, opens, heads, names, by, list, out);
+}
+
+// Writes the binding words of the classes of a list of pairs, given the open applications and the least nodes of the variables present,
+// in rising order of variable number.
 pub fn bind(
     nodes: &[u32],
     arguments: &[u32],
     counts: &[u8],
-    prepared: &[u16],
+    opens: &[u8],
     list: &[u8],
     heads: &[u8],
     out: &mut [u32],
 )
     requires { ⌜ Sections (now nodes) (now arguments) × Counts (now nodes) (now arguments) (now counts) (nodeCount (now nodes)) ⌝ }
-    requires { ⌜ Formed (now nodes) (now arguments) (now counts) (now heads) × Prepared (now nodes) (now arguments) (now counts) (now heads) (now prepared) ⌝ }
+    requires { ⌜ Formed (now nodes) (now arguments) (now counts) (now heads) × OpenListed (now nodes) (now counts) (now opens) ⌝ }
     requires { ⌜ (now list ≡ leastNodes (nodesFrom (now nodes) (now arguments))) × (length (now list) ≤ length (now out)) ⌝ }
     ensures { λ r. ⌜ Leaves (now (nodes .entry)) (now (arguments .entry)) (now (heads .entry)) (now (out .entry)) (now (out .exit)) ⌝ }
 {
-    if list.len() == 0 {
+    if (opens.len() == 0) | all_plain(nodes, arguments, list, heads) {
+        bind_plain(nodes, list, heads, out);
         return;
     }
     let n = sections::node_count(nodes, arguments);
     let mut names = [0u8; MAX_NODES];
     let mut by = [0u8; MAX_NODES];
-    bind_prepared(
+    bind_with_room(
         nodes,
         arguments,
         counts,
-        prepared,
+        opens,
         list,
         heads,
         &mut names[0..n],

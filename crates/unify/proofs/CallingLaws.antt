@@ -1,5 +1,5 @@
 -- What a call answers, by its parts: a refused table by its refusal, an accepted one by its nodes. Assumes nothing.
-use Prim.Native.Nat.{ℕ, _-_, _<_, _≤_}
+use Prim.Native.Nat.{ℕ, _+_, _-_, _<_, _≤_}
 use mathlib.Core.Bool.{Bool, true, false, _||_}
 use mathlib.Core.List.{List, [], _∷_, List·Memᴰ, List·Memᴰ·head, List·Memᴰ·cases-cons, List·Memᴰ·eq-of-singleton}
 use mathlib.Core.Logic.{_⊎_, inl, inr, _↔_}
@@ -8,7 +8,7 @@ use native.Mathlib.Nat.{sub-zero}
 use native.Mathlib.Omega.{arith}
 use borrow.Author.Tests.{leb-false, ltb-false, lt-leb, lt-ltb, le-ltb}
 use lib.Dec.{leb, ltb}
-use lib.ListN.{length, take, replicate}
+use lib.ListN.{length, take, drop, replicate}
 use Rattle.table.specs.declared.Refusal.{Refusal}
 use Rattle.table.specs.declared.Checked.{Checked}
 use Rattle.table.specs.Answer as table
@@ -39,6 +39,7 @@ use Rattle.unification.proofs.AnswerLaws.{words-counted, refused-exactly, answe
 use Rattle.values.specs.declared.Variables.{Variables}
 use Rattle.classes.specs.declared.Extended.{Extended}
 use Rattle.nodes.specs.Code.Circle.{HeadsFirst}
+use Rattle.nodes.specs.Code.Open.{OpenListed}
 use Rattle.values.specs.Code.Present.{leastNodes}
 use Rattle.nodes.specs.Code.Trail.{links}
 use Rattle.nodes.specs.Code.Formed.{Stands}
@@ -196,6 +197,11 @@ list-given nodes arguments v n l h =
     let d = ap length e ∙ least-long (nodesFrom nodes arguments) in
     let c = l .counted in
     (e, omega (arith, d, c))
+
+-- the open applications behind the counts, as the code takes them
+pub opens-given : (nodes counts : List ℕ) (r : ℕ) → OpenListed nodes counts (take r (drop 256 counts)) →
+    OpenListed nodes counts (take (256 + r - 256) (drop 256 counts))
+opens-given nodes counts r o = let e : 256 + r - 256 ≡ r = omega arith in rw e o
 
 -- All that is promised of a call.
 abbrev pub Promised : List ℕ → ℕ → ℕ → List ℕ → Unification → List ℕ → Type 0

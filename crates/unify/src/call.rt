@@ -1,5 +1,5 @@
 // Unifying two nodes of an accepted table: refusals 8 and 9, and what the two nodes come to.
-ghost use Prim.Native.Nat.{_<_};
+ghost use Prim.Native.Nat.{_≤_, _<_};
 ghost use mathlib.Core.Path.{_≡_};
 ghost use lib.ListN.{length, replicate};
 ghost use Rattle.table.specs.Layout.{nodeCount};
@@ -7,7 +7,6 @@ ghost use Rattle.table.specs.Code.Accepted.{Accepted};
 ghost use Rattle.unification.specs.Node.{nodesIn, nodesFrom};
 ghost use Rattle.unification.specs.Code.Sections.{Sections};
 ghost use Rattle.nodes.specs.Code.Trail.{links};
-ghost use Rattle.values.specs.Code.Prepared.{preparedWords};
 ghost use Rattle.unify.specs.Code.Calling.{AnswersByNodes};
 use binding::words::bind;
 use classes::Extended;
@@ -20,9 +19,8 @@ use table::limits::MAX_NODES;
 use unification::Unification;
 use values::beginning::begin_shared;
 use values::beginning::make_circles;
-use values::prepared::PREPARED;
+use values::prepared::OPENS;
 use values::prepared::count_open;
-use values::prepared::prepare;
 
 // Unifies two nodes of the sections of an accepted table, with room for what is known of the nodes, and words that are all 0.
 fn unify_with_room(
@@ -33,13 +31,11 @@ fn unify_with_room(
     heads: &mut [u8],
     next: &mut [u8],
     counts: &mut [u8],
-    prepared: &mut [u16],
     out: &mut [u32],
 ) -> Unification
     requires { ⌜ Sections (now nodes) (now arguments) ⌝ }
     requires { ⌜ (a .0 < nodeCount (now nodes)) × (b .0 < nodeCount (now nodes)) ⌝ }
-    requires { ⌜ (length (now heads) ≡ nodeCount (now nodes)) × (now next ≡ replicate links 0) × (length (now counts) ≡ nodeCount (now nodes)) ⌝ }
-    requires { ⌜ now prepared ≡ replicate preparedWords 0 ⌝ }
+    requires { ⌜ (length (now heads) ≡ nodeCount (now nodes)) × (now next ≡ replicate links 0) × (512 ≤ length (now counts)) ⌝ }
     ensures { λ r. ⌜ AnswersByNodes (nodesFrom (now (nodes .entry)) (now (arguments .entry))) (a .0) (b .0) (now (out .entry)) r (now (out .exit)) ⌝ }
 {
     let variables = begin_shared(nodes, arguments, heads);
@@ -47,15 +43,23 @@ fn unify_with_room(
         return Unification::Refused(Refusal::TooFewLent);
     }
     make_circles(heads, next);
-    count_open(nodes, arguments, counts);
-    prepare(nodes, arguments, counts, heads, prepared);
+    let opens_end = OPENS + count_open(nodes, arguments, counts);
     let list = variables.nodes;
     let v = variables.count;
     match extend(nodes, arguments, counts, heads, next, a, b) {
         Extended::Clash => Unification::Clash,
         Extended::Occurs => Unification::Occurs,
         Extended::Unified => {
-            bind(nodes, arguments, counts, prepared, &list[0..v], heads, out);
+            let known = &counts[..];
+            bind(
+                nodes,
+                arguments,
+                known,
+                &known[OPENS..opens_end],
+                &list[0..v],
+                heads,
+                out,
+            );
             Unification::Unified
         }
     }
@@ -73,8 +77,7 @@ fn unify_nodes(nodes: &[u32], arguments: &[u32], a: Node, b: Node, out: &mut [u3
     let count = layout::index(n);
     let mut heads = [0u8; MAX_NODES];
     let mut next = [0u8; LINKS];
-    let mut counts = [0u8; MAX_NODES];
-    let mut prepared = [0u16; PREPARED];
+    let mut counts = [0u8; OPENS + MAX_NODES];
     unify_with_room(
         nodes,
         arguments,
@@ -82,8 +85,7 @@ fn unify_nodes(nodes: &[u32], arguments: &[u32], a: Node, b: Node, out: &mut [u3
         b,
         &mut heads[0..count],
         &mut next,
-        &mut counts[0..count],
-        &mut prepared,
+        &mut counts,
         out,
     )
 }

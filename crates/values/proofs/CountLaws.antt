@@ -1,18 +1,15 @@
 -- How many arguments of a node are looked at, counted node by node. Assumes nothing.
 use Prim.Native.Nat.{ℕ, _+_, _≤_, _<_}
-use mathlib.Core.Bool.{Bool, true, false, not, _||_}
+use mathlib.Core.Bool.{Bool, true, false}
 use mathlib.Core.List.{List}
 use mathlib.Core.Logic.{_⊎_, inl, inr}
 use mathlib.Core.Path.{_≡_, refl, sym, ap, _∙_}
 use native.Mathlib.Decide.{ℕ-discrete}
 use native.Mathlib.Omega.{arith}
-use borrow.Author.Tests.{eqb-true, not-false}
 use borrow.Author.Count.{below-more}
-use lib.Dec.{eqb}
 use lib.ListN.{length, set, length-set}
 use lib.Seq.{getD-set-same, getD-set-other}
 use Rattle.table.specs.Layout.{word, countOf, nodeCount, argumentOf}
-use Rattle.table.proofs.BoolLaws.{or-false-left, or-false-right}
 use Rattle.unification.specs.Code.Sections.{Sections}
 use Rattle.nodes.specs.Code.Open.{IsClosed, closedTest, Counts, CountedAt}
 use Rattle.nodes.proofs.OpenLaws.{closed-true, closed-false}
@@ -112,10 +109,22 @@ module _ (nodes arguments counts : List ℕ) (s : Sections nodes arguments) (i r
           let b : k < i = omega (arith, n) in
           other k b ∙ c .above k b (λ j q. was (argumentOf nodes arguments k j) (argument-below k j l q) (m j q))
 
-  -- if some is false, no arguments of a node so far are looked at
-  pub none-next : (some : Bool) → (some ≡ false → (k : ℕ) → k < i → word counts k ≡ 0) → (some || not (eqb r 0)) ≡ false → (k : ℕ) → k < i + 1 → word (set counts i r) k ≡ 0
-  none-next some b e =
-      below-more (λ k. word after k ≡ 0) i (λ k l. other k l ∙ b (or-false-left some (not (eqb r 0)) e) k l) (here ∙ eqb-true r 0 (not-false _ (or-false-right some (not (eqb r 0)) e)))
+-- counts stay right where those of the nodes stay
+pub counts-kept : (nodes arguments counts counts′ : List ℕ) (n : ℕ) → n ≤ nodeCount nodes → length counts′ ≡ length counts →
+    ((k : ℕ) → k < nodeCount nodes → word counts′ k ≡ word counts k) → Counts nodes arguments counts n → Counts nodes arguments counts′ n
+counts-kept nodes arguments counts counts′ n b l e c =
+    record {
+      enough = rw l (c .enough);
+      some = λ i h. rw (e i (omega arith)) (c .some i h);
+      below = λ i h m j q. there (argumentOf nodes arguments i j) (c .below i h (back i m) j q);
+      above = λ i h m. e i (omega arith) ∙ c .above i h (λ j q. back (argumentOf nodes arguments i j) (m j q));
+    }
+  where
+    there : (k : ℕ) → IsClosed nodes counts k → IsClosed nodes counts′ k
+    there k m = record { node = m .node; applied = m .applied; none = e k (m .node) ∙ m .none }
+
+    back : (k : ℕ) → IsClosed nodes counts′ k → IsClosed nodes counts k
+    back k m = record { node = m .node; applied = m .applied; none = sym (e k (m .node)) ∙ m .none }
 
 -- the counts of as many nodes as there are
 pub counts-end : (nodes arguments counts : List ℕ) (i n : ℕ) → n ≡ nodeCount nodes → i ≤ n → n ≤ i → Counts nodes arguments counts i →

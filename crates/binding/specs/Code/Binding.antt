@@ -5,7 +5,8 @@ use mathlib.Core.List.{List, _++_, map}
 use mathlib.Core.Path.{_≡_}
 use lib.Dec.{eqb, ltb}
 use lib.ListN.{length, set, drop}
-use Rattle.table.specs.Layout.{word, kindOf, nodeCount}
+use Rattle.table.specs.Limits.{maxNodes}
+use Rattle.table.specs.Layout.{word, kindOf, countOf, nodeCount}
 use Rattle.unification.specs.Words.{Least}
 use Rattle.unification.specs.Computed.Classes.{classOf}
 use Rattle.values.specs.Code.Kept.{Kept}
@@ -88,3 +89,34 @@ pub record WordsFound (nodes heads names opens list out out′ : List ℕ) : Typ
   pub noted : OpenNoted nodes heads names opens applications (length opens)
   pub free : FreeFrom nodes heads names list applications all 0
   pub words-read : out′ ≡ readAt heads names all list ++ drop (length list) out
+
+-- None of the first n of a list of open applications has an open head.
+pub record NoneLeads (counts opens heads : List ℕ) (n : ℕ) : Type 0 where
+  pub none : (p : ℕ) → p < n → word counts (classOf heads (word opens p)) ≡ 0
+
+-- The head of the node at place k of a list.
+abbrev pub headAt : List ℕ → List ℕ → ℕ → ℕ
+headAt heads list k = classOf heads (word list k)
+
+-- The heads of the first n of a list of nodes have no arguments.
+pub record AreBare (nodes heads list : List ℕ) (n : ℕ) : Type 0 where
+  pub bare : (k : ℕ) → k < n → countOf nodes (headAt heads list k) ≡ 0
+
+-- At the head of each node from place k of a list on stands the first of them with that head.
+pub record HeadsFrom (heads list by : List ℕ) (k : ℕ) : Type 0 where
+  pub long : length by ≡ maxNodes
+  pub kept : Kept (λ j. j < length list) (headAt heads list) (word list) k (length list) by
+
+-- The word of node v by its head: an application, or what stands at a variable.
+unfoldable pub plainWord : List ℕ → List ℕ → List ℕ → ℕ → ℕ
+plainWord nodes heads by v = cond (eqb (kindOf nodes (classOf heads v)) 0) (word by (classOf heads v)) (classOf heads v)
+
+-- Those of a list of nodes.
+unfoldable pub plainAt : List ℕ → List ℕ → List ℕ → List ℕ → List ℕ
+plainAt nodes heads by list = map (plainWord nodes heads by) list
+
+-- The words of a list of nodes, found by heads alone.
+pub record PlainFound (nodes heads list out out′ : List ℕ) : Type 0 where
+  pub by : List ℕ
+  pub noted : HeadsFrom heads list by 0
+  pub words-read : out′ ≡ plainAt nodes heads by list ++ drop (length list) out

@@ -1,4 +1,4 @@
--- What binding words need that no pair changes: the open applications, the heads of the closed ones that have arguments, and a table of these.
+-- Open applications, listed behind the counts, and heads of closed ones with arguments, listed behind a table of them.
 use Prim.Native.Nat.{ℕ, _+_, _<_, _≤_}
 use mathlib.Core.List.{List}
 use mathlib.Core.Path.{_≡_}
@@ -6,7 +6,7 @@ use lib.ListN.{length, take, drop, set}
 use Rattle.table.specs.Limits.{maxNodes}
 use Rattle.table.specs.Layout.{word, countOf, nodeCount}
 use Rattle.unification.specs.Computed.Classes.{classOf}
-use Rattle.nodes.specs.Code.Open.{IsClosed, OpenListed}
+use Rattle.nodes.specs.Code.Open.{IsClosed}
 use Rattle.nodes.specs.Code.Named.{Themselves}
 use Rattle.values.specs.Code.Naming.{keys, keyOf, keyAt, Representative, Chained}
 
@@ -25,55 +25,24 @@ pub record ClosedTable (nodes arguments heads closed buckets earlier : List ℕ)
   pub chained : (names : List ℕ) → length names ≡ nodeCount nodes → Themselves names →
       Chained (Representative nodes closed names) (keyAt nodes arguments heads closed names) buckets earlier (length closed)
 
--- How many words they take: the table, open applications, closed ones, and how many there are of each.
+-- How many words the table takes, with a list of these behind it.
 abbrev pub preparedWords : ℕ
-preparedWords = 1026
+preparedWords = 768
 
--- The parts of these words.
-unfoldable pub bucketsIn : List ℕ → List ℕ
-bucketsIn prepared = take 256 prepared
-
-unfoldable pub earlierIn : List ℕ → List ℕ
-earlierIn prepared = take 256 (drop 256 prepared)
-
-unfoldable pub openIn : List ℕ → List ℕ
-openIn prepared = take (word prepared 1024) (drop 512 prepared)
-
-unfoldable pub closedIn : List ℕ → List ℕ
-closedIn prepared = take (word prepared 1025) (drop 768 prepared)
-
--- What is prepared where there are open applications.
-pub record PreparedOpen (nodes arguments counts heads prepared : List ℕ) : Type 0 where
-  pub size : length prepared ≡ preparedWords
-  pub open-few : word prepared 1024 ≤ maxNodes
-  pub closed-few : word prepared 1025 ≤ maxNodes
-  pub open-listed : OpenListed nodes counts (openIn prepared)
-  pub closed-listed : ClosedListed nodes counts heads (closedIn prepared)
-  pub closed-table : ClosedTable nodes arguments heads (closedIn prepared) (bucketsIn prepared) (earlierIn prepared)
-
--- What is prepared: no words where there are no open applications.
-pub data Prepared (nodes arguments counts heads prepared : List ℕ) : Type 0 where
-  nothing : length prepared ≡ 0 → ((i : ℕ) → i < nodeCount nodes → word counts i ≡ 0) → Prepared nodes arguments counts heads prepared
-  with-open : PreparedOpen nodes arguments counts heads prepared → Prepared nodes arguments counts heads prepared
-
--- The open applications are listed, r of them; what is not in their part stays.
-pub record ListsOpen (nodes counts prepared : List ℕ) (r : ℕ) (prepared′ : List ℕ) : Type 0 where
-  pub size : length prepared′ ≡ length prepared
-  pub few : r ≤ maxNodes
-  pub listed : OpenListed nodes counts (take r (drop 512 prepared′))
-  pub before : (k : ℕ) → k < 512 → word prepared′ k ≡ word prepared k
-  pub behind : (k : ℕ) → 768 ≤ k → word prepared′ k ≡ word prepared k
+-- What noting the count of node i comes to: a node with arguments that are looked at is also put behind the first `opens` open applications.
+pub data CountNoted (counts : List ℕ) (i count opens r : ℕ) (counts′ : List ℕ) : Type 0 where
+  none-looked-at : count ≡ 0 → r ≡ opens → counts′ ≡ set counts i count → CountNoted counts i count opens r counts′
+  some-looked-at : (count ≡ 0 → ⊥) → r ≡ opens + 1 → counts′ ≡ set (set counts i count) (256 + opens) i → CountNoted counts i count opens r counts′
 
 -- The words after closed application i was noted at a place and put into the table.
 unfoldable pub closedNoted : List ℕ → List ℕ → List ℕ → List ℕ → List ℕ → ℕ → ℕ → List ℕ
 closedNoted nodes arguments heads names prepared place i =
     let k = keyOf nodes arguments heads names i in
-    set (set (set prepared (768 + place) i) (256 + place) (word prepared k)) k (place + 1)
+    set (set (set prepared (512 + place) i) (256 + place) (word prepared k)) k (place + 1)
 
--- The closed applications are listed, r of them, with a table; the part of the open ones stays.
+-- The closed applications are listed, r of them, with a table.
 pub record ListsClosed (nodes arguments counts heads prepared : List ℕ) (r : ℕ) (prepared′ : List ℕ) : Type 0 where
   pub size : length prepared′ ≡ length prepared
   pub few : r ≤ maxNodes
-  pub listed : ClosedListed nodes counts heads (take r (drop 768 prepared′))
-  pub chained : ClosedTable nodes arguments heads (take r (drop 768 prepared′)) (take 256 prepared′) (take 256 (drop 256 prepared′))
-  pub open-kept : (k : ℕ) → 512 ≤ k → k < 768 → word prepared′ k ≡ word prepared k
+  pub listed : ClosedListed nodes counts heads (take r (drop 512 prepared′))
+  pub chained : ClosedTable nodes arguments heads (take r (drop 512 prepared′)) (take 256 prepared′) (take 256 (drop 256 prepared′))

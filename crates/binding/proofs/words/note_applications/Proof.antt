@@ -20,15 +20,18 @@ loop-holds c =
     let s = c .before .before .before .before .before .before in
     (search needs, noted-none _ _ _ _ (s .pre .0) _ _ (s .pre .1 .1 .0) (s .pre .1 .1 .1))
 
-entry-requires : tie.Need-entry-requires Inv-loop μ-loop
-entry-requires c κs = search needs
+node-in-requires : tie.Need-node-in-requires Inv-loop μ-loop
+node-in-requires c κs = search needs
+
+cast-i : tie.Need-cast-i Inv-loop μ-loop
+cast-i c = search needs
 
 note-application-requires : tie.Need-note-application-requires Inv-loop μ-loop
 note-application-requires c κs =
-    let s = c .before .before .before .before .before .before .before .before .before .before in
-    let l = c .before .before .before .loop in
-    let b = s .pre .1 .0 .node (l .p) (c .before .before .loop-test .taken) in
-    (s .pre .0, (rw (c .before .entry .ensures) b, l .inv .1 .long))
+    let s = c .before .before .before .before .before .before .before .before .before .before .before in
+    let l = c .before .before .before .before .loop in
+    let b = s .pre .1 .0 .node (l .p) (c .before .before .before .loop-test .taken) in
+    (s .pre .0, (rw (c .before .before .node-in .ensures .0) b, l .inv .1 .long))
 
 add-p : tie.Need-add-p Inv-loop μ-loop
 add-p c = search needs
@@ -38,9 +41,9 @@ loop-less c = search needs
 
 loop-again : tie.Need-loop-again Inv-loop μ-loop
 loop-again c =
-    let s = c .before .before .before .before .before .before .before .before .before .before .before .before .before in
-    let l = c .before .before .before .before .before .before .loop in
-    (search needs, rw (c .before .before .note-application .ensures, c .before .before .before .before .entry .ensures) (noted-next _ _ _ _ (s .pre .0) _ (s .pre .1 .0) _ (l .p) (c .before .before .before .before .before .loop-test .taken) (l .inv .1)))
+    let s = c .before .before .before .before .before .before .before .before .before .before .before .before .before .before in
+    let l = c .before .before .before .before .before .before .before .loop in
+    (search needs, rw (c .before .before .note-application .ensures, c .before .before .before .before .before .node-in .ensures .0) (noted-next _ _ _ _ (s .pre .0) _ (s .pre .1 .0) _ (l .p) (c .before .before .before .before .before .before .loop-test .taken) (l .inv .1)))
 
 same-length : tie.Need-same-length Inv-loop μ-loop
 same-length c = search needs
@@ -58,7 +61,8 @@ note-applications-spec =
     Inv-loop
     μ-loop
     loop-holds
-    entry-requires
+    node-in-requires
+    cast-i
     note-application-requires
     add-p
     loop-less

@@ -25,15 +25,6 @@ part-heads-start c = search needs
 part-heads-end : tie.Need-part-heads-end
 part-heads-end c = search needs
 
-sub-unify-with-room-2 : tie.Need-sub-unify-with-room-2
-sub-unify-with-room-2 c = search needs
-
-part-counts-start : tie.Need-part-counts-start
-part-counts-start c = search needs
-
-part-counts-end : tie.Need-part-counts-end
-part-counts-end c = search needs
-
 slice-aggregate-unify-with-room : tie.Need-slice-aggregate-unify-with-room
 slice-aggregate-unify-with-room c = search needs
 
@@ -42,12 +33,12 @@ slice-aggregate-unify-with-room-2 c = search needs
 
 unify-with-room-requires : tie.Need-unify-with-room-requires
 unify-with-room-requires c κs =
-    let s = c .before .before .before .before .before .before .before .before .before .before .before .before .before in
-    let n = c .before .before .before .before .before .before .before .before .before .node-count in
-    let i = c .before .before .before .before .before .index in
+    let s = c .before .before .before .before .before .before .before .before .before .before .before .before in
+    let n = c .before .before .before .before .before .before .before .before .node-count in
+    let i = c .before .before .before .before .index in
     let l = s .pre .limit in
     let long = first-long (i .result) (omega (arith, l, i .ensures .0, n .ensures)) ∙ i .ensures .0 ∙ n .ensures in
-    (s .pre, (nodes-given (s .args .nodes .now) (s .args .arguments .now) _ _ _ (n .ensures) (c .before .before .before .before .before .before .if1 .left), ((long, refl, long), refl)))
+    (s .pre, (nodes-given (s .args .nodes .now) (s .args .arguments .now) _ _ _ (n .ensures) (c .before .before .before .before .before .if1 .left), (long, refl, search needs)))
 
 same-length : tie.Need-same-length
 same-length c = search needs
@@ -66,9 +57,6 @@ unify-nodes-spec =
     part-heads-start
     part-heads-end
     slice-aggregate-unify-with-room
-    sub-unify-with-room-2
-    part-counts-start
-    part-counts-end
     slice-aggregate-unify-with-room-2
     unify-with-room-requires
     same-length
