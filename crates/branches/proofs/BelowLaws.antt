@@ -34,10 +34,15 @@ use Rattle.multiset_unification.specs.Code.Posed.{HalfPosed}
 use Rattle.multiset_unification.proofs.HalfLaws.{half-choices, half-inside}
 use Rattle.multiset_unification.proofs.OneHalfLaws.{oneHalf, one-listing}
 use Rattle.entries.specs.Code.Writing.{marked}
-use Rattle.branches.specs.Code.Branch.{pairedBy}
 use Rattle.branches.specs.Code.Walk.{over, ifUnified, onDigit, below}
 use Rattle.entries.proofs.RightLaws.{marked-long}
-use Rattle.branches.proofs.HopelessLaws.{over-none}
+use Rattle.branches.proofs.OverLaws.{over-none}
+
+-- The pairs of left digits ds, on top of the pairs ps; the last digit's comes first.
+unfoldable pairedBy : List ℕ → List ℕ → List ℕ → List (ℕ × ℕ) → List (ℕ × ℕ)
+pairedBy [] rs ds ps = ps
+pairedBy (a ∷ ls) rs [] ps = ps
+pairedBy (a ∷ ls) rs (d ∷ ds) ps = pairedBy ls rs ds (cond (leb d (length rs)) ((a, word rs (d - 1)) ∷ ps) ps)
 
 -- what strings that branch have, they have digit by digit
 pub flat-branch : (f : List ℕ → List (List ℕ)) (d c : ℕ) (g : ℕ → List (List ℕ)) → flatMap f (branch d c g) ≡ over d c (λ e. flatMap (λ es. f (e ∷ es)) (g e))

@@ -1,187 +1,165 @@
 -- A branch of the walk, as it stands in an entry: what one digit more, a mark of 0 and a mark put back make of it.
 -- By the places that are set. Assumes nothing.
-use Prim.Native.Nat.{ℕ, suc, _+_, _-_, _*_, _^_, _≤_, _<_}
-use mathlib.Core.Bool.{Bool, true, false, cond, _||_}
+use Prim.Native.Nat.{ℕ, suc, _+_, _-_, _^_, _≤_, _<_}
+use mathlib.Core.Bool.{Bool, true, false}
 use mathlib.Core.List.{List, [], _∷_, _++_}
 use mathlib.Core.Path.{_≡_, refl, sym, ap, _∙_}
 use native.Mathlib.Decide.{ℕ-discrete}
-use native.Mathlib.Nat.{pow-suc}
 use native.Mathlib.Numerals.{add-one}
 use native.Mathlib.Omega.{arith}
-use borrow.Author.Tests.{lt-leb, le-leb, leb-true, eq-eqb, ne-eqb}
-use lib.Dec.{eqb, leb}
-use lib.ListN.{length, take, drop, set, List·getD-append, length-drop}
-use lib.Seq.{length-take-le, take-suc-set, take-set-le, take-set-lt, drop-set-lt, drop-set-add, getD-take, getD-drop, getD-append-add}
-use Rattle.table.specs.Limits.{maxTerms}
+use borrow.Author.Tests.{eqb-false, eqb-true}
+use lib.Dec.{eqb}
+use lib.ListN.{length, take, drop, set, length-set, length-drop}
+use lib.Seq.{length-take-le, take-suc-set, take-set-le, take-set-lt, take-take, take-at, drop-set-lt, drop-set-add, getD-take, getD-drop, getD-set-same, getD-set-other, set-set, set-getD}
 use Rattle.table.specs.Layout.{word}
-use Rattle.unification.specs.Node.{Node}
-use Rattle.unification.specs.Computed.Unifying.{outcome}
-use Rattle.unification.specs.Code.Given.{Inside}
-use Rattle.unification.proofs.JoinedLaws.{inside-more}
-use Rattle.branches.specs.Code.Branch.{pairedBy, marksIn, FreeMark}
-use Rattle.branches.specs.Code.Memory.{keyOfDigits}
-use Rattle.branches.specs.Code.Walk.{ifUnified, onDigit, unpairedIn, Branching, KeepsBranch}
-
--- a digit above the right terms puts the next left term in a right label
-pub digit-label : (ns : List Node) (rs : List ℕ) (f : List ℕ → List (ℕ × ℕ) → List ℕ → List (List ℕ)) (ds : List ℕ) (ps : List (ℕ × ℕ)) (marks : List ℕ) (a d : ℕ) → length rs < d → onDigit ns rs f ds ps marks a d ≡ f (ds ++ d ∷ []) ps marks
-unfolding onDigit
-digit-label ns rs f ds ps marks a d h = rw (lt-leb d (length rs) h)
-
--- a right term that is paired already takes no other
-pub digit-taken : (ns : List Node) (rs : List ℕ) (f : List ℕ → List (ℕ × ℕ) → List ℕ → List (List ℕ)) (ds : List ℕ) (ps : List (ℕ × ℕ)) (marks : List ℕ) (a d : ℕ) → d ≤ length rs → word marks (d - 1) ≡ 0 → onDigit ns rs f ds ps marks a d ≡ []
-unfolding onDigit
-digit-taken ns rs f ds ps marks a d h e = rw (le-leb d (length rs) h, eq-eqb (word marks (d - 1)) 0 e)
-
--- otherwise the pair decides
-pub digit-pair : (ns : List Node) (rs : List ℕ) (f : List ℕ → List (ℕ × ℕ) → List ℕ → List (List ℕ)) (ds : List ℕ) (ps : List (ℕ × ℕ)) (marks : List ℕ) (a d : ℕ) → d ≤ length rs → (word marks (d - 1) ≡ 0 → ⊥) → onDigit ns rs f ds ps marks a d ≡ ifUnified (outcome ns ((a, word rs (d - 1)) ∷ ps)) (f (ds ++ d ∷ []) ((a, word rs (d - 1)) ∷ ps) (set marks (d - 1) 0))
-unfolding onDigit
-digit-pair ns rs f ds ps marks a d h n = rw (le-leb d (length rs) h, ne-eqb (word marks (d - 1)) 0 n)
-
--- no digits pair nothing
-pub paired-none : (ls rs : List ℕ) (ps : List (ℕ × ℕ)) → pairedBy ls rs [] ps ≡ ps
-unfolding pairedBy
-paired-none [] rs ps = refl
-paired-none (a ∷ ls) rs ps = refl
-
--- nor does a further digit of a label
-pub paired-placed : (ls rs ds : List ℕ) (d : ℕ) (ps : List (ℕ × ℕ)) → length rs < d → pairedBy ls rs (ds ++ d ∷ []) ps ≡ pairedBy ls rs ds ps
-unfolding pairedBy
-paired-placed [] rs ds d ps h = refl
-paired-placed (a ∷ ls) rs [] d ps h = rw (lt-leb d (length rs) h) (paired-none ls rs ps)
-paired-placed (a ∷ ls) rs (e ∷ ds) d ps h = paired-placed ls rs ds d _ h
-
--- a further digit of a right term puts its pair in front
-pub paired-more : (ls rs ds : List ℕ) (d : ℕ) (ps : List (ℕ × ℕ)) → length ds < length ls → d ≤ length rs → pairedBy ls rs (ds ++ d ∷ []) ps ≡ (word ls (length ds), word rs (d - 1)) ∷ pairedBy ls rs ds ps
-unfolding pairedBy
-paired-more [] rs ds d ps l h = absurd (omega arith)
-paired-more (a ∷ ls) rs [] d ps l h = rw (le-leb d (length rs) h) (paired-none ls rs ((a, word rs (d - 1)) ∷ ps))
-paired-more (a ∷ ls) rs (e ∷ ds) d ps l h = paired-more ls rs ds d _ (omega arith) h
-
--- digits that count from 1 pair nodes, where the terms are nodes
-pub paired-inside : (ns : List Node) (rs : List ℕ) → ((j : ℕ) → j < length rs → word rs j < length ns) → (ls : List ℕ) → ((j : ℕ) → j < length ls → word ls j < length ns) → (ds : List ℕ) → ((j : ℕ) → j < length ds → 0 < word ds j) → (ps : List (ℕ × ℕ)) → Inside ns ps → Inside ns (pairedBy ls rs ds ps)
-unfolding pairedBy
-paired-inside ns rs right [] left ds positive ps h = h
-paired-inside ns rs right (a ∷ ls) left [] positive ps h = h
-paired-inside ns rs right (a ∷ ls) left (d ∷ ds) positive ps h =
-    paired-inside ns rs right ls (λ j q. left (suc j) (omega arith)) ds (λ j q. positive (suc j) (omega arith)) _ (pick (leb d (length rs)) refl)
-  where
-    pick : (b : Bool) → leb d (length rs) ≡ b → Inside ns (cond b ((a, word rs (d - 1)) ∷ ps) ps)
-    pick true e =
-        let p : 0 < d = positive 0 (omega arith) in
-        let l = leb-true d (length rs) e in
-        inside-more ns a (word rs (d - 1)) ps (left 0 (omega arith)) (right (d - 1) (omega (arith, p, l))) h
-    pick false e = h
+use Rattle.branches.specs.Code.Known.{leftCount, rightCount, widthIn, KnownOf}
+use Rattle.branches.specs.Code.Ahead.{has, PairedSet}
+use Rattle.branches.specs.Code.Walk.{marksIn, Branching, KeepsBranch}
+use Rattle.branches.proofs.SetLaws.{paired-more}
 
 -- a digit is set in an entry
-module _ (left right entry : List ℕ) (i d : ℕ) (h : i < length left) where
+module _ (known entry : List ℕ) (i d : ℕ) (h : i < leftCount known) where
   -- it comes behind those before it
-  pub set-digits : length left ≤ length entry → take (i + 1) (set entry i d) ≡ take i entry ++ d ∷ []
+  pub set-digits : leftCount known ≤ length entry → take (i + 1) (set entry i d) ≡ take i entry ++ d ∷ []
   set-digits l = rw (add-one i) (take-suc-set entry i d (omega arith))
 
   -- and no mark changes
-  pub set-marks : marksIn left right (set entry i d) ≡ marksIn left right entry
-  set-marks = ap (take (length right)) (drop-set-lt (length left) entry i d h)
+  pub set-marks : marksIn known (set entry i d) ≡ marksIn known entry
+  set-marks = ap (take (rightCount known)) (drop-set-lt (leftCount known) entry i d h)
 
 -- a mark is set in an entry
-module _ (left right entry : List ℕ) (p d : ℕ) (e : p ≡ length left + d - 1) (h : 0 < d) (l : d ≤ length right) where
+module _ (known entry : List ℕ) (p d : ℕ) (e : p ≡ leftCount known + d - 1) (h : 0 < d) (l : d ≤ rightCount known) where
   -- no digit changes
-  pub mark-digits : (i v : ℕ) → i ≤ length left → take i (set entry p v) ≡ take i entry
+  pub mark-digits : (i v : ℕ) → i ≤ leftCount known → take i (set entry p v) ≡ take i entry
   mark-digits i v q = take-set-le i entry p v (omega (arith, e, h, q))
 
   -- it stands among the marks
-  pub mark-marks : (v : ℕ) → marksIn left right (set entry p v) ≡ set (marksIn left right entry) (d - 1) v
+  pub mark-marks : (v : ℕ) → marksIn known (set entry p v) ≡ set (marksIn known entry) (d - 1) v
   mark-marks v =
-      let q : p ≡ length left + (d - 1) = omega (arith, e, h) in
-      rw (q, drop-set-add (length left) entry (d - 1) v) (take-set-lt (length right) (drop (length left) entry) (d - 1) v (omega (arith, h, l)))
+      let q : p ≡ leftCount known + (d - 1) = omega (arith, e, h) in
+      rw (q, drop-set-add (leftCount known) entry (d - 1) v) (take-set-lt (rightCount known) (drop (leftCount known) entry) (d - 1) v (omega (arith, h, l)))
 
-  -- where it is read
-  pub mark-word : word (marksIn left right entry) (d - 1) ≡ word entry p
-  mark-word =
-      let q : length left + (d - 1) ≡ p = omega (arith, e, h) in
-      getD-take (length right) (drop (length left) entry) (d - 1) 0 (omega (arith, h, l)) ∙ getD-drop (length left) entry (d - 1) 0 ∙ ap (word entry) q
+-- a mark is read in an entry
+pub mark-word : (known entry : List ℕ) (j : ℕ) → j < rightCount known → word (marksIn known entry) j ≡ word entry (leftCount known + j)
+mark-word known entry j h =
+    getD-take (rightCount known) (drop (leftCount known) entry) j 0 h ∙ getD-drop (leftCount known) entry j 0
+
+-- a branch keeps itself
+pub keeps-itself : {known : List ℕ} {i : ℕ} {e : List ℕ} → KeepsBranch known i e e
+keeps-itself = record { size = refl; digits = refl; marks = refl }
 
 -- what a branch keeps it keeps twice
-pub keeps-again : {left right : List ℕ} {i : ℕ} {e₀ e₁ e₂ : List ℕ} → KeepsBranch left right i e₀ e₁ → KeepsBranch left right i e₁ e₂ → KeepsBranch left right i e₀ e₂
-keeps-again x y = record { digits = y .digits ∙ x .digits; marks = y .marks ∙ x .marks }
+pub keeps-again : {known : List ℕ} {i : ℕ} {e₀ e₁ e₂ : List ℕ} → KeepsBranch known i e₀ e₁ → KeepsBranch known i e₁ e₂ → KeepsBranch known i e₀ e₂
+keeps-again x y = record { size = y .size ∙ x .size; digits = y .digits ∙ x .digits; marks = y .marks ∙ x .marks }
 
-module _ {nodes arguments left right entry : List ℕ} {key weight unpaired i : ℕ}
-    (g : Branching nodes arguments left right entry key weight unpaired i) where
+module _ {nodes arguments known entry : List ℕ} {i paired : ℕ} (k : KnownOf nodes arguments known) (g : Branching known entry i paired) where
   -- an entry has room for the digits and the marks
-  pub branch-room : length left + length right ≤ length entry
-  branch-room = omega (arith, g .size)
+  pub branch-room : leftCount known + rightCount known ≤ length entry
+  branch-room = omega (arith, g .size, k .width)
 
   -- there is a mark for each right term
-  pub marks-long : length (marksIn left right entry) ≡ length right
-  marks-long =
-      length-take-le (length right) (drop (length left) entry) (rw (length-drop (length left) entry) (omega (arith, branch-room)))
+  pub marks-long : length (marksIn known entry) ≡ rightCount known
+  marks-long = length-take-le (rightCount known) (drop (leftCount known) entry) (rw (length-drop (leftCount known) entry) (omega (arith, branch-room)))
 
-  -- the first i digits count from 1
-  pub digits-positive : (j : ℕ) → j < length (take i entry) → 0 < word (take i entry) j
-  digits-positive j q =
-      let l = length-take-le i entry (omega (arith, branch-room, g .depth)) in
-      let h : j < i = omega (arith, q, l) in
-      rw (getD-take i entry j 0 h) (g .positive j h)
+  -- the digits before the next one
+  pub digits-long : length (take i entry) ≡ i
+  digits-long = length-take-le i entry (omega (arith, branch-room, g .depth))
 
   -- a branch that is kept
-  pub branching-kept : {entry′ : List ℕ} → length entry′ ≡ length entry → KeepsBranch left right i entry entry′ →
-      Branching nodes arguments left right entry′ key weight unpaired i
-  branching-kept {entry′} l k =
+  pub branching-kept : {entry′ : List ℕ} → KeepsBranch known i entry entry′ → Branching known entry′ i paired
+  branching-kept {entry′} q =
       record {
-        size = l ∙ g .size;
+        size = q .size ∙ g .size;
         depth = g .depth;
-        positive = positive;
-        counted = g .counted ∙ ap unpairedIn (sym (k .marks));
-        keyed = g .keyed ∙ ap (keyOfDigits (length right)) (sym (k .digits));
-        weighed = g .weighed;
+        small = λ j h. let e : word entry′ (leftCount known + j) ≡ word entry (leftCount known + j) = sym (mark-word known entry′ j h) ∙ ap (λ (zs : List ℕ). word zs j) (q .marks) ∙ mark-word known entry j h in omega (arith, e, g .small j h);
+        set-of = rw (q .marks) (g .set-of);
       }
-    where
-      positive : (j : ℕ) → j < i → 0 < word entry′ j
-      positive j h =
-          let e : word entry′ j ≡ word entry j = sym (getD-take i entry′ j 0 h) ∙ ap (λ (ds : List ℕ). word ds j) (k .digits) ∙ getD-take i entry j 0 h in
-          rw e (g .positive j h)
 
-  -- one with a digit more
-  pub branching-next : {entry′ : List ℕ} {d key′ unpaired′ : ℕ} → i < length left → 0 < d → length entry′ ≡ length entry →
-      take (i + 1) entry′ ≡ take i entry ++ d ∷ [] → key′ ≡ keyOfDigits (length right) (take i entry ++ d ∷ []) →
-      unpaired′ ≡ unpairedIn (marksIn left right entry′) → Branching nodes arguments left right entry′ key′ (weight * 16) unpaired′ (i + 1)
-  branching-next {entry′} {d} {key′} {unpaired′} h p l t k u =
-      record {
-        size = l ∙ g .size;
-        depth = omega (arith, h);
-        positive = λ j q. positive j q (ℕ-discrete j i);
-        counted = u;
-        keyed = k ∙ ap (keyOfDigits (length right)) (sym t);
-        weighed = ap (λ (x : ℕ). x * 16) (g .weighed) ∙ sym (pow-suc 16 i) ∙ ap (λ (x : ℕ). 16 ^ x) (sym (add-one i));
-      }
-    where
-      long : length (take i entry) ≡ i
-      long = length-take-le i entry (omega (arith, branch-room, h))
+  -- the next left term has digit d
+  module _ (h : i < leftCount known) (d : ℕ) where
+    digits-room : leftCount known ≤ length entry
+    digits-room = omega (arith, branch-room)
 
-      there : (j : ℕ) → j < i + 1 → word entry′ j ≡ word (take i entry ++ d ∷ []) j
-      there j q = sym (getD-take (i + 1) entry′ j 0 q) ∙ ap (λ (ds : List ℕ). word ds j) t
+    -- it comes behind the digits before it
+    pub digits-next : take (i + 1) (set entry i d) ≡ take i entry ++ d ∷ []
+    digits-next = set-digits known entry i d h digits-room
 
-      positive : (j : ℕ) → j < i + 1 → Dec (j ≡ i) → 0 < word entry′ j
-      positive j q (yes e) =
-          let x : j ≡ length (take i entry) + 0 = omega (arith, e, long) in
-          let y : word entry′ j ≡ d = there j q ∙ ap (word (take i entry ++ d ∷ [])) x ∙ getD-append-add (take i entry) (d ∷ []) 0 0 in
-          omega (arith, y, p)
-      positive j q (no e) =
-          let r : j < i = omega (arith, q, e) in
-          let y : word entry′ j ≡ word entry j = there j q ∙ List·getD-append (take i entry) (d ∷ []) 0 j (omega (arith, long, r)) ∙ getD-take i entry j 0 r in
-          rw y (g .positive j r)
+    -- the digits before it are the same where those up to it are
+    pub digits-before : (entry′ : List ℕ) → take (i + 1) entry′ ≡ take i entry ++ d ∷ [] → take i entry′ ≡ take i entry
+    digits-before entry′ e =
+        sym (take-take i (i + 1) entry′ (omega arith)) ∙ ap (take i) e ∙ take-at (take i entry) (d ∷ []) i digits-long
 
--- the mark of a right term that is paired, or has no common value with the left one: m is the place of the mark of the two
-pub free-none : (left known entry : List ℕ) (i d m : ℕ) → m ≡ 256 + (maxTerms * i + (d - 1)) → eqb (word entry (length left + d - 1)) 0 || eqb (word known m) 0 ≡ true → FreeMark left known entry i d 0
-free-none left known entry i d m e h =
-    record {
-      none = λ z. ap (λ (k : ℕ). eqb (word entry (length left + d - 1)) 0 || eqb (word known k) 0) (sym e) ∙ h;
-      some = λ n. absurd (n refl);
-    }
+    -- a branch whose next left term is in a label
+    pub branching-label : Branching known (set entry i d) (i + 1) paired
+    branching-label =
+        record {
+          size = length-set entry i d ∙ g .size;
+          depth = omega (arith, h);
+          small = λ j q. let e : word (set entry i d) (leftCount known + j) ≡ word entry (leftCount known + j) = getD-set-other entry i (leftCount known + j) d 0 (omega (arith, h)) in omega (arith, e, g .small j q);
+          set-of = rw (set-marks known entry i d h) (g .set-of);
+        }
 
--- that of any other
-pub free-some : (left known entry : List ℕ) (i d : ℕ) → FreeMark left known entry i d (word entry (length left + d - 1))
-free-some left known entry i d =
-    record {
-      none = λ z. ap (λ (b : Bool). b || eqb (word known (256 + (maxTerms * i + (d - 1)))) 0) (eq-eqb (word entry (length left + d - 1)) 0 z);
-      some = λ n. refl;
-    }
+    -- one whose next left term is paired
+    module _ (p : 0 < d) (l : d ≤ rightCount known) (f : has paired (d - 1) ≡ false) where
+      -- The entry with the digit and the mark.
+      abbrev paired-entry : List ℕ
+      paired-entry = set (set entry i d) (leftCount known + d - 1) 0
+
+      -- the digits
+      pub pair-digits : take (i + 1) paired-entry ≡ take i entry ++ d ∷ []
+      pair-digits = mark-digits known (set entry i d) (leftCount known + d - 1) d refl p l (i + 1) 0 (omega (arith, h)) ∙ digits-next
+
+      -- the marks
+      pub pair-marks : marksIn known paired-entry ≡ set (marksIn known entry) (d - 1) 0
+      pair-marks =
+          mark-marks known (set entry i d) (leftCount known + d - 1) d refl p l 0 ∙ ap (λ (zs : List ℕ). set zs (d - 1) 0) (set-marks known entry i d h)
+
+      -- the mark is 1 before
+      pub free-mark : word (marksIn known entry) (d - 1) ≡ 1
+      free-mark =
+          let e = g .set-of .paired (d - 1) (omega (arith, marks-long, p, l)) in
+          let n = eqb-false (word (marksIn known entry) (d - 1)) 0 (sym e ∙ f) in
+          let w = mark-word known entry (d - 1) (omega (arith, p, l)) in
+          omega (arith, n, w, g .small (d - 1) (omega (arith, p, l)))
+
+      pub branching-pair : Branching known paired-entry (i + 1) (paired + 2 ^ (d - 1))
+      branching-pair =
+          record {
+            size = length-set (set entry i d) (leftCount known + d - 1) 0 ∙ length-set entry i d ∙ g .size;
+            depth = omega (arith, h);
+            small = λ j q. small j q (ℕ-discrete j (d - 1));
+            set-of = rw pair-marks (paired-more (marksIn known entry) paired (d - 1) (g .set-of) (omega (arith, marks-long, p, l)) (λ z. omega (arith, z, free-mark)));
+          }
+        where
+          small : (j : ℕ) → j < rightCount known → Dec (j ≡ d - 1) → word paired-entry (leftCount known + j) ≤ 1
+          small j q (yes e) =
+              let x : leftCount known + j ≡ leftCount known + d - 1 = omega (arith, e, p) in
+              let y : word paired-entry (leftCount known + j) ≡ 0 = ap (word paired-entry) x ∙ getD-set-same (set entry i d) (leftCount known + d - 1) 0 0 (omega (arith, length-set entry i d, branch-room, p, l)) in
+              omega (arith, y)
+          small j q (no e) =
+              let y : word paired-entry (leftCount known + j) ≡ word entry (leftCount known + j) = getD-set-other (set entry i d) (leftCount known + d - 1) (leftCount known + j) 0 0 (omega (arith, e, p)) ∙ getD-set-other entry i (leftCount known + j) d 0 (omega (arith, h)) in
+              omega (arith, y, g .small j q)
+
+      -- with the mark put back it is as before
+      pub pair-back : {entry′ entry″ : List ℕ} → KeepsBranch known (i + 1) paired-entry entry′ → entry″ ≡ set entry′ (leftCount known + d - 1) 1 → KeepsBranch known i entry entry″
+      pair-back {entry′} {entry″} q z =
+          record {
+            size = ap length z ∙ length-set entry′ (leftCount known + d - 1) 1 ∙ q .size ∙ length-set (set entry i d) (leftCount known + d - 1) 0 ∙ length-set entry i d;
+            digits = ap (take i) z ∙ mark-digits known entry′ (leftCount known + d - 1) d refl p l i 1 (omega (arith, h)) ∙ digits-before entry′ (q .digits ∙ pair-digits);
+            marks =
+                ap (marksIn known) z
+                ∙ mark-marks known entry′ (leftCount known + d - 1) d refl p l 1
+                ∙ ap (λ (zs : List ℕ). set zs (d - 1) 1) (q .marks ∙ pair-marks)
+                ∙ set-set (marksIn known entry) (d - 1) 0 1
+                ∙ ap (set (marksIn known entry) (d - 1)) (sym free-mark)
+                ∙ set-getD (marksIn known entry) (d - 1) 0;
+          }
+
+    -- a label's digit leaves the branch before it
+    pub label-back : {entry′ : List ℕ} → KeepsBranch known (i + 1) (set entry i d) entry′ → KeepsBranch known i entry entry′
+    label-back {entry′} q =
+        record {
+          size = q .size ∙ length-set entry i d;
+          digits = digits-before entry′ (q .digits ∙ digits-next);
+          marks = q .marks ∙ set-marks known entry i d h;
+        }

@@ -1,49 +1,32 @@
--- What is known, part by part: the marks of pairs and the least nodes of variables are read where they were put, and the counts before them stay.
--- By cutting the bytes at the places. Assumes nothing.
-use Prim.Native.Nat.{ℕ, _+_, _*_, _-_, _≤_, _<_}
-use mathlib.Core.List.{List, _++_, append-assoc}
+-- What is known stays right where all but the sets is as before.
+-- Each part is read from places that are kept. Assumes nothing.
+use Prim.Native.Nat.{ℕ, _+_, _^_, _≤_, _<_}
+use mathlib.Core.List.{List}
 use mathlib.Core.Logic.{_⊎_, inl, inr}
 use mathlib.Core.Path.{_≡_, refl, sym, ap, _∙_}
 use native.Mathlib.Omega.{arith}
-use lib.ListN.{length, take, drop, set, length-set, length-take, length-drop, length-append, List·getD-append}
-use lib.Seq.{length-take-le, take-at, drop-at, take-set-lt, drop-set-add, getD-take, getD-drop, getD-set-other}
-use Rattle.table.specs.Limits.{maxTerms}
-use Rattle.table.specs.Layout.{word, countOf, nodeCount}
-use Rattle.unification.specs.Computed.Variables.{variablesOf}
-use Rattle.unification.specs.Node.{nodesFrom}
-use Rattle.unification.specs.Code.Sections.{Sections}
-use Rattle.nodes.specs.Code.Open.{IsClosed, Counts}
-use Rattle.values.specs.Code.Present.{leastNodes}
-use Rattle.classes.specs.Code.Stands.{Never}
-use Rattle.branches.specs.declared.Labels.{Labels}
-use Rattle.entries.specs.Code.Writing.{put}
-use Rattle.branches.specs.Code.Branch.{Listable}
-use Rattle.branches.specs.Code.Partners.{MayPair}
-use Rattle.branches.specs.Code.Known.{mayIn, PairsKnown, KnownOf, KeepsCounts}
-use Rattle.values.proofs.LeastLaws.{least-long}
-use Rattle.entries.proofs.WritingLaws.{put-long}
-use Rattle.branches.proofs.MemoryLaws.{part-put}
-use Rattle.branches.proofs.PartnerLaws.{pair-marked}
+use lib.ListN.{length, take, drop, length-take, length-drop}
+use lib.Seq.{length-take-le, getD-take, getD-drop, ext-getD}
+use Rattle.table.specs.Layout.{word, countOf, nodeCount, argumentOf}
+use Rattle.unification.specs.Computed.Classes.{classOf}
+use Rattle.nodes.specs.Code.Open.{IsClosed, Counts, OpenListed}
+use Rattle.nodes.specs.Code.Order.{Met, leaf, before, Listed}
+use Rattle.nodes.specs.Code.Formed.{Formed}
+use Rattle.nodes.proofs.OpenLaws.{looked-at}
+use Rattle.branches.specs.Code.Known.{leftCount, rightCount, leftIn, rightIn, rowsIn, opensIn, listIn, KnownOf, KeepsKnown}
 
--- the mark of a pair, where it stands among the bytes
-pub may-word : (known : List ℕ) (m : ℕ) → m < 64 → word (mayIn known) m ≡ word known (256 + m)
-may-word known m h = getD-take 64 (drop 256 known) m 0 h ∙ getD-drop 256 known m 0
-
-module _ {nodes arguments known : List ℕ} (k : KnownOf nodes arguments known) where
-  -- there are not more variables than there is room for
-  pub variables-few : length (variablesOf (nodesFrom nodes arguments)) ≤ 64
-  variables-few =
-      let n = length (leastNodes (nodesFrom nodes arguments)) in
-      let e = ap length (k .lists) in
-      let t = length-take n (drop 320 known) in
-      omega (arith, e, t, length-drop 320 known, k .size, least-long (nodesFrom nodes arguments))
-
-  -- their least nodes, as they are lent
-  pub listed-least : (end : ℕ) → end ≡ 320 + length (variablesOf (nodesFrom nodes arguments)) →
-      take (end - 320) (drop 320 known) ≡ leastNodes (nodesFrom nodes arguments)
-  listed-least end e =
-      let c : end - 320 ≡ length (leastNodes (nodesFrom nodes arguments)) = omega (arith, e, least-long (nodesFrom nodes arguments)) in
-      ap (λ (n : ℕ). take n (drop 320 known)) c ∙ k .lists
+-- a part of a list stays where its places do
+pub part-kept : (a n : ℕ) (xs ys : List ℕ) → length ys ≡ length xs → ((k : ℕ) → a ≤ k → k < a + n → word ys k ≡ word xs k) →
+    take n (drop a ys) ≡ take n (drop a xs)
+part-kept a n xs ys l f =
+    let p = length-take n (drop a ys) in
+    let q = length-take n (drop a xs) in
+    let u = length-drop a ys in
+    let v = length-drop a xs in
+    ext-getD 0 (take n (drop a ys)) (take n (drop a xs)) (omega (arith, p, q, u, v, l))
+    (λ i h.
+    getD-take n (drop a ys) i 0 (omega (arith, h, p)) ∙ getD-drop a ys i 0 ∙ f (a + i) (omega arith) (omega (arith, h, p))
+    ∙ sym (getD-drop a xs i 0) ∙ sym (getD-take n (drop a xs) i 0 (omega (arith, h, p))))
 
 -- counts that are the same at nodes
 module _ {nodes counts counts′ : List ℕ} (kept : (i : ℕ) → i < nodeCount nodes → word counts′ i ≡ word counts i) where
@@ -71,100 +54,157 @@ module _ {nodes counts counts′ : List ℕ} (kept : (i : ℕ) → i < nodeCount
       pick i h (inl e) = inl (kept i h ∙ e)
       pick i h (inr e) = inr (kept i h ∙ e)
 
--- a byte before those that are put stays
-put-word : (at i : ℕ) (xs lent : List ℕ) → i < at → at ≤ length lent → word (put at xs lent) i ≡ word lent i
-unfolding put
-put-word at i xs lent h l =
-    let rest = drop (at + length xs) lent in
-    ap (λ (r : List ℕ). word r i) (append-assoc (take at lent) xs rest)
-    ∙ List·getD-append (take at lent) (xs ++ rest) 0 i (omega (arith, h, length-take-le at lent l))
-    ∙ getD-take at lent i 0 h
+  -- and the open applications are the same
+  pub opens-same-listed : {opens : List ℕ} → OpenListed nodes counts opens → OpenListed nodes counts′ opens
+  opens-same-listed o = record { node = o .node; applied = o .applied; whole = λ i h l. o .whole i h (omega (arith, l, kept i h)) }
 
--- those that are put stand at their place
-put-here : (at : ℕ) (xs lent : List ℕ) → at ≤ length lent → take (length xs) (drop at (put at xs lent)) ≡ xs
-unfolding put
-put-here at xs lent l =
-    let rest = drop (at + length xs) lent in
-    ap (λ (r : List ℕ). take (length xs) (drop at r)) (append-assoc (take at lent) xs rest)
-    ∙ ap (take (length xs)) (drop-at (take at lent) (xs ++ rest) at (length-take-le at lent l))
-    ∙ take-at xs rest (length xs) refl
+-- the sides and the other lists are read from what is known
+module _ {nodes arguments known : List ℕ} (k : KnownOf nodes arguments known) where
+  -- there are as many left terms
+  pub left-long : length (leftIn known) ≡ leftCount known
+  unfolding leftIn
+  left-long =
+      let d = length-drop 584 known in
+      length-take-le (leftCount known) (drop 584 known) (omega (arith, d, k .size, k .left-few))
 
--- the counts are written before the marks of pairs
-module _ {nodes arguments : List ℕ} (known part : List ℕ) (s : Sections nodes arguments) (long : length part ≡ 256) where
-  -- a count, where it stands among the bytes
-  begun-word : (i : ℕ) → i < nodeCount nodes → word (part ++ drop 256 known) i ≡ word part i
-  begun-word i h = List·getD-append part (drop 256 known) 0 i (omega (arith, h, long, s .limit))
+  -- right terms
+  pub right-long : length (rightIn known) ≡ rightCount known
+  unfolding rightIn
+  right-long =
+      let d = length-drop 592 known in
+      length-take-le (rightCount known) (drop 592 known) (omega (arith, d, k .size, k .right-few))
 
-  -- they are right there as well
-  pub begun-counts : Counts nodes arguments part (nodeCount nodes) → Counts nodes arguments (part ++ drop 256 known) (nodeCount nodes)
-  begun-counts c = counts-kept begun-word (omega (arith, s .limit, long, length-append part (drop 256 known))) c
+  -- and sets
+  pub rows-long : length (rowsIn known) ≡ leftCount known
+  unfolding rowsIn
+  rows-long =
+      let d = length-drop 600 known in
+      length-take-le (leftCount known) (drop 600 known) (omega (arith, d, k .size, k .left-few))
 
-  -- where they are 0 they are 0 there
-  pub begun-noughts : ((i : ℕ) → i < nodeCount nodes → word part i ≡ 0) → (i : ℕ) → i < nodeCount nodes → word (part ++ drop 256 known) i ≡ 0
-  begun-noughts z i h = begun-word i h ∙ z i h
+-- a left term, where it stands among the bytes
+pub left-word : (known : List ℕ) (i : ℕ) → i < leftCount known → word (leftIn known) i ≡ word known (584 + i)
+unfolding leftIn
+left-word known i h = getD-take (leftCount known) (drop 584 known) i 0 h ∙ getD-drop 584 known i 0
 
-  -- and the marks stay
-  pub begun-marks : mayIn (part ++ drop 256 known) ≡ mayIn known
-  begun-marks = ap (take 64) (drop-at part (drop 256 known) 256 long)
+-- a right term
+pub right-word : (known : List ℕ) (j : ℕ) → j < rightCount known → word (rightIn known) j ≡ word known (592 + j)
+unfolding rightIn
+right-word known j h = getD-take (rightCount known) (drop 592 known) j 0 h ∙ getD-drop 592 known j 0
 
--- a mark that is written among the bytes is written among the marks
-may-set : (known : List ℕ) (m v : ℕ) → m < 64 → mayIn (set known (256 + m) v) ≡ set (mayIn known) m v
-may-set known m v h = ap (take 64) (drop-set-add 256 known m v) ∙ take-set-lt 64 (drop 256 known) m v h
+-- a set
+pub row-word : (known : List ℕ) (i : ℕ) → i < leftCount known → word (rowsIn known) i ≡ word known (600 + i)
+unfolding rowsIn
+row-word known i h = getD-take (leftCount known) (drop 600 known) i 0 h ∙ getD-drop 600 known i 0
 
--- the mark of a pair is written
-module _ {nodes arguments left right known : List ℕ} {labels : Labels} (g : Listable nodes arguments left right labels)
-    (k : PairsKnown nodes arguments left right known) (i j v : ℕ) (left-term : i < length left) (right-term : j < length right) where
-  -- the counts stay
-  pub mark-keeps : KeepsCounts nodes known (set known (256 + maxTerms * i + j) v)
-  mark-keeps q h =
-      getD-set-other known (256 + maxTerms * i + j) q v 0 (λ z. omega (arith, z, h, g .sections .limit))
+-- all but the sets is kept
+module _ {nodes arguments known known′ : List ℕ} (k : KnownOf nodes arguments known) (s : KeepsKnown known known′) where
+  -- the left terms stay
+  pub left-kept : leftIn known′ ≡ leftIn known
+  unfolding leftIn
+  left-kept =
+      ap (λ (n : ℕ). take n (drop 584 known′)) (s .same 578 (omega arith))
+      ∙ part-kept 584 (leftCount known) known known′ (s .size) (λ p q r. s .same p (omega (arith, r, k .left-few)))
 
-  -- and what is known of pairs stays right, where the mark is 0 only if the pair never has a unifier
-  pub mark-known : {a b : ℕ} → a ≡ word left i → b ≡ word right j → (v ≡ 0 → Never (nodesFrom nodes arguments) a b) →
-      PairsKnown nodes arguments left right (set known (256 + maxTerms * i + j) v)
-  mark-known {a} {b} x y n =
-      let p : 256 + maxTerms * i + j ≡ 256 + (maxTerms * i + j) = omega arith in
-      let l = length-set known (256 + maxTerms * i + j) v in
-      let e = ap (λ (q : ℕ). mayIn (set known q v)) p ∙ may-set known (maxTerms * i + j) v (omega (arith, left-term, right-term, g .left-few, g .right-few)) in
+  -- the right ones too
+  pub right-kept : rightIn known′ ≡ rightIn known
+  unfolding rightIn
+  right-kept =
+      ap (λ (n : ℕ). take n (drop 592 known′)) (s .same 579 (omega arith))
+      ∙ part-kept 592 (rightCount known) known known′ (s .size) (λ p q r. s .same p (omega (arith, r, k .right-few)))
+
+  -- so do the open applications
+  opens-kept : opensIn known′ ≡ opensIn known
+  unfolding opensIn
+  opens-kept =
+      ap (λ (n : ℕ). take n (drop 256 known′)) (s .same 576 (omega arith))
+      ∙ part-kept 256 (word known 576) known known′ (s .size) (λ p q r. s .same p (omega (arith, r, k .opens-few)))
+
+  -- and the least nodes of the variables
+  list-kept : listIn known′ ≡ listIn known
+  unfolding listIn
+  list-kept =
+      ap (λ (n : ℕ). take n (drop 512 known′)) (s .same 577 (omega arith))
+      ∙ part-kept 512 (word known 577) known known′ (s .size) (λ p q r. s .same p (omega (arith, r, k .list-few)))
+
+  -- the counts of the nodes stay
+  node-kept : (i : ℕ) → i < nodeCount nodes → word known′ i ≡ word known i
+  node-kept i h = s .same i (omega (arith, h, k .sections .limit))
+
+  -- and all that is known stays right
+  pub known-kept : KnownOf nodes arguments known′
+  known-kept =
+      let n = s .same 578 (omega arith) in
+      let m = s .same 579 (omega arith) in
+      let v = s .same 577 (omega arith) in
+      let o = s .same 576 (omega arith) in
+      let u = s .same 580 (omega arith) in
+      let r = s .same 581 (omega arith) in
+      let w = s .same 582 (omega arith) in
+      let e = s .same 583 (omega arith) in
       record {
-        size = l ∙ k .size;
-        counts = counts-kept mark-keeps (omega (arith, l, k .size, g .sections .limit)) (k .counts);
-        partners = rw e (pair-marked nodes arguments left right (mayIn known) i j a b v (g .left-few) (g .right-few) right-term x y n (k .partners));
+        sections = k .sections;
+        size = s .size ∙ k .size;
+        counts = counts-kept node-kept (omega (arith, k .counts .enough, s .size)) (k .counts);
+        opens-few = omega (arith, o, k .opens-few);
+        opens = rw opens-kept (opens-same-listed node-kept (k .opens));
+        list-few = omega (arith, v, k .list-few);
+        list = list-kept ∙ k .list;
+        left-few = omega (arith, n, k .left-few);
+        right-few = omega (arith, m, k .right-few);
+        left-nodes = λ j h. rw (s .same (584 + j) (omega (arith, h, n, k .left-few))) (k .left-nodes j (omega (arith, h, n)));
+        right-nodes = λ j h. rw (s .same (592 + j) (omega (arith, h, m, k .right-few))) (k .right-nodes j (omega (arith, h, m)));
+        left-labels = omega (arith, u, k .left-labels);
+        right-labels = omega (arith, r, k .right-labels);
+        width = omega (arith, w, n, m, v, k .width);
+        every = ap (λ (x : ℕ). x + 1) e ∙ k .every ∙ ap (λ (x : ℕ). 2 ^ x) (sym m);
       }
 
--- least nodes of variables are put behind the counts and the marks
-module _ {nodes arguments left right : List ℕ} (s : Sections nodes arguments) (known list known′ : List ℕ)
-    (k : PairsKnown nodes arguments left right known) (l : list ≡ leastNodes (nodesFrom nodes arguments)) (few : length list ≤ 64)
-    (e : known′ ≡ take 320 known ++ list ++ drop (320 + length list) known) where
-  -- they are put
-  is-put : known′ ≡ put 320 list known
-  unfolding put
-  is-put = e
+  -- a class whose arguments are not looked at stays one
+  met-kept : {order : List ℕ} {p g : ℕ} → g < nodeCount nodes → Met (word known) order p g → Met (word known′) order p g
+  met-kept {order} {p} {g} h (leaf e) = leaf (node-kept g h ∙ e)
+  met-kept {order} {p} {g} h (before q l e) = before q l e
 
-  -- there are as many bytes
-  put-size : length known′ ≡ length known
-  put-size = ap length is-put ∙ put-long 320 list known (omega (arith, k .size, few))
-
-  -- the counts stay
-  pub put-keeps : KeepsCounts nodes known known′
-  put-keeps i h =
-      ap (λ (r : List ℕ). word r i) is-put ∙ put-word 320 i list known (omega (arith, h, s .limit)) (omega (arith, k .size))
-
-  -- and so do the marks
-  pub put-partners : MayPair nodes arguments left right (mayIn known′)
-  put-partners =
-      let m : mayIn known′ ≡ mayIn known = ap mayIn is-put ∙ part-put 64 256 320 list known (omega arith) (omega (arith, k .size)) in
-      rw m (k .partners)
-
-  -- all that is known is right then
-  pub put-known : KnownOf nodes arguments known′
-  put-known =
+  -- and classes stay as they are kept
+  pub formed-kept : {heads : List ℕ} → Formed nodes arguments known heads → Formed nodes arguments known′ heads
+  formed-kept {heads} f =
       record {
-        size = put-size ∙ k .size;
-        counts = counts-kept put-keeps (omega (arith, s .limit, put-size, k .size)) (k .counts);
-        lists =
-            ap (λ (xs : List ℕ). take (length xs) (drop 320 known′)) (sym l)
-            ∙ ap (λ (r : List ℕ). take (length list) (drop 320 r)) is-put
-            ∙ put-here 320 list known (omega (arith, k .size))
-            ∙ l;
+        partition = f .partition;
+        constants = f .constants;
+        closed = record {
+          closed = λ i m. still-closed node-kept _ (f .closed .closed i (was-closed node-kept i m));
+          least = λ i m. f .closed .least i (was-closed node-kept i m);
+          valued = λ i m. f .closed .valued i (was-closed node-kept i m);
+          shared = λ i j m n. f .closed .shared i j (was-closed node-kept i m) (was-closed node-kept j n);
+        };
+        order = f .order;
+        ordered = record {
+          listed = record {
+            node = l .node;
+            compound = λ p h. rw (node-kept (word (f .order) p) (l .node p h)) (l .compound p h);
+            once = l .once;
+            first = λ p h j q. first p h j (rw (node-kept (word (f .order) p) (l .node p h)) at q);
+          };
+          whole = λ i h. met-kept (f .partition .below i h) (f .ordered .whole i h);
+        };
       }
+    where
+      l : Listed nodes arguments (word known) heads (f .order)
+      l = f .ordered .listed
+
+      first : (p : ℕ) → p < length (f .order) → (j : ℕ) → j < word known (word (f .order) p) →
+          Met (word known′) (f .order) p (classOf heads (argumentOf nodes arguments (word (f .order) p) j))
+      first p h j q =
+          let g = l .node p h in
+          let c = looked-at (k .counts) (word (f .order) p) j g q in
+          met-kept (f .partition .below _ (below-node (k .sections .smaller (word (f .order) p) j g c) g)) (l .first p h j q)
+        where
+          below-node : {a b : ℕ} → a < b → b < nodeCount nodes → a < nodeCount nodes
+          below-node x y = omega (arith, x, y)
+
+-- nothing changed keeps all
+pub keeps-all : (known : List ℕ) → KeepsKnown known known
+keeps-all known = record { size = refl; same = λ k h. refl }
+
+-- what is kept twice is kept
+pub keeps-twice : {known₀ known₁ known₂ : List ℕ} → KeepsKnown known₀ known₁ → KeepsKnown known₁ known₂ → KeepsKnown known₀ known₂
+keeps-twice a b = record { size = b .size ∙ a .size; same = λ k h. b .same k h ∙ a .same k h }

@@ -1,8 +1,11 @@
 -- Laws that the proofs of the code need, from the bottom up.
-pub mod HopelessLaws
+pub mod OverLaws
 pub mod BelowLaws
-pub mod BranchLaws
-pub mod PartnerLaws
-pub mod MemoryLaws
+pub mod BlockLaws
+pub mod BitLaws
+pub mod SetLaws
 pub mod KnownLaws
-pub mod StringLaws
+pub mod SidesLaws
+pub mod PairLaws
+pub mod CompleteLaws
+pub mod BranchLaws

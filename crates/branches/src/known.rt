@@ -1,60 +1,109 @@
-// What is known of nodes and of pairs of terms, in bytes: how many arguments of each node are looked at, the marks of the pairs of terms that
-// may be paired, and the least nodes of the variables.
+// What is known before the walk, in bytes that it does not change. From 0 on stands for each node how many of its arguments are looked at.
 ghost use mathlib.Core.Path.{_≡_};
-ghost use mathlib.Core.Bool.{false};
-ghost use Prim.Native.Nat.{ℕ, _≤_, _<_};
-ghost use lib.ListN.{length};
-ghost use Rattle.table.specs.Layout.{word, nodeCount};
-ghost use Rattle.unification.specs.Node.{nodesFrom};
-ghost use Rattle.unification.specs.Code.Sections.{Sections};
-ghost use Rattle.nodes.specs.Code.Open.{Counts};
-ghost use Rattle.values.specs.Code.Present.{leastNodes};
-ghost use Rattle.branches.specs.Code.Branch.{Listable};
-ghost use Rattle.branches.specs.Code.Known.{knownBytes, mayIn, PairsKnown, KnownOf, KeepsCounts};
-ghost use Rattle.branches.specs.Code.Partners.{Trying, MayPair};
-use crate::Labels;
-use crate::partners::find_partners;
+ghost use mathlib.Core.List.{_++_};
+ghost use Prim.Native.Nat.{_+_, _-_, _^_, _<_, _≤_};
+ghost use lib.ListN.{length, take, drop};
+ghost use Rattle.table.specs.Limits.{maxTerms, maxLabels};
+ghost use Rattle.table.specs.Layout.{word};
+ghost use Rattle.branches.specs.Code.Known.{knownBytes, AllBytes, counted, PutSides};
 use values::bytes::put_bytes;
-use values::prepared::count_open;
 
-// Where the marks of pairs begin.
-pub const MAY: usize = 256;
+// Where the open applications begin.
+pub const OPENS: usize = 256;
 
-// Where the least nodes of variables begin.
-pub const LIST: usize = 320;
+// Where the least nodes of the variables begin.
+pub const LIST: usize = 512;
+
+// How many open applications and variables there are.
+pub const OPEN_COUNT: usize = 576;
+
+pub const VARIABLE_COUNT: usize = 577;
+
+// How many left terms, right terms, left labels and right labels there are.
+pub const LEFT_COUNT: usize = 578;
+
+pub const RIGHT_COUNT: usize = 579;
+
+pub const LEFT_LABELS: usize = 580;
+
+pub const RIGHT_LABELS: usize = 581;
+
+// How many words an entry has.
+pub const WIDTH: usize = 582;
+
+// The set of all right terms.
+pub const EVERY: usize = 583;
+
+// Where the left terms begin, and the right terms.
+pub const LEFT: usize = 584;
+
+pub const RIGHT: usize = 592;
+
+// Where the sets of right terms begin that left terms may be paired with.
+pub const ROWS: usize = 600;
 
 // How many bytes there are.
-pub const KNOWN: usize = 384;
+pub const KNOWN: usize = 608;
 
-// Begins what is known: counts the arguments that are looked at, and says whether there are any. The marks of pairs stay.
-pub fn begin_known(nodes: &[u32], arguments: &[u32], known: &mut [u8]) -> bool
-    requires { ⌜ Sections (now nodes) (now arguments) × (length (now known) ≡ knownBytes) ⌝ }
-    ensures { λ r. ⌜ Counts (now (nodes .entry)) (now (arguments .entry)) (now (known .exit)) (nodeCount (now (nodes .entry))) ⌝ }
-    ensures { λ r. ⌜ (r ≡ false → (i : ℕ) → i < nodeCount (now (nodes .entry)) → word (now (known .exit)) i ≡ 0) ⌝ }
-    ensures { λ r. ⌜ mayIn (now (known .exit)) ≡ mayIn (now (known .entry)) ⌝ }
+// A byte as a number.
+fn wide(x: u8) -> usize
+    ensures { λ r. ⌜ (r ≡ x) × (r < 256) ⌝ }
 {
-    count_open(nodes, arguments, &mut known[0..MAY])
+    x as usize
 }
 
-// Marks the pairs of terms, and puts the least nodes of the variables behind the marks.
-pub fn complete_known(
-    nodes: &[u32],
-    arguments: &[u32],
-    left: &[u32],
-    right: &[u32],
-    labels: Labels,
-    list: &[u8],
-    heads: &mut [u8],
-    next: &mut [u8],
-    known: &mut [u8],
-)
-    requires { ⌜ Listable (now nodes) (now arguments) (now left) (now right) labels ⌝ }
-    requires { ⌜ Trying (now nodes) (now arguments) (now heads) (now next) × PairsKnown (now nodes) (now arguments) (now left) (now right) (now known) ⌝ }
-    requires { ⌜ (now list ≡ leastNodes (nodesFrom (now nodes) (now arguments))) × (length (now list) ≤ 64) ⌝ }
-    ensures { λ r. ⌜ KnownOf (now (nodes .entry)) (now (arguments .entry)) (now (known .exit)) × MayPair (now (nodes .entry)) (now (arguments .entry)) (now (left .entry)) (now (right .entry)) (mayIn (now (known .exit))) ⌝ }
-    ensures { λ r. ⌜ KeepsCounts (now (nodes .entry)) (now (known .entry)) (now (known .exit)) ⌝ }
-    ensures { λ r. ⌜ (now (heads .exit) ≡ now (heads .entry)) × (now (next .exit) ≡ now (next .entry)) ⌝ }
+// The number at a place.
+pub fn at(known: &[u8], i: usize) -> usize
+    requires { ⌜ i < length (now known) ⌝ }
+    ensures { λ r. ⌜ (r ≡ word (now (known .entry)) i) × (r < 256) ⌝ }
 {
-    find_partners(nodes, arguments, left, right, labels, heads, next, known);
+    wide(known[i])
+}
+
+// Puts the terms of a side at a place.
+fn put_terms(terms: &[u32], known: &mut [u8], p: usize)
+    requires { ⌜ (p + length (now terms) ≤ length (now known)) × AllBytes (now terms) ⌝ }
+    ensures { λ r. ⌜ now (known .exit) ≡ take p (now (known .entry)) ++ now (terms .entry) ++ drop (p + length (now (terms .entry))) (now (known .entry)) ⌝ }
+{
+    let mut i: usize = 0;
+    while i < terms.len() {
+        known[p + i] = terms[i] as u8;
+        i += 1;
+    }
+}
+
+// The set of all of m right terms.
+fn every(m: usize) -> usize
+    requires { ⌜ m ≤ maxTerms ⌝ }
+    ensures { λ r. ⌜ (r ≡ 2 ^ m - 1) × (r < 256) ⌝ }
+{
+    let sets: usize = 1 << m;
+    sets - 1
+}
+
+// Puts how many terms and labels there are, and the words of an entry with v variables.
+fn put_counts(n: usize, m: usize, k: usize, l: usize, v: usize, known: &mut [u8])
+    requires { ⌜ (n ≤ maxTerms) × (m ≤ maxTerms) × (k ≤ maxLabels) × (l ≤ maxLabels) × (v ≤ 64) × (length (now known) ≡ knownBytes) ⌝ }
+    ensures { λ r. ⌜ now (known .exit) ≡ counted n m k l v (now (known .entry)) ⌝ }
+{
+    let all = every(m);
+    known[VARIABLE_COUNT] = v as u8;
+    known[LEFT_COUNT] = n as u8;
+    known[RIGHT_COUNT] = m as u8;
+    known[LEFT_LABELS] = k as u8;
+    known[RIGHT_LABELS] = l as u8;
+    known[WIDTH] = (n + m + v) as u8;
+    known[EVERY] = all as u8;
+}
+
+// Puts the two sides, with k and l labels, and the least nodes of the variables.
+pub fn put_sides(left: &[u32], right: &[u32], k: usize, l: usize, list: &[u8], known: &mut [u8])
+    requires { ⌜ (length (now left) ≤ maxTerms) × (length (now right) ≤ maxTerms) × (k ≤ maxLabels) × (l ≤ maxLabels) × (length (now list) ≤ 64) × (length (now known) ≡ knownBytes) ⌝ }
+    requires { ⌜ AllBytes (now left) × AllBytes (now right) ⌝ }
+    ensures { λ r. ⌜ PutSides (now (left .entry)) (now (right .entry)) k l (now (list .entry)) (now (known .entry)) (now (known .exit)) ⌝ }
+{
     put_bytes(list, known, LIST);
+    put_counts(left.len(), right.len(), k, l, list.len(), known);
+    put_terms(left, known, LEFT);
+    put_terms(right, known, RIGHT);
 }

@@ -1,24 +1,23 @@
 -- The walk over left digits, depth first, as the code goes: a functional program that mirrors it (`below-listing`).
-use Prim.Native.Nat.{ℕ, zero, suc, _+_, _-_, _^_, _≤_, _<_}
-use mathlib.Core.Bool.{Bool, cond, _&&_, _||_}
+use Prim.Native.Nat.{ℕ, zero, suc, _+_, _-_, _≤_, _<_}
+use mathlib.Core.Bool.{Bool, true, false, cond}
 use mathlib.Core.List.{List, [], _∷_, _++_, map}
+use mathlib.Core.Logic.{_↔_}
 use mathlib.Core.Path.{_≡_}
-use lib.Dec.{eqb, leb, ltb}
+use lib.Dec.{eqb, leb}
 use lib.ListN.{length, take, drop, set, replicate}
 use Rattle.table.specs.Layout.{word, nodeCount}
+use Rattle.terms.specs.Substitution.{Substitution}
 use Rattle.unification.specs.Node.{Node, nodesFrom}
+use Rattle.unification.specs.Unifier.{Unifies}
 use Rattle.unification.specs.Outcome.{Outcome, unified, clash, occurs}
 use Rattle.unification.specs.Computed.Unifying.{outcome, wordsOf}
+use Rattle.unification.specs.Code.Given.{Inside}
 use Rattle.nodes.specs.Code.Trail.{Trailed}
-use Rattle.values.specs.Code.Prepared.{Prepared}
-use Rattle.nodes.specs.Code.Formed.{Formed}
-use Rattle.branches.specs.declared.Labels.{Labels}
-use Rattle.entries.specs.declared.Written.{Written}
+use Rattle.nodes.specs.Code.Formed.{Formed, Stands}
 use Rattle.entries.specs.Code.Writing.{marked, Writes, Remains}
-use Rattle.branches.specs.Code.Branch.{Listable, pairsIn, Standing, marksIn, widthOf}
-use Rattle.branches.specs.Code.Memory.{Keyed, Remembers}
-use Rattle.branches.specs.Code.Partners.{MayPair}
-use Rattle.branches.specs.Code.Known.{mayIn, KnownOf}
+use Rattle.branches.specs.Code.Known.{leftCount, rightCount, leftLabels, rightLabels, widthIn, leftIn, rightIn, KnownOf, SidesKnown}
+use Rattle.branches.specs.Code.Ahead.{Completable, MayPair, PairedSet}
 
 -- What f has for each of c digits from d on.
 unfoldable pub over : ℕ → ℕ → (ℕ → List (List ℕ)) → List (List ℕ)
@@ -48,115 +47,123 @@ unfoldable pub below : List Node → List ℕ → ℕ → ℕ → List ℕ → L
 below ns rs k l [] ds ps marks = stringEntries ns k ds ps marks
 below ns rs k l (a ∷ ls) ds ps marks = over 1 (length rs + l) (λ d. onDigit ns rs (below ns rs k l ls) ds ps marks a d)
 
--- How many right terms are not paired.
-unfoldable pub unpairedIn : List ℕ → ℕ
-unpairedIn [] = 0
-unpairedIn (z ∷ zs) = cond (eqb z 0) (unpairedIn zs) (suc (unpairedIn zs))
+-- The classes stand for pairs with the same unifiers as ps.
+pub record Standing (nodes arguments heads : List ℕ) (ps : List (ℕ × ℕ)) : Type 0 where
+  pub pairs : List (ℕ × ℕ)
+  pub stands : Stands nodes arguments heads pairs
+  pub inside : Inside (nodesFrom nodes arguments) ps
+  pub unifiers : (σ : Substitution) → Unifies (nodesFrom nodes arguments) pairs σ ↔ Unifies (nodesFrom nodes arguments) ps σ
 
--- Whether a side without labels leaves terms of the other without a partner: k and l are the numbers of labels, left terms are still to go.
-unfoldable pub hopeless : ℕ → ℕ → ℕ → ℕ → Bool
-hopeless k l left unpaired = eqb k 0 && ltb left unpaired || eqb l 0 && ltb unpaired left
+-- The same, and pairs of terms that are not in the sets of what is known have no common value on top of ps.
+pub record Pairing (nodes arguments known heads : List ℕ) (ps : List (ℕ × ℕ)) : Type 0 where
+  pub standing : Standing nodes arguments heads ps
+  pub partners : MayPair nodes arguments known ps
 
--- The digits of the first i left terms in an entry, and the key and the weight that go with them.
-pub record Branching (nodes arguments left right entry : List ℕ) (key weight unpaired i : ℕ) : Type 0 where
-  pub size : length entry ≡ widthOf nodes arguments left right
-  pub depth : i ≤ length left
-  pub positive : (j : ℕ) → j < i → 0 < word entry j
-  pub counted : unpaired ≡ unpairedIn (marksIn left right entry)
-  pub keyed : Keyed left right entry i key
-  pub weighed : weight ≡ 16 ^ i
+-- The marks of the right terms in an entry: 0 where paired.
+abbrev pub marksIn : List ℕ → List ℕ → List ℕ
+marksIn known entry = take (rightCount known) (drop (leftCount known) entry)
 
--- What the walk needs to know at depth i: of the sections and the labels, of what is known and prepared, of the classes and the branch, of what is remembered, and of the lent words.
-pub record Walking (nodes arguments left right : List ℕ) (labels : Labels) (known prepared heads next : List ℕ) (key weight unpaired i : ℕ) (entry memory out : List ℕ) (at : ℕ) : Type 0 where
-  pub listable : Listable nodes arguments left right labels
-  pub known-right : KnownOf nodes arguments known
-  pub partners : MayPair nodes arguments left right (mayIn known)
-  pub formed : Formed nodes arguments known heads
-  pub trailed : Trailed (nodeCount nodes) heads next
-  pub ready : Prepared nodes arguments known heads prepared
-  pub standing : Standing nodes arguments left right heads entry i
-  pub branching : Branching nodes arguments left right entry key weight unpaired i
-  pub remembers : Remembers nodes arguments left right memory out at
-  pub room : at ≤ length out
-
--- What writing the entries of a branch needs to know: its pairs have a unifier, and their binding words stand behind the digits.
-pub record Ending (nodes arguments left right : List ℕ) (labels : Labels) (key weight unpaired i : ℕ) (entry memory out : List ℕ) (at : ℕ) : Type 0 where
-  pub listable : Listable nodes arguments left right labels
-  pub branching : Branching nodes arguments left right entry key weight unpaired i
-  pub unifiable : outcome (nodesFrom nodes arguments) (pairsIn left right entry i) ≡ unified
-  pub bound : drop (length left + length right) entry ≡ wordsOf (nodesFrom nodes arguments) (pairsIn left right entry i)
-  pub remembers : Remembers nodes arguments left right memory out at
-  pub room : at ≤ length out
-
--- The entries below the branch that stands in an entry at depth i.
-abbrev pub branchEntries : List ℕ → List ℕ → List ℕ → List ℕ → Labels → List ℕ → ℕ → List (List ℕ)
-branchEntries nodes arguments left right labels entry i =
-    below (nodesFrom nodes arguments) right (labels .left) (labels .right) (drop i left) (take i entry) (pairsIn left right entry i)
-    (marksIn left right entry)
-
--- Those whose next left term has digit d.
-abbrev pub digitEntries : List ℕ → List ℕ → List ℕ → List ℕ → Labels → List ℕ → ℕ → ℕ → List (List ℕ)
-digitEntries nodes arguments left right labels entry i d =
-    onDigit (nodesFrom nodes arguments) right (below (nodesFrom nodes arguments) right (labels .left) (labels .right) (drop (i + 1) left))
-    (take i entry) (pairsIn left right entry i) (marksIn left right entry) (word left i) d
+-- A branch as it stands in an entry: the digits of the first i left terms, and a mark for each right term, 0 where it is in the set of those
+-- that are paired, and otherwise 1.
+pub record Branching (known entry : List ℕ) (i paired : ℕ) : Type 0 where
+  pub size : length entry ≡ widthIn known
+  pub depth : i ≤ leftCount known
+  pub small : (j : ℕ) → j < rightCount known → word entry (leftCount known + j) ≤ 1
+  pub set-of : PairedSet (marksIn known entry) paired
 
 -- The digits of the first i left terms and the marks are as before.
-pub record KeepsBranch (left right : List ℕ) (i : ℕ) (entry entry′ : List ℕ) : Type 0 where
-  pub digits : take i entry′ ≡ take i entry
-  pub marks : marksIn left right entry′ ≡ marksIn left right entry
-
--- Entries es are written; the branch at depth i is as before, and what is remembered is right, unless an entry did not fit.
-pub record WritesBelow (es : List (List ℕ)) (nodes arguments left right : List ℕ) (i : ℕ) (entry memory out : List ℕ) (at : ℕ) (entry′ memory′ out′ : List ℕ) (w : Written) : Type 0 where
-  pub writes : Writes es out at out′ w
+pub record KeepsBranch (known : List ℕ) (i : ℕ) (entry entry′ : List ℕ) : Type 0 where
   pub size : length entry′ ≡ length entry
-  pub keeps : w .missed ≡ 0 → KeepsBranch left right i entry entry′
-  pub remembers : w .missed ≡ 0 → Remembers nodes arguments left right memory′ out′ (w .used)
+  pub digits : take i entry′ ≡ take i entry
+  pub marks : marksIn known entry′ ≡ marksIn known entry
 
--- The entries below the branch are written.
-abbrev pub Walked : List ℕ → List ℕ → List ℕ → List ℕ → Labels → ℕ → List ℕ → List ℕ → List ℕ → ℕ → List ℕ → List ℕ → List ℕ → Written → Type 0
-Walked nodes arguments left right labels i entry memory out at entry′ memory′ out′ w =
-    WritesBelow (branchEntries nodes arguments left right labels entry i) nodes arguments left right i entry memory out at entry′ memory′ out′ w
+-- The entries below a branch whose next left term has digit d: ps are the pairs of its digits, together with those that every choice has.
+abbrev pub digitEntries : List ℕ → List ℕ → List ℕ → List ℕ → ℕ → List (ℕ × ℕ) → ℕ → List (List ℕ)
+digitEntries nodes arguments known entry i ps d =
+    onDigit (nodesFrom nodes arguments) (rightIn known)
+    (below (nodesFrom nodes arguments) (rightIn known) (leftLabels known) (rightLabels known) (drop (i + 1) (leftIn known)))
+    (take i entry) ps (marksIn known entry) (word (leftIn known) i) d
 
--- The same for those of one digit.
-abbrev pub Stepped : List ℕ → List ℕ → List ℕ → List ℕ → Labels → ℕ → ℕ → List ℕ → List ℕ → List ℕ → ℕ → List ℕ → List ℕ → List ℕ → Written → Type 0
-Stepped nodes arguments left right labels i d entry memory out at entry′ memory′ out′ w =
-    WritesBelow (digitEntries nodes arguments left right labels entry i d) nodes arguments left right i entry memory out at entry′ memory′ out′ w
+-- Those of the digits from d on.
+abbrev pub digitsFrom : List ℕ → List ℕ → List ℕ → List ℕ → ℕ → List (ℕ × ℕ) → ℕ → List (List ℕ)
+digitsFrom nodes arguments known entry i ps d =
+    over d (suc (rightCount known + rightLabels known) - d) (λ e. digitEntries nodes arguments known entry i ps e)
 
--- What is needed where left term i has its digit in the entry, and is paired by it: the pair of a and b is still to be joined to the classes.
-pub record Joining (nodes arguments left right : List ℕ) (labels : Labels) (known prepared heads next : List ℕ) (key weight unpaired i a b : ℕ) (entry memory out : List ℕ) (at : ℕ) : Type 0 where
-  pub listable : Listable nodes arguments left right labels
-  pub known-right : KnownOf nodes arguments known
-  pub partners : MayPair nodes arguments left right (mayIn known)
+-- The entries below a branch whose next left term has a digit from `least` on; where every left term has its digit, all of them.
+unfoldable pub branchEntries : List ℕ → List ℕ → List ℕ → List ℕ → ℕ → ℕ → List (ℕ × ℕ) → List (List ℕ)
+branchEntries nodes arguments known entry i least ps =
+    cond (eqb i (leftCount known))
+    (stringEntries (nodesFrom nodes arguments) (leftLabels known) (take i entry) ps (marksIn known entry))
+    (digitsFrom nodes arguments known entry i ps least)
+
+-- What the walk needs to know: of what is known, of the classes and the branch, and of the lent words.
+pub record Walking (nodes arguments known can heads next entry out : List ℕ) (i least paired at : ℕ) : Type 0 where
+  pub knows : KnownOf nodes arguments known
+  pub completable : Completable known can
   pub formed : Formed nodes arguments known heads
   pub trailed : Trailed (nodeCount nodes) heads next
-  pub ready : Prepared nodes arguments known heads prepared
-  pub standing : Standing nodes arguments left right heads entry i
-  pub branching : Branching nodes arguments left right entry key weight unpaired (i + 1)
-  pub pair : pairsIn left right entry (i + 1) ≡ (a, b) ∷ pairsIn left right entry i
-  pub first : a < nodeCount nodes
-  pub second : b < nodeCount nodes
-  pub remembers : Remembers nodes arguments left right memory out at
+  pub pairs : List (ℕ × ℕ)
+  pub pairing : Pairing nodes arguments known heads pairs
+  pub branching : Branching known entry i paired
+  pub positive : 0 < least
+  pub wide : 0 < widthIn known
   pub room : at ≤ length out
 
--- The entries below the branch are written, if the pair of a and b can be joined to those before it.
-abbrev pub WalkedJoined : List ℕ → List ℕ → List ℕ → List ℕ → Labels → ℕ → ℕ → ℕ → List ℕ → List ℕ → List ℕ → ℕ → List ℕ → List ℕ → List ℕ → Written → Type 0
-WalkedJoined nodes arguments left right labels i a b entry memory out at entry′ memory′ out′ w =
-    WritesBelow
-    (ifUnified (outcome (nodesFrom nodes arguments) ((a, b) ∷ pairsIn left right entry i)) (branchEntries nodes arguments left right labels entry (i + 1)))
-    nodes arguments left right (i + 1) entry memory out at entry′ memory′ out′ w
+-- The entries below the branch are written, whatever pairs the classes stand for, and the branch is as before.
+pub record Walked (nodes arguments known heads entry out : List ℕ) (i least at : ℕ) (entry′ out′ : List ℕ) (r : ℕ) : Type 0 where
+  pub writes : (ps : List (ℕ × ℕ)) → Pairing nodes arguments known heads ps → Writes (branchEntries nodes arguments known entry i least ps) out at out′ r
+  pub keeps : KeepsBranch known i entry entry′
 
--- What the loop over digits keeps: those from d on are still to be written, and the branch is as it was.
-pub record Turning (nodes arguments left right : List ℕ) (labels : Labels) (i : ℕ) (entry₀ out₀ : List ℕ) (at₀ d : ℕ) (entry memory out : List ℕ) (at : ℕ) : Type 0 where
-  pub first : 0 < d
-  pub last : d ≤ suc (length right + labels .right)
-  pub size : length entry ≡ length entry₀
-  pub keeps : KeepsBranch left right i entry₀ entry
-  pub remembers : Remembers nodes arguments left right memory out at
-  pub remains :
-      Remains (branchEntries nodes arguments left right labels entry₀ i) out₀ at₀
-      (over d (suc (length right + labels .right) - d) (λ e. digitEntries nodes arguments left right labels entry₀ i e)) out at
+-- Those of digit d.
+pub record Stepped (nodes arguments known heads entry out : List ℕ) (i d at : ℕ) (entry′ out′ : List ℕ) (r : ℕ) : Type 0 where
+  pub writes : (ps : List (ℕ × ℕ)) → Pairing nodes arguments known heads ps → Writes (digitEntries nodes arguments known entry i ps d) out at out′ r
+  pub keeps : KeepsBranch known i entry entry′
+
+-- Those of the digits from d on.
+pub record SteppedFrom (nodes arguments known heads entry out : List ℕ) (i d at : ℕ) (entry′ out′ : List ℕ) (r : ℕ) : Type 0 where
+  pub writes : (ps : List (ℕ × ℕ)) → Pairing nodes arguments known heads ps → Writes (digitsFrom nodes arguments known entry i ps d) out at out′ r
+  pub keeps : KeepsBranch known i entry entry′
 
 -- The entries below the branch without digits.
-abbrev pub allEntries : List ℕ → List ℕ → List ℕ → List ℕ → Labels → List (List ℕ)
-allEntries nodes arguments left right labels =
-    below (nodesFrom nodes arguments) right (labels .left) (labels .right) left [] [] (replicate (length right) 1)
+abbrev pub allEntries : List ℕ → List ℕ → List ℕ → List (ℕ × ℕ) → List (List ℕ)
+allEntries nodes arguments known ps =
+    below (nodesFrom nodes arguments) (rightIn known) (leftLabels known) (rightLabels known) (leftIn known) [] ps (replicate (rightCount known) 1)
+
+-- What looking ahead comes to: the sets and the bits are right, or there is no entry at all, whatever pairs the classes stand for.
+pub record LooksAhead (nodes arguments heads known known′ can′ : List ℕ) (r : Bool) : Type 0 where
+  pub completable : r ≡ true → Completable known′ can′
+  pub partners : r ≡ true → (ps : List (ℕ × ℕ)) → Standing nodes arguments heads ps → MayPair nodes arguments known′ ps
+  pub none : r ≡ false → (ps : List (ℕ × ℕ)) → Standing nodes arguments heads ps → allEntries nodes arguments known ps ≡ []
+
+-- What the end of a branch needs to know, where every left term has its digit: of what is known, of the classes, the branch and the lent words.
+pub record Ending (nodes arguments known heads entry out : List ℕ) (paired at : ℕ) : Type 0 where
+  pub knows : KnownOf nodes arguments known
+  pub formed : Formed nodes arguments known heads
+  pub pairs : List (ℕ × ℕ)
+  pub standing : Standing nodes arguments heads pairs
+  pub branching : Branching known entry (leftCount known) paired
+  pub wide : 0 < widthIn known
+  pub room : at ≤ length out
+
+-- The binding words of the pairs that the classes stand for are put behind the digits.
+pub record Binds (nodes arguments known heads entry entry′ : List ℕ) : Type 0 where
+  pub digits : take (leftCount known + rightCount known) entry′ ≡ take (leftCount known + rightCount known) entry
+  pub words : (ps : List (ℕ × ℕ)) → Standing nodes arguments heads ps →
+      drop (leftCount known + rightCount known) entry′ ≡ wordsOf (nodesFrom nodes arguments) ps
+
+-- What the loop over the digits of the next left term keeps: those from d on are still to be written, and the branch is as it was.
+pub record Turning (nodes arguments known heads entry₀ out₀ : List ℕ) (i least at₀ d : ℕ) (entry out : List ℕ) (at : ℕ) : Type 0 where
+  pub first : least ≤ d
+  pub size : length out ≡ length out₀
+  pub within : at ≤ length out
+  pub keeps : KeepsBranch known i entry₀ entry
+  pub remains : (ps : List (ℕ × ℕ)) → Pairing nodes arguments known heads ps →
+      Remains (branchEntries nodes arguments known entry₀ i least ps) out₀ at₀ (digitsFrom nodes arguments known entry₀ i ps d) out at
+
+-- What a listing begins with: the sides, the classes of no pair, and how many words an entry has.
+pub record Begun (nodes arguments left right : List ℕ) (k l : ℕ) (heads next known : List ℕ) (width : ℕ) : Type 0 where
+  pub sides : SidesKnown nodes arguments left right k l known
+  pub formed : Formed nodes arguments known heads
+  pub trailed : Trailed (nodeCount nodes) heads next
+  pub standing : Standing nodes arguments heads []
+  pub width-is : width ≡ widthIn known
