@@ -1,18 +1,19 @@
 -- A call by its parts: the answer and the lent words are those of the entries that the walk writes, and all that `list` promises follows.
 -- All entries have one length, so the words used tell how many there are. Assumes nothing.
-use Prim.Native.Nat.{ℕ, zero, suc, _+_, _-_, _*_, _/_, _≤_, _<_}
+use Prim.Native.Nat.{ℕ, zero, suc, _+_, _-_, _*_, _/_, _^_, _≤_, _<_}
 use mathlib.Core.Bool.{Bool, true, false, cond}
 use mathlib.Core.List.{List, [], _∷_, flatten, List·Memᴰ, List·Memᴰ·not-nil}
 use mathlib.Core.Path.{_≡_, refl, sym, ap, _∙_}
 use native.Mathlib.Decide.{decLt}
+use native.Mathlib.Nat.{div-mul-le-self, lt-div-mul-add, div-lt-iff-lt-mul}
 use native.Mathlib.Omega.{arith}
 use borrow.Author.Tests.{ltb-true, ltb-false}
 use lib.Arith.{digits-div}
 use lib.Dec.{ltb}
-use lib.ListN.{length, take, drop, replicate, length-replicate, getD-replicate, replicate-append-replicate, length-map}
-use lib.Seq.{drop-at, take-all}
+use lib.ListN.{length, take, drop, set, replicate, length-replicate, getD-replicate, replicate-append-replicate, length-map}
+use lib.Seq.{drop-at, take-all, length-take-le, getD-take}
 use Rattle.table.specs.declared.Refusal.{Refusal}
-use Rattle.table.specs.Limits.{maxTerms, maxNodes}
+use Rattle.table.specs.Limits.{maxNodes}
 use Rattle.table.specs.Layout.{word, nodeCount, nodesOf, argumentsOf, leftTermsOf, leftLabelsOf, rightTermsOf, rightLabelsOf}
 use Rattle.table.specs.Answer.{numberOf}
 use Rattle.table.specs.Refusal.{conditions, refusal}
@@ -24,49 +25,50 @@ use Rattle.unification.specs.Computed.Variables.{variablesOf}
 use Rattle.unification.specs.Computed.Solution.{nodeOf}
 use Rattle.unification.specs.Computed.Unifying.{wordsOf}
 use Rattle.unification.proofs.ListLaws.{length-none, part-long}
+use Rattle.unification.proofs.JoinedLaws.{inside-none}
 use Rattle.unification.proofs.TableLaws.{sections-of, nodes-of-sections, well-formed}
 use Rattle.unification.proofs.AnswerLaws.{words-counted}
 use Rattle.values.specs.declared.Variables.{Variables}
 use Rattle.values.specs.Code.Present.{leastNodes}
-use Rattle.nodes.specs.Code.Open.{Counts}
+use Rattle.nodes.specs.Code.Open.{Counts, OpenListed}
 use Rattle.nodes.specs.Code.Trail.{Trailed}
-use Rattle.values.specs.Code.Prepared.{Prepared}
 use Rattle.nodes.specs.Code.Formed.{Formed}
-use Rattle.classes.specs.Code.Stands.{StandsAlways}
 use Rattle.values.specs.Code.Begins.{Lists, BeginsShared}
 use Rattle.multiset_unification.specs.declared.Listing.the-variants.{Finished, Full, Refused}
 use Rattle.multiset_unification.specs.Problem.{halfAt, problemOf}
 use Rattle.multiset_unification.specs.Answer.{Told, told, fitting, lentAfter}
 use Rattle.multiset_unification.specs.Computed.Listing.{completeListing}
 use Rattle.multiset_unification.specs.Code.LeavesEntries.{LeavesEntries}
-use Rattle.multiset_unification.proofs.AnswerLaws.{nothing, nothing-held, fitting-all, fitting-first, fitting-left, answered-finished, answered-full}
-use Rattle.multiset_unification.proofs.LentLaws.{flatten-long, taken-in}
+use Rattle.multiset_unification.proofs.AnswerLaws.{nothing, nothing-held, fitting-all, fitting-left, answered-finished, answered-full}
+use Rattle.multiset_unification.proofs.LentLaws.{flatten-long}
 use Rattle.multiset_unification.proofs.PromiseLaws.{ListingPromised, refused-promised, listed-promised}
 use Rattle.multiset_unification.proofs.CompleteLaws.{complete-admissible}
 use Rattle.multiset_unification.proofs.OneHalfLaws.{one-posed}
 use Rattle.multiset_unification.proofs.TableLaws.{posed, none-held, held-posed, table-refusals}
-use Rattle.branches.specs.declared.Labels.{Labels}
-use Rattle.entries.specs.declared.Written.{Written}
-use Rattle.entries.specs.Code.Writing.{put, Writes, marked}
-use Rattle.branches.specs.Code.Branch.{Listable, marksIn, widthOf}
-use Rattle.branches.specs.Code.Memory.{keyOfDigits}
-use Rattle.branches.specs.Code.Partners.{Trying, MayPair}
-use Rattle.branches.specs.Code.Known.{knownBytes, mayIn, PairsKnown, KnownOf}
-use Rattle.branches.specs.Code.Walk.{below, unpairedIn, Walking, Walked, allEntries}
-use Rattle.branches.proofs.MemoryLaws.{remembers-none}
-use Rattle.branches.proofs.KnownLaws.{variables-few}
-use Rattle.branches.proofs.HopelessLaws.{unpaired-ones}
+use Rattle.entries.specs.Code.Writing.{put, full, Writes, marked}
+use Rattle.entries.proofs.WritingLaws.{writes-room}
+use Rattle.entries.proofs.BlockLaws.{fitting-wide}
+use Rattle.branches.specs.Code.Known.{knownBytes, leftCount, rightCount, leftLabels, rightLabels, widthIn, leftIn, rightIn, AllBytes, Listable, SidesKnown, KnownOf, KeepsKnown, PutSides}
+use Rattle.branches.specs.Code.Walk.{below, Standing, Pairing, marksIn, branchEntries, Walking, Walked, allEntries, LooksAhead, Begun}
 use Rattle.branches.proofs.BelowLaws.{below-listing, below-long}
-use Rattle.branches.proofs.BranchLaws.{paired-none}
+use Rattle.branches.proofs.SetLaws.{paired-first}
+use Rattle.branches.proofs.KnownLaws.{left-long, right-long, left-kept, right-kept, known-kept, formed-kept}
+use Rattle.branches.proofs.SidesLaws.{known-sides}
+use Rattle.walking.proofs.WalkLaws.{variables-long, below-branch}
 
--- of entries that have one length as many fit as that length goes into their words
-fitting-counted : (width lent : ℕ) (es : List (List ℕ)) → 0 < width → ((e : List ℕ) → List·Memᴰ e es → length e ≡ width) → length (flatten (fitting lent es)) / width ≡ length (fitting lent es)
-fitting-counted width lent es h l =
-    let e = flatten-long width (fitting lent es) (λ e m. l e (taken-in (length (fitting lent es)) es e (rw (fitting-first lent es) at m))) in
-    let q : length (flatten (fitting lent es)) ≡ length (fitting lent es) * width + 0 = e ∙ omega arith in
-    ap (λ (n : ℕ). n / width) q ∙ digits-div (length (fitting lent es)) h
+-- The entries of two sides with k and l labels, as the walk has them.
+abbrev pub sideEntries : List ℕ → List ℕ → List ℕ → List ℕ → ℕ → ℕ → List (List ℕ)
+sideEntries nodes arguments left right k l = below (nodesFrom nodes arguments) right k l left [] [] (replicate (length right) 1)
 
-module _ {es : List (List ℕ)} {lent lent′ : List ℕ} {w : Written} (x : Writes es lent 0 lent′ w) (width : ℕ) (h : 0 < width) (l : (e : List ℕ) → List·Memᴰ e es → length e ≡ width) where
+-- of entries that have one length as many fit as that length goes into the lent words, if not all do
+fitting-room : (width lent : ℕ) (es : List (List ℕ)) → 0 < width → ((e : List ℕ) → List·Memᴰ e es → length e ≡ width) → lent < length (flatten es) → length (fitting lent es) ≡ lent / width
+fitting-room width lent es h l m =
+    let f = fitting-wide width lent (lent / width) es l (div-mul-le-self lent width) (lt-div-mul-add h) in
+    let t = flatten-long width es l in
+    let q : lent / width < length es = div-lt-iff-lt-mul h .1 (omega (arith, m, t)) in
+    ap length f ∙ length-take-le (lent / width) es (omega (arith, q))
+
+module _ {es : List (List ℕ)} {lent lent′ : List ℕ} {r : ℕ} (x : Writes es lent 0 lent′ r) (b : length lent < full) (width : ℕ) (h : 0 < width) (l : (e : List ℕ) → List·Memᴰ e es → length e ≡ width) where
   -- the lent words begin with the entries that fit
   written-words : lent′ ≡ lentAfter [] es lent
   unfolding put lentAfter
@@ -76,53 +78,54 @@ module _ {es : List (List ℕ)} {lent lent′ : List ℕ} {w : Written} (x : Wri
       let q = x .words in
       rw (fitting-left [] es (length lent) nothing-held) (rw (z, o) at q)
 
-  -- the words used tell how many
-  counted : w .used / width ≡ length (fitting (length lent) es)
-  counted =
+  -- the words used tell whether all entries fit
+  used-told : r ≡ cond (ltb (length lent) (length (flatten es))) full (length (flatten es))
+  used-told =
       let z : length lent - 0 ≡ length lent = omega arith in
+      let o : 0 + length (flatten es) ≡ length (flatten es) = omega arith in
       let q = x .used in
-      let u : w .used ≡ length (flatten (fitting (length lent) es)) = rw z at q ∙ omega arith in
-      ap (λ (n : ℕ). n / width) u ∙ fitting-counted width (length lent) es h l
-
-  -- and it is told whether one did not fit
-  over-told : w .missed ≡ cond (ltb (length lent) (length (flatten es))) 1 0
-  over-told =
-      let z : length lent - 0 ≡ length lent = omega arith in
-      let q = x .missed in
-      rw z at q
+      rw (z, o) at q
 
   -- an entry did not fit
-  pub written-full : (w .missed ≡ 0 → ⊥) → LeavesEntries es lent (told (Full (w .used / width))) lent′
-  written-full f = record { answer = rw counted (sym (answered-full [] es (length lent) nothing nothing-held less)); words = written-words }
+  pub written-full : r ≡ full → LeavesEntries es lent (told (Full (length lent′ / width))) lent′
+  written-full f = record { answer = rw (writes-room (omega arith) x .0, ← fitting-room width (length lent) es h l less) (sym (answered-full [] es (length lent) nothing nothing-held less)); words = written-words }
     where
-      pick : (b : Bool) → ltb (length lent) (length (flatten es)) ≡ b → (_≡_ {A = ℕ} (cond b 1 0) 0 → ⊥) → length lent < length (flatten es)
+      pick : (t : Bool) → ltb (length lent) (length (flatten es)) ≡ t → cond t full (length (flatten es)) ≡ full → length lent < length (flatten es)
       pick true q n = ltb-true (length lent) (length (flatten es)) q
-      pick false q n = absurd (n refl)
+      pick false q n = omega (arith, n, b)
 
       less : length lent < length (flatten es)
-      less = pick (ltb (length lent) (length (flatten es))) refl (λ z. f (over-told ∙ z))
+      less = pick (ltb (length lent) (length (flatten es))) refl (sym used-told ∙ f)
 
   -- all entries did
-  pub written-finished : w .missed ≡ 0 → LeavesEntries es lent (told (Finished (w .used / width))) lent′
+  pub written-finished : (r ≡ full → ⊥) → LeavesEntries es lent (told (Finished (r / width))) lent′
   written-finished f =
       record {
-        answer = rw (counted, fitting-all (length lent) es fits) (sym (answered-finished [] es (length lent) nothing nothing-held fits));
+        answer = rw counted (sym (answered-finished [] es (length lent) nothing nothing-held fits));
         words = written-words;
       }
     where
-      pick : (b : Bool) → ltb (length lent) (length (flatten es)) ≡ b → _≡_ {A = ℕ} (cond b 1 0) 0 → length (flatten es) ≤ length lent
-      pick true q n = absurd (omega (arith, n))
-      pick false q n = ltb-false (length lent) (length (flatten es)) q
+      pick : (t : Bool) → ltb (length lent) (length (flatten es)) ≡ t → (cond t full (length (flatten es)) ≡ full → ⊥) → (length (flatten es) ≤ length lent) × (cond t full (length (flatten es)) ≡ length (flatten es))
+      pick true q n = absurd (n refl)
+      pick false q n = (ltb-false (length lent) (length (flatten es)) q, refl)
+
+      picked : (length (flatten es) ≤ length lent) × (cond (ltb (length lent) (length (flatten es))) full (length (flatten es)) ≡ length (flatten es))
+      picked = pick (ltb (length lent) (length (flatten es))) refl (λ z. f (used-told ∙ z))
 
       fits : length (flatten es) ≤ length lent
-      fits = pick (ltb (length lent) (length (flatten es))) refl (sym over-told ∙ f)
+      fits = picked .0
+
+      counted : r / width ≡ length es
+      counted =
+          let q : r ≡ length es * width + 0 = used-told ∙ picked .1 ∙ flatten-long width es l ∙ omega arith in
+          ap (λ (n : ℕ). n / width) q ∙ digits-div (length es) h
 
 -- an entry of no words
 abbrev empty : List (List ℕ)
 empty = [] ∷ []
 
 -- always fits
-pub written-empty : (es : List (List ℕ)) (lent : List ℕ) → es ≡ empty → LeavesEntries es lent (told (Finished 1)) lent
+written-empty : (es : List (List ℕ)) (lent : List ℕ) → es ≡ empty → LeavesEntries es lent (told (Finished 1)) lent
 unfolding flatten lentAfter
 written-empty es lent e =
     let m : length (flatten empty) ≤ length lent = omega arith in
@@ -132,26 +135,27 @@ written-empty es lent e =
       words = rw (fitting-left [] empty (length lent) nothing-held, fitting-all (length lent) empty m) refl;
     })
 
--- each entry of a table's sections has n + m + V words
-pub all-long : (nodes arguments left right : List ℕ) (labels : Labels) (width : ℕ) → width ≡ widthOf nodes arguments left right → (e : List ℕ) →
-    List·Memᴰ e (allEntries nodes arguments left right labels) → length e ≡ width
-all-long nodes arguments left right labels width w e m =
-    let r = length-replicate {A = ℕ} (length right) 1 in
-    let l = below-long (nodesFrom nodes arguments) right (labels .left) (labels .right) left [] [] (replicate (length right) 1) e m in
-    omega (arith, l, r, w)
+-- no entries leave nothing
+written-none : (es : List (List ℕ)) (lent : List ℕ) → es ≡ [] → LeavesEntries es lent (told (Finished 0)) lent
+unfolding flatten lentAfter
+written-none es lent e =
+    let m : length (flatten {A = ℕ} []) ≤ length lent = omega arith in
+    rw e
+    (record {
+      answer = sym (answered-finished [] [] (length lent) nothing nothing-held m);
+      words = rw (fitting-left [] [] (length lent) nothing-held, fitting-all (length lent) [] m) refl;
+    })
 
--- where that is none, there is one entry
-pub all-empty : {nodes arguments : List ℕ} (left right : List ℕ) (labels : Labels) {v : Variables} → Lists nodes arguments v →
-    length left + length right + v .count ≡ 0 → allEntries nodes arguments left right labels ≡ [] ∷ []
+-- where entries have no words, there is one
+all-empty : (nodes arguments left right : List ℕ) (k l : ℕ) → length left + length right + length (variablesOf (nodesFrom nodes arguments)) ≡ 0 → sideEntries nodes arguments left right k l ≡ empty
 unfolding below marked
-all-empty {nodes} {arguments} [] [] labels s h =
-    ap (_∷ [])
-    (length-none (wordsOf (nodesFrom nodes arguments) []) (words-counted (nodesFrom nodes arguments) [] ∙ sym (s .counted) ∙ omega (arith, h)))
-all-empty [] (b ∷ right) labels s h = absurd (omega arith)
-all-empty (a ∷ left) right labels s h = absurd (omega arith)
+all-empty nodes arguments [] [] k l h =
+    ap (_∷ []) (length-none (wordsOf (nodesFrom nodes arguments) []) (words-counted (nodesFrom nodes arguments) [] ∙ omega (arith, h)))
+all-empty nodes arguments [] (b ∷ right) k l h = absurd (omega arith)
+all-empty nodes arguments (a ∷ left) right k l h = absurd (omega arith)
 
 -- the variables present are in the list of their nodes
-pub variables-inside : {nodes arguments : List ℕ} {v : Variables} → Lists nodes arguments v → v .count ≤ length (v .nodes)
+variables-inside : {nodes arguments : List ℕ} {v : Variables} → Lists nodes arguments v → v .count ≤ length (v .nodes)
 unfolding leastNodes
 variables-inside {nodes} {arguments} {v} s = go (decLt (length (v .nodes)) (v .count))
   where
@@ -161,6 +165,55 @@ variables-inside {nodes} {arguments} {v} s = go (decLt (length (v .nodes)) (v .c
     go : Dec (length (v .nodes) < v .count) → v .count ≤ length (v .nodes)
     go (yes q) = let e = ap length (take-all (v .count) (v .nodes) (omega arith)) in omega (arith, e, long)
     go (no q) = omega arith
+
+-- what a listing begins with
+module _ {nodes arguments left right : List ℕ} {k l : ℕ} (g : Listable nodes arguments left right k l) {v : Variables} {heads : List ℕ}
+    (s : BeginsShared nodes arguments v heads) where
+  -- the least nodes of the variables fit into the list
+  pub list-inside : v .count ≤ length (v .nodes)
+  list-inside = variables-inside (s .lists)
+
+  -- they are so many
+  pub list-long : length (take (v .count - 0) (v .nodes)) ≡ v .count
+  list-long = part-long (v .nodes) (v .count) list-inside
+
+  -- and few
+  pub list-few : length (take (v .count - 0) (v .nodes)) ≤ 64
+  list-few = omega (arith, list-long, s .lists .within)
+
+  -- terms are bytes
+  pub left-bytes : AllBytes left
+  left-bytes = record { small = λ j h. let q = g .left-nodes j h in omega (arith, q, g .sections .limit) }
+
+  pub right-bytes : AllBytes right
+  right-bytes = record { small = λ j h. let q = g .right-nodes j h in omega (arith, q, g .sections .limit) }
+
+  -- the classes stand for no pair
+  begun-standing : Standing nodes arguments heads []
+  begun-standing =
+      record {
+        pairs = s .pairs;
+        stands = s .stands;
+        inside = inside-none (nodesFrom nodes arguments);
+        unifiers = λ σ. ((λ u a b m. absurd (List·Memᴰ·not-nil m)), (λ u. s .same σ));
+      }
+
+  -- all of it is begun
+  pub begun : {next known₀ known₁ known : List ℕ} {r : ℕ} → length heads ≡ nodeCount nodes → Trailed (length heads) heads next →
+      length known₀ ≡ knownBytes → Counts nodes arguments known₀ (nodeCount nodes) → r < maxNodes →
+      OpenListed nodes known₀ (take r (drop 256 known₀)) → known₁ ≡ set known₀ 576 r →
+      PutSides left right k l (take (v .count - 0) (v .nodes)) known₁ known →
+      Begun nodes arguments left right k l heads next known (length left + length right + v .count)
+  begun {known = known} n t size c few o e p =
+      let z : v .count - 0 ≡ v .count = omega arith in
+      let sides = known-sides (g .sections) size c few o e (ap (λ (j : ℕ). take j (v .nodes)) z ∙ s .lists .least) list-few (g .left-few) (g .right-few) (g .left-nodes) (g .right-nodes) (g .left-labels) (g .right-labels) p in
+      record {
+        sides = sides;
+        formed = s .formed known (sides .knows .counts);
+        trailed = rw n at t;
+        standing = begun-standing;
+        width-is = ap (λ (j : ℕ). length left + length right + j) (s .lists .counted) ∙ sym (sides .width-is);
+      }
 
 -- a part of equal words
 take-replicate : (n m x : ℕ) → n ≤ m → take n (replicate m x) ≡ replicate n x
@@ -172,122 +225,99 @@ take-replicate (suc n) (suc m) x h = ap (x ∷_) (take-replicate n m x (omega ar
 drop-replicate : (n m x : ℕ) → drop n (replicate (n + m) x) ≡ replicate m x
 drop-replicate n m x = ap (drop n) (sym (replicate-append-replicate n m x)) ∙ drop-at (replicate n x) (replicate m x) n (length-replicate n x)
 
--- at first any two terms may be paired
-pub pairs-begun : {nodes arguments left right known known′ : List ℕ} {labels : Labels} → Listable nodes arguments left right labels →
-    known ≡ replicate knownBytes 1 → length known′ ≡ length known → Counts nodes arguments known′ (nodeCount nodes) →
-    mayIn known′ ≡ mayIn known → PairsKnown nodes arguments left right known′
-pairs-begun {left = left} {right = right} {known = known} {known′ = known′} g e l c m =
-    record {
-      size = l ∙ ap length e;
-      counts = c;
-      partners = record {
-        size = ap length ones;
-        never = λ i j p q z. absurd (one (maxTerms * i + j) (omega (arith, p, q, g .left-few, g .right-few)) z);
-      };
-    }
-  where
-    ones : mayIn known′ ≡ replicate 64 1
-    ones = m ∙ ap mayIn e ∙ ap (take 64) (drop-replicate 256 128 1) ∙ take-replicate 64 128 1 (omega arith)
+-- a listing has begun
+module _ {nodes arguments left right : List ℕ} {k l : ℕ} {heads next known : List ℕ} {width : ℕ}
+    (g : Begun nodes arguments left right k l heads next known width) where
+  -- an entry of no words is the only one
+  pub begun-empty : width ≡ 0 → (lent : List ℕ) → LeavesEntries (sideEntries nodes arguments left right k l) lent (told (Finished 1)) lent
+  begun-empty e lent =
+      written-empty (sideEntries nodes arguments left right k l) lent (all-empty nodes arguments left right k l (omega (arith, e, g .width-is, g .sides .width-is)))
 
-    one : (j : ℕ) → j < 64 → word (mayIn known′) j ≡ 0 → ⊥
-    one j h z =
-        let x = ap (λ (r : List ℕ). word r j) ones ∙ getD-replicate {A = ℕ} 64 j 1 0 h in
-        omega (arith, x, z)
+  -- the entries of what is known are those of the sides
+  known-entries : allEntries nodes arguments known [] ≡ sideEntries nodes arguments left right k l
+  known-entries =
+      let m : rightCount known ≡ length right = sym (right-long (g .sides .knows)) ∙ ap length (g .sides .right-is) in
+      rw (g .sides .left-is, g .sides .right-is, g .sides .left-labelled, g .sides .right-labelled, m) refl
 
--- the classes that unifying begins with
-module _ {nodes arguments left right : List ℕ} {labels : Labels} (g : Listable nodes arguments left right labels) {v : Variables}
-    {heads : List ℕ} (s : BeginsShared nodes arguments v heads) where
-  -- an entry has a word for each term and each variable
-  pub begun-width : length left + length right + v .count ≡ widthOf nodes arguments left right
-  begun-width = ap (λ (n : ℕ). length left + length right + n) (s .lists .counted)
+  -- it was looked ahead
+  module _ {known′ can : List ℕ} {r : Bool} (keeps : KeepsKnown known known′) (a : LooksAhead nodes arguments heads known known′ can r) where
+    -- there is no entry
+    pub ahead-none : r ≡ false → (lent : List ℕ) → LeavesEntries (sideEntries nodes arguments left right k l) lent (told (Finished 0)) lent
+    ahead-none e lent = written-none (sideEntries nodes arguments left right k l) lent (sym known-entries ∙ a .none e [] (g .standing))
 
-  -- the least nodes of the variables, as they are lent
-  pub begun-list : (take (v .count - 0) (v .nodes) ≡ leastNodes (nodesFrom nodes arguments)) × (length (take (v .count - 0) (v .nodes)) ≤ 64)
-  begun-list =
-      let z : v .count - 0 ≡ v .count = omega arith in
-      (ap (λ (n : ℕ). take n (v .nodes)) z ∙ s .lists .least, omega (arith, part-long (v .nodes) (v .count) (variables-inside (s .lists)), s .lists .within))
+    -- there may be some
+    module _ (e : r ≡ true) (n : width ≡ 0 → ⊥) where
+      -- The entry that the walk begins with.
+      abbrev first-entry : List ℕ
+      first-entry = take (width - 0) (replicate 80 1)
 
-  -- they stand for pairs that every substitution unifies
-  pub begun-always : StandsAlways nodes arguments heads
-  begun-always = record { pairs = s .pairs; stands = s .stands; same = s .same }
+      -- what is known is the same but for the sets
+      knows : KnownOf nodes arguments known′
+      knows = known-kept (g .sides .knows) keeps
 
-  -- there are not too many
-  pub begun-few : length heads ≡ nodeCount nodes → length heads ≤ maxNodes
-  begun-few e = omega (arith, e, g .sections .limit)
+      same-width : widthIn known′ ≡ width
+      same-width = keeps .same 582 (omega arith) ∙ sym (g .width-is)
 
-  -- pairs can be tried by themselves
-  pub begun-trying : {next : List ℕ} → length heads ≡ nodeCount nodes → Trailed (length heads) heads next → Trying nodes arguments heads next
-  begun-trying e o =
-      record {
-        sections = g .sections;
-        formed = s .formed;
-        trailed = rw e at o;
-        stands = begun-always;
-      }
+      -- there is room for an entry
+      pub width-room : width ≤ 80
+      width-room = omega (arith, same-width, knows .width, knows .left-few, knows .right-few, knows .list-few)
 
-  -- what is known of the classes
-  pub begun-classes : {known next : List ℕ} → length heads ≡ nodeCount nodes → KnownOf nodes arguments known →
-      Trailed (length heads) heads next →
-      Formed nodes arguments known heads × StandsAlways nodes arguments heads × Trailed (nodeCount nodes) heads next
-  begun-classes {known} e k o = (s .formed known (k .counts), begun-always, rw e at o)
+      -- it has only ones
+      first-ones : first-entry ≡ replicate (leftCount known′ + (rightCount known′ + word known′ 577)) 1
+      first-ones =
+          let z : width - 0 ≡ leftCount known′ + (rightCount known′ + word known′ 577) = omega (arith, same-width, knows .width) in
+          ap (λ (j : ℕ). take j (replicate 80 1)) z ∙ take-replicate (leftCount known′ + (rightCount known′ + word known′ 577)) 80 1 (omega (arith, z, width-room))
 
--- the branch without digits
-module _ {nodes arguments left right : List ℕ} {labels : Labels} (g : Listable nodes arguments left right labels) (width : ℕ)
-    (w : width ≡ widthOf nodes arguments left right) where
-  -- The entry that it stands in.
-  abbrev first-entry : List ℕ
-  first-entry = take (width - 0) (replicate 80 1)
+      -- no right term is marked as paired
+      first-marks : marksIn known′ first-entry ≡ replicate (rightCount known′) 1
+      first-marks =
+          ap (λ (q : List ℕ). take (rightCount known′) (drop (leftCount known′) q)) first-ones
+          ∙ ap (take (rightCount known′)) (drop-replicate (leftCount known′) (rightCount known′ + word known′ 577) 1)
+          ∙ take-replicate (rightCount known′) (rightCount known′ + word known′ 577) 1 (omega arith)
 
-  -- there is room for it
-  pub width-room : {known : List ℕ} → KnownOf nodes arguments known → width ≤ 80
-  width-room k = omega (arith, g .left-few, g .right-few, variables-few k, w)
+      first-pairing : Pairing nodes arguments known′ heads []
+      first-pairing = record { standing = g .standing; partners = a .partners e [] (g .standing) }
 
-  module _ (room : width ≤ 80) where
-    -- no right term is marked as paired
-    first-marks : marksIn left right first-entry ≡ replicate (length right) 1
-    first-marks =
-        let c = length (variablesOf (nodesFrom nodes arguments)) in
-        let z : width - 0 ≡ length left + (length right + c) = omega (arith, w) in
-        let t : first-entry ≡ replicate (length left + (length right + c)) 1 = ap (λ (n : ℕ). take n (replicate 80 1)) z ∙ take-replicate (length left + (length right + c)) 80 1 (omega (arith, room, w)) in
-        ap (λ (e : List ℕ). take (length right) (drop (length left) e)) t
-        ∙ ap (take (length right)) (drop-replicate (length left) (length right + c) 1)
-        ∙ take-replicate (length right) (length right + c) 1 (omega arith)
+      -- what the walk needs to know
+      pub first-walking : (lent : List ℕ) → Walking nodes arguments known′ can heads next first-entry lent 0 1 0 0
+      first-walking lent =
+          record {
+            knows = knows;
+            completable = a .completable e;
+            formed = formed-kept (g .sides .knows) keeps (g .formed);
+            trailed = g .trailed;
+            pairs = [];
+            pairing = first-pairing;
+            branching = record {
+              size = part-long (replicate 80 1) width width-room ∙ sym same-width;
+              depth = omega arith;
+              small = λ j h. let q : word first-entry (leftCount known′ + j) ≡ 1 = ap (λ (x : List ℕ). word x (leftCount known′ + j)) first-ones ∙ getD-replicate {A = ℕ} (leftCount known′ + (rightCount known′ + word known′ 577)) (leftCount known′ + j) 1 0 (omega (arith, h)) in omega (arith, q);
+              set-of = rw first-marks (paired-first (rightCount known′));
+            };
+            positive = omega arith;
+            wide = omega (arith, same-width, n);
+            room = omega arith;
+          }
 
-    -- what the walk needs to know of it
-    pub first-walking : {known prepared heads next : List ℕ} → KnownOf nodes arguments known → MayPair nodes arguments left right (mayIn known) →
-        Formed nodes arguments known heads → StandsAlways nodes arguments heads → Trailed (nodeCount nodes) heads next →
-        Prepared nodes arguments known heads prepared → (lent : List ℕ) →
-        Walking nodes arguments left right labels known prepared heads next 0 1 (length right) 0 first-entry (replicate 64 0) lent 0
-    unfolding keyOfDigits
-    first-walking k m f s o y lent =
-        record {
-          listable = g;
-          known-right = k;
-          partners = m;
-          formed = f;
-          trailed = o;
-          ready = y;
-          standing = record { pairs = s .pairs; stands = s .stands; unifiers = λ σ. rw (paired-none left right []) ((λ u a b n. absurd (List·Memᴰ·not-nil n)), (λ u. s .same σ)) };
-          branching = record {
-            size = part-long (replicate 80 1) width room ∙ w;
-            depth = omega arith;
-            positive = λ j h. absurd (omega arith);
-            counted = sym (unpaired-ones (length right)) ∙ ap unpairedIn (sym first-marks);
-            keyed = refl;
-            weighed = refl;
-          };
-          remembers = remembers-none nodes arguments left right lent;
-          room = omega arith;
-        }
+      -- writes the entries of the sides
+      pub first-walked : {lent entry′ lent′ : List ℕ} {w : ℕ} → Walked nodes arguments known′ heads first-entry lent 0 1 0 entry′ lent′ w →
+          Writes (sideEntries nodes arguments left right k l) lent 0 lent′ w
+      first-walked y =
+          rw (sym (below-branch knows first-entry 0 (omega arith) []) ∙ same) at (y .writes [] first-pairing)
+        where
+          same : below (nodesFrom nodes arguments) (rightIn known′) (leftLabels known′) (rightLabels known′) (leftIn known′) [] [] (marksIn known′ first-entry) ≡ sideEntries nodes arguments left right k l
+          same =
+              rw (first-marks, left-kept (g .sides .knows) keeps, right-kept (g .sides .knows) keeps, keeps .same 579 (omega arith), keeps .same 580 (omega arith), keeps .same 581 (omega arith)) known-entries
 
-    -- writes all entries
-    pub first-walked : {memory lent entry′ memory′ lent′ : List ℕ} {r : Written} →
-        Walked nodes arguments left right labels 0 first-entry memory lent 0 entry′ memory′ lent′ r →
-        Writes (allEntries nodes arguments left right labels) lent 0 lent′ r
-    first-walked r = rw (first-marks, paired-none left right []) at (r .writes)
+      -- each entry has so many words
+      pub entries-wide : (x : List ℕ) → List·Memᴰ x (sideEntries nodes arguments left right k l) → length x ≡ width
+      entries-wide x m =
+          let r = length-replicate {A = ℕ} (length right) 1 in
+          let y = below-long (nodesFrom nodes arguments) right k l left [] [] (replicate (length right) 1) x m in
+          omega (arith, y, r, g .width-is, g .sides .width-is)
 
 -- an accepted table can be listed by its sections
-pub listable : (t : List ℕ) → Accepted t → {labels : Labels} → labels .left ≡ length (leftLabelsOf t) → labels .right ≡ length (rightLabelsOf t) → Listable (nodesOf t) (argumentsOf t) (leftTermsOf t) (rightTermsOf t) labels
+pub listable : (t : List ℕ) → Accepted t → {k l : ℕ} → k ≡ length (leftLabelsOf t) → l ≡ length (rightLabelsOf t) → Listable (nodesOf t) (argumentsOf t) (leftTermsOf t) (rightTermsOf t) k l
 listable t g k l =
     record {
       sections = sections-of t g;
@@ -300,9 +330,8 @@ listable t g k l =
     }
 
 -- and its entries are the complete listing
-pub all-entries : (t : List ℕ) → Accepted t → {labels : Labels} → labels .left ≡ length (leftLabelsOf t) →
-    labels .right ≡ length (rightLabelsOf t) →
-    allEntries (nodesOf t) (argumentsOf t) (leftTermsOf t) (rightTermsOf t) labels ≡ completeListing (problemOf t)
+pub all-entries : (t : List ℕ) → Accepted t → {k l : ℕ} → k ≡ length (leftLabelsOf t) → l ≡ length (rightLabelsOf t) →
+    sideEntries (nodesOf t) (argumentsOf t) (leftTermsOf t) (rightTermsOf t) k l ≡ completeListing (problemOf t)
 all-entries t g k l =
     let h = one-posed (halfAt t leftTerms) (nodesIn t) (posed t g) in
     rw (← nodes-of-sections t, k, l) (below-listing (nodesIn t) (well-formed t g) (halfAt t leftTerms) h) ∙ sym (complete-admissible (problemOf t))

@@ -1,589 +1,484 @@
 -- One step of the walk: what a branch writes, by its digits, and what holds of the branch after one digit more.
 -- The definition mirrors the code, so that each way through the code is one equation of it. Assumes nothing.
-use Prim.Native.Nat.{ℕ, suc, _+_, _-_, _*_, _^_, _≤_, _<_}
-use mathlib.Core.Bool.{Bool, true, false, _&&_, _||_, false≢true}
-use mathlib.Core.List.{List, [], _∷_, _++_}
-use mathlib.Core.Logic.{_⊎_, ⊎-elim, inl, inr, _↔_}
+use Prim.Native.Nat.{ℕ, zero, suc, _+_, _-_, _^_, _≤_, _<_}
+use mathlib.Core.Bool.{Bool, true, false, cond, false≢true}
+use mathlib.Core.List.{List, [], _∷_, _++_, List·Memᴰ}
+use mathlib.Core.Logic.{_↔_}
 use mathlib.Core.Path.{_≡_, refl, sym, ap, _∙_}
-use native.Mathlib.Nat.{mul-le-mul-right, pow-suc, pow-le-pow-right}
+use native.Mathlib.Nat.{pow-le-pow-right}
 use native.Mathlib.Numerals.{add-one}
 use native.Mathlib.Omega.{arith}
-use borrow.Author.Tests.{eqb-true, eqb-false}
+use borrow.Author.Tests.{eqb-true, eqb-false, eq-eqb, ne-eqb}
 use lib.Dec.{eqb}
-use lib.ListN.{length, take, drop, set, length-set, length-drop}
-use lib.Seq.{length-take-le, drop-cons, take-take, take-at, set-set, set-getD}
+use lib.ListN.{length, take, drop, set, length-set, length-drop, length-append}
+use lib.Seq.{length-take-le, drop-cons}
 use Rattle.table.specs.Limits.{maxTerms}
 use Rattle.table.specs.Layout.{word, nodeCount}
-use Rattle.table.proofs.BoolLaws.{and-true-left, and-true-right}
 use Rattle.unification.specs.Node.{Node, nodesFrom}
 use Rattle.unification.specs.Outcome.{unified}
-use Rattle.unification.specs.Computed.Classes.{classOf}
 use Rattle.unification.specs.Computed.Unifying.{outcome}
-use Rattle.unification.specs.Code.Given.{Inside}
+use Rattle.unification.specs.Computed.Variables.{variablesOf}
+use Rattle.unification.specs.Code.Given.{WellFormed, Inside}
 use Rattle.unification.proofs.SectionLaws.{is-node, sections-well-formed}
 use Rattle.unification.proofs.JoinedLaws.{inside-more}
-use Rattle.classes.specs.declared.Extended.{Extended}
-use Rattle.classes.specs.declared.Extended.the-variants.{Unified, Clash, Occurs}
-use Rattle.values.specs.Code.Prepared.{Prepared}
+use Rattle.values.proofs.LeastLaws.{least-long}
 use Rattle.nodes.specs.Code.Formed.{Formed, Stands}
-use Rattle.classes.specs.Code.Stands.{Extends, extended}
 use Rattle.nodes.specs.Code.Trail.{links, gone, Trailed, Since, ComesFrom}
-use Rattle.branches.specs.declared.Labels.{Labels}
-use Rattle.entries.specs.declared.Written.{Written}
-use Rattle.entries.specs.Code.Writing.{Writes, Remains}
-use Rattle.branches.specs.Code.Branch.{Listable, pairedBy, pairsIn, marksIn, FreeMark}
-use Rattle.branches.specs.Code.Memory.{keyOfDigits, slotOf, Remembers}
-use Rattle.branches.specs.Code.Partners.{stuck}
-use Rattle.branches.specs.Code.Known.{mayIn}
-use Rattle.branches.specs.Code.Walk.{over, ifUnified, onDigit, below, unpairedIn, hopeless, Branching, Walking, Joining, branchEntries, digitEntries, KeepsBranch, WritesBelow, Walked, WalkedJoined, Stepped, Turning}
-use Rattle.classes.proofs.AtOnceLaws.{together, formed-unified}
-use Rattle.values.proofs.PreparedLaws.{prepared-kept}
 use Rattle.classes.proofs.TrailLaws.{merges-trailed, merges-since, merges-back}
-use Rattle.branches.proofs.KnownLaws.{may-word}
-use Rattle.branches.proofs.MemoryLaws.{key-placed, key-paired, key-bound, pairable-inside}
-use Rattle.branches.proofs.PartnerLaws.{below-stuck, may-none}
-use Rattle.entries.proofs.WritingLaws.{remains-whole, remains-next, remains-full, remains-done, writes-none}
-use Rattle.branches.proofs.HopelessLaws.{below-hopeless, unpaired-set}
-use Rattle.branches.proofs.BelowLaws.{not-unified, same-more, same-unified}
-use Rattle.branches.proofs.BranchLaws.{digit-label, digit-taken, digit-pair, paired-placed, paired-more, set-digits, set-marks, mark-digits, mark-marks, mark-word, keeps-again, branch-room, marks-long, branching-kept, branching-next}
-use Rattle.branches.proofs.StringLaws.{branch-pairable}
+use Rattle.entries.specs.Code.Writing.{full, Writes, Remains, Block, repeated}
+use Rattle.entries.proofs.WritingLaws.{remains-whole, remains-next, remains-full, remains-done, writes-none, writes-room, writes-block, repeat-writes}
+use Rattle.branches.specs.Code.Known.{leftCount, rightCount, leftLabels, rightLabels, widthIn, leftIn, rightIn, listIn, KnownOf}
+use Rattle.branches.specs.Code.Ahead.{has, bitAt, completesFrom, MayPair, PairedSet}
+use Rattle.branches.specs.Code.Branch.{JoinsPair, IsOpen, may, struck, taken, lost}
+use Rattle.branches.specs.Code.Walk.{over, ifUnified, onDigit, below, stringEntries, Standing, Pairing, marksIn, Branching, KeepsBranch, digitEntries, digitsFrom, branchEntries, Walking, Walked, Stepped, SteppedFrom, Ending, Turning}
+use Rattle.branches.proofs.OverLaws.{over-none, digit-empty, digit-label, digit-taken, digit-pair, over-next, over-end, over-within}
+use Rattle.branches.proofs.BelowLaws.{below-long, not-unified, same-more, same-unified}
+use Rattle.branches.proofs.BlockLaws.{labels-repeated}
+use Rattle.branches.proofs.SetLaws.{paired-more, unpaired-not}
+use Rattle.branches.proofs.KnownLaws.{left-long, right-long, left-word, right-word}
+use Rattle.branches.proofs.CompleteLaws.{never-more, never-unified, below-cannot}
+use Rattle.branches.proofs.BranchLaws.{keeps-itself, keeps-again, branch-room, marks-long, digits-long, branching-kept, digits-next, branching-label, set-marks, pair-digits, pair-marks, free-mark, branching-pair, pair-back, label-back}
 
--- where left terms are still to go, the entries below a branch are those of each digit of the next one
-below-over : (ns : List Node) (left rs : List ℕ) (k l i : ℕ) (ds : List ℕ) (ps : List (ℕ × ℕ)) (marks : List ℕ) → i < length left → below ns rs k l (drop i left) ds ps marks ≡ over 1 (length rs + l) (λ d. onDigit ns rs (below ns rs k l (drop (i + 1) left)) ds ps marks (word left i) d)
-unfolding below
-below-over ns left rs k l i ds ps marks h =
-    let e : drop i left ≡ word left i ∷ drop (i + 1) left = drop-cons left i 0 h ∙ ap (λ (j : ℕ). word left i ∷ drop j left) (sym (add-one i)) in
-    ap (λ (ls : List ℕ). below ns rs k l ls ds ps marks) e
+-- there is a word for each variable
+pub variables-long : {nodes arguments known : List ℕ} → KnownOf nodes arguments known → length (variablesOf (nodesFrom nodes arguments)) ≡ word known 577
+unfolding listIn
+variables-long {nodes} {arguments} {known} k =
+    let d = length-drop 512 known in
+    let l : length (listIn known) ≡ word known 577 = length-take-le (word known 577) (drop 512 known) (omega (arith, d, k .size, k .list-few)) in
+    sym (least-long (nodesFrom nodes arguments)) ∙ sym (ap length (k .list)) ∙ l
 
--- one digit more
-over-next : (f : ℕ → List (List ℕ)) (d n : ℕ) → d < n → over d (n - d) f ≡ f d ++ over (d + 1) (n - (d + 1)) f
-unfolding over
-over-next f d n h =
-    let e : n - d ≡ suc (n - (d + 1)) = omega (arith, h) in
-    ap (λ (c : ℕ). over d c f) e ∙ ap (λ (j : ℕ). f d ++ over j (n - (d + 1)) f) (sym (add-one d))
-
--- none are left
-over-end : (f : ℕ → List (List ℕ)) (d n : ℕ) → n ≤ d → over d (n - d) f ≡ []
-unfolding over
-over-end f d n h =
-    let e : n - d ≡ 0 = omega (arith, h) in
-    ap (λ (c : ℕ). over d c f) e
-
--- Nothing is written.
-abbrev idle : ℕ → Written
-idle at = record { used = at; missed = 0 }
-
--- where there are no entries, nothing is to be done
-nothing-below : {es : List (List ℕ)} {nodes arguments left right : List ℕ} {i : ℕ} {entry memory lent : List ℕ} {at : ℕ} →
-    Remembers nodes arguments left right memory lent at → at ≤ length lent → es ≡ [] →
-    WritesBelow es nodes arguments left right i entry memory lent at entry memory lent (idle at)
-nothing-below {es} {entry = entry} {lent = lent} {at = at} r h e =
-    record {
-      writes = rw e (writes-none lent at h);
-      size = refl;
-      keeps = λ z. record { digits = refl; marks = refl };
-      remembers = λ z. r;
-    }
-
--- one of two tests of numbers is met
-either : (i n j m : ℕ) → eqb i n || eqb j m ≡ true → (i ≡ n) ⊎ (j ≡ m)
-either i n j m h = pick (eqb i n) refl (eqb j m) refl h
+-- what is below the branch after the first j left terms, by the terms that are left and as it stands in an entry
+pub below-branch : {nodes arguments known : List ℕ} → KnownOf nodes arguments known → (entry : List ℕ) (j : ℕ) → j ≤ leftCount known → (ps : List (ℕ × ℕ)) → below (nodesFrom nodes arguments) (rightIn known) (leftLabels known) (rightLabels known) (drop j (leftIn known)) (take j entry) ps (marksIn known entry) ≡ branchEntries nodes arguments known entry j 1 ps
+unfolding branchEntries below
+below-branch {nodes} {arguments} {known} k entry j h ps = pick (eqb j (leftCount known)) refl
   where
-    pick : (x : Bool) → eqb i n ≡ x → (y : Bool) → eqb j m ≡ y → x || y ≡ true → (i ≡ n) ⊎ (j ≡ m)
-    pick true p y q e = inl (eqb-true i n p)
-    pick false p true q e = inr (eqb-true j m q)
-    pick false p false q e = absurd (false≢true e)
+    goal : List ℕ → List (List ℕ)
+    goal ls = below (nodesFrom nodes arguments) (rightIn known) (leftLabels known) (rightLabels known) ls (take j entry) ps (marksIn known entry)
 
--- the pairs of a branch are of nodes
-branch-inside : {nodes arguments left right : List ℕ} {labels : Labels} {entry : List ℕ} {key weight unpaired i : ℕ} →
-    Listable nodes arguments left right labels → Branching nodes arguments left right entry key weight unpaired i →
-    Inside (nodesFrom nodes arguments) (pairsIn left right entry i)
-branch-inside {arguments = arguments} l g = pairable-inside arguments (branch-pairable l g)
+    none : (ls : List ℕ) → length ls ≡ 0 → goal ls ≡ stringEntries (nodesFrom nodes arguments) (leftLabels known) (take j entry) ps (marksIn known entry)
+    none [] e = refl
+    none (x ∷ ls) e = absurd (omega (arith, e))
 
-module _ {nodes arguments left right : List ℕ} {labels : Labels} {known prepared heads next : List ℕ} {key weight unpaired i : ℕ}
-    {entry memory lent : List ℕ} {at : ℕ}
-    (g : Walking nodes arguments left right labels known prepared heads next key weight unpaired i entry memory lent at) where
-  -- a hopeless branch has no entries
-  pub hopeless-walked : hopeless (labels .left) (labels .right) (length left - i) unpaired ≡ true →
-      Walked nodes arguments left right labels i entry memory lent at entry memory lent (idle at)
-  hopeless-walked h =
-      let e : hopeless (labels .left) (labels .right) (length (drop i left)) (unpairedIn (marksIn left right entry)) ≡ true =
-      rw (length-drop i left, ← g .branching .counted) h in
-      nothing-below (g .remembers) (g .room)
-      (below-hopeless (nodesFrom nodes arguments) right (labels .left) (labels .right) (drop i left) (take i entry) (pairsIn left right entry i) (marksIn left right entry) e)
+    pick : (b : Bool) → eqb j (leftCount known) ≡ b → goal (drop j (leftIn known)) ≡ cond b (stringEntries (nodesFrom nodes arguments) (leftLabels known) (take j entry) ps (marksIn known entry)) (digitsFrom nodes arguments known entry j ps 1)
+    pick true e =
+        let x = length-drop j (leftIn known) in
+        let y = left-long k in
+        let z = eqb-true j (leftCount known) e in
+        none (drop j (leftIn known)) (omega (arith, x, y, z))
+    pick false e =
+        let z = eqb-false j (leftCount known) e in
+        let y = left-long k in
+        let s : drop j (leftIn known) ≡ word (leftIn known) j ∷ drop (j + 1) (leftIn known) = drop-cons (leftIn known) j 0 (omega (arith, z, h, y)) ∙ ap (λ (q : ℕ). word (leftIn known) j ∷ drop q (leftIn known)) (sym (add-one j)) in
+        let c : length (rightIn known) + rightLabels known ≡ suc (rightCount known + rightLabels known) - 1 = omega (arith, right-long k) in
+        ap goal s ∙ ap (λ (q : ℕ). over 1 q (λ d. digitEntries nodes arguments known entry j ps d)) c
 
-  -- nor has one with a term that must be paired and has no partner
-  pub stuck-walked : stuck (labels .left) (labels .right) (mayIn known) i (length left) (marksIn left right entry) ≡ true →
-      Walked nodes arguments left right labels i entry memory lent at entry memory lent (idle at)
-  stuck-walked s =
-      nothing-below (g .remembers) (g .room)
-      (below-stuck nodes arguments left right (mayIn known) labels i (take i entry) (pairsIn left right entry i) (marksIn left right entry) (g .listable) (g .partners) (g .branching .depth) (marks-long (g .branching)) (branch-inside (g .listable) (g .branching)) s)
+-- where left terms are still to go, the entries below a branch are those of the digits of the next one
+branch-digits : (nodes arguments known entry : List ℕ) (i least : ℕ) (ps : List (ℕ × ℕ)) → i < leftCount known → branchEntries nodes arguments known entry i least ps ≡ digitsFrom nodes arguments known entry i ps least
+unfolding branchEntries
+branch-digits nodes arguments known entry i least ps h = rw (ne-eqb i (leftCount known) (λ e. omega (arith, e, h)))
 
-  -- what is known of a branch stands where it is kept
-  walking-kept : {entry′ memory′ lent′ : List ℕ} {at′ : ℕ} → length entry′ ≡ length entry → KeepsBranch left right i entry entry′ →
-      Remembers nodes arguments left right memory′ lent′ at′ → at′ ≤ length lent′ →
-      Walking nodes arguments left right labels known prepared heads next key weight unpaired i entry′ memory′ lent′ at′
-  walking-kept l k r h =
+module _ {nodes arguments known can heads next entry out : List ℕ} {i least paired at : ℕ}
+    (g : Walking nodes arguments known can heads next entry out i least paired at) where
+  -- every left term has its digit
+  pub all-placed : i ≡ leftCount known → Ending nodes arguments known heads entry out paired at
+  all-placed e =
       record {
-        listable = g .listable;
-        known-right = g .known-right;
-        partners = g .partners;
+        knows = g .knows;
         formed = g .formed;
-        trailed = g .trailed;
-        ready = g .ready;
-        standing = record { pairs = g .standing .pairs; stands = g .standing .stands; unifiers = λ σ. rw (k .digits) (g .standing .unifiers σ) };
-        branching = branching-kept (g .branching) l k;
-        remembers = r;
-        room = h;
-      }
-
-  -- every left term has its digit, or every right term is paired
-  pub ending : eqb i (length left) || eqb unpaired 0 ≡ true → (i ≡ length left) ⊎ (unpaired ≡ 0)
-  ending h = either i (length left) unpaired 0 h
-
-  -- or there is a next left term
-  pub going-on : eqb i (length left) || eqb unpaired 0 ≡ false → i < length left
-  going-on h = pick (eqb i (length left)) refl h
-    where
-      pick : (x : Bool) → eqb i (length left) ≡ x → x || eqb unpaired 0 ≡ false → i < length left
-      pick true p e = absurd (false≢true (sym e))
-      pick false p e = let n = eqb-false i (length left) p in omega (arith, n, g .branching .depth)
-
-  -- the next weight is in range
-  pub weight-room : i < length left → weight * 16 ≤ 4294967296
-  weight-room h =
-      let p : 16 ^ suc i ≤ 16 ^ 8 = pow-le-pow-right {n = 16} (omega arith) {i = suc i} {j = 8} (omega (arith, h, g .listable .left-few)) in
-      let e : weight * 16 ≡ 16 ^ suc i = ap (λ (x : ℕ). x * 16) (g .branching .weighed) ∙ sym (pow-suc 16 i) in
-      omega (arith, p, e)
-
-  -- and so is the next key
-  key-small : key < weight
-  key-small =
-      let b = branch-room (g .branching) in
-      let l : length (take i entry) ≡ i = length-take-le i entry (omega (arith, b, g .branching .depth)) in
-      let k = key-bound (length right) (take i entry) (g .listable .right-few) in
-      let w : weight ≡ 16 ^ length (take i entry) = g .branching .weighed ∙ ap (λ (x : ℕ). 16 ^ x) (sym l) in
-      omega (arith, k, w, g .branching .keyed)
-
-  -- so is what a pair adds to the key
-  pub pair-room : i < length left → (d : ℕ) → d ≤ length right → d * weight ≤ 2147483648
-  pair-room h d l =
-      let m : d * weight ≤ 8 * weight = mul-le-mul-right weight (omega (arith, l, g .listable .right-few)) in
-      omega (arith, m, weight-room h)
-
-  -- and the key itself
-  pub key-room : i < length left → key ≤ 268435456
-  key-room h = omega (arith, key-small, weight-room h)
-
-  -- the next left term has digit d
-  module _ (h : i < length left) {d : ℕ} (p : 0 < d) where
-    digits-room : length left ≤ length entry
-    digits-room = omega (arith, branch-room (g .branching))
-
-    -- it comes behind the digits before it
-    digits-next : take (i + 1) (set entry i d) ≡ take i entry ++ d ∷ []
-    digits-next = set-digits left right entry i d h digits-room
-
-    -- the digits before it are the same where those up to it are
-    digits-before : (entry′ : List ℕ) → take (i + 1) entry′ ≡ take i entry ++ d ∷ [] → take i entry′ ≡ take i entry
-    digits-before entry′ e =
-        sym (take-take i (i + 1) entry′ (omega arith)) ∙ ap (take i) e ∙ take-at (take i entry) (d ∷ []) i (length-take-le i entry (omega (arith, digits-room, h)))
-
-    -- a left term put in a label
-    module _ (l : length right < d) where
-      -- it pairs nothing
-      pairs-placed : pairsIn left right (set entry i d) (i + 1) ≡ pairsIn left right entry i
-      pairs-placed = rw digits-next (paired-placed left right (take i entry) d [] l)
-
-      -- the walk goes on with it
-      pub placed-next : {entry₁ : List ℕ} → entry₁ ≡ set entry i d →
-          Walking nodes arguments left right labels known prepared heads next key (weight * 16) unpaired (i + 1) entry₁ memory lent at
-      placed-next z =
-          rw z
-          record {
-            listable = g .listable;
-            known-right = g .known-right;
-            partners = g .partners;
-            formed = g .formed;
-            trailed = g .trailed;
-            ready = g .ready;
-            standing = record { pairs = g .standing .pairs; stands = g .standing .stands; unifiers = λ σ. rw pairs-placed (g .standing .unifiers σ) };
-            branching = branching-next (g .branching) h p (length-set entry i d) digits-next (g .branching .keyed ∙ sym (key-placed (length right) (take i entry) d l)) (g .branching .counted ∙ ap unpairedIn (sym (set-marks left right entry i d h)));
-            remembers = g .remembers;
-            room = g .room;
-          }
-
-      -- and its entries are those below it
-      placed-entries :
-          digitEntries nodes arguments left right labels entry i d ≡ branchEntries nodes arguments left right labels (set entry i d) (i + 1)
-      placed-entries =
-          digit-label (nodesFrom nodes arguments) right
-          (below (nodesFrom nodes arguments) right (labels .left) (labels .right) (drop (i + 1) left)) (take i entry)
-          (pairsIn left right entry i) (marksIn left right entry) (word left i) d l
-          ∙ rw (pairs-placed, digits-next, set-marks left right entry i d h) refl
-
-      -- so that they are written
-      pub placed-stepped : {entry₁ entry′ memory′ lent′ : List ℕ} {w : Written} → entry₁ ≡ set entry i d →
-          Walked nodes arguments left right labels (i + 1) entry₁ memory lent at entry′ memory′ lent′ w →
-          Stepped nodes arguments left right labels i d entry memory lent at entry′ memory′ lent′ w
-      placed-stepped {entry₁} {entry′} z y =
-          record {
-            writes = rw (placed-entries, ← z) (y .writes);
-            size = y .size ∙ ap length z ∙ length-set entry i d;
-            keeps = λ f. record { digits = digits-before entry′ (y .keeps f .digits ∙ ap (take (i + 1)) z ∙ digits-next); marks = y .keeps f .marks ∙ ap (marksIn left right) z ∙ set-marks left right entry i d h };
-            remembers = y .remembers;
-          }
-
-    -- a left term paired with the right term that the digit counts to, by its mark
-    module _ (l : d ≤ length right) {mark : ℕ} (f : FreeMark left known entry i d mark) where
-      -- The place of the mark.
-      abbrev q : ℕ
-      q = length left + d - 1
-
-      -- The place of the mark of the two.
-      abbrev m : ℕ
-      m = 256 + (maxTerms * i + (d - 1))
-
-      -- it is paired already, or the two have no common value
-      pub refused-stepped : mark ≡ 0 → Stepped nodes arguments left right labels i d entry memory lent at entry memory lent (idle at)
-      refused-stepped t = nothing-below (g .remembers) (g .room) (pick (eqb (word entry q) 0) refl (eqb (word known m) 0) refl (f .none t))
-        where
-          mark-known : word (mayIn known) (maxTerms * i + (d - 1)) ≡ word known (256 + (maxTerms * i + (d - 1)))
-          mark-known = may-word known (maxTerms * i + (d - 1)) (omega (arith, h, p, l, g .listable .left-few, g .listable .right-few))
-
-          pick : (x : Bool) → eqb (word entry q) 0 ≡ x → (y : Bool) → eqb (word known m) 0 ≡ y → x || y ≡ true →
-              digitEntries nodes arguments left right labels entry i d ≡ []
-          pick true z y u v =
-              digit-taken (nodesFrom nodes arguments) right
-              (below (nodesFrom nodes arguments) right (labels .left) (labels .right) (drop (i + 1) left)) (take i entry)
-              (pairsIn left right entry i) (marksIn left right entry) (word left i) d l
-              (mark-word left right entry q d refl p l ∙ eqb-true (word entry q) 0 z)
-          pick false z true u v =
-              may-none nodes arguments left right (mayIn known) labels i d
-              (below (nodesFrom nodes arguments) right (labels .left) (labels .right) (drop (i + 1) left)) (take i entry)
-              (pairsIn left right entry i) (marksIn left right entry) (g .listable) (g .partners) h p l
-              (branch-inside (g .listable) (g .branching)) (mark-known ∙ eqb-true (word known m) 0 u)
-          pick false z false u v = absurd (false≢true v)
-
-      module _ (n : mark ≡ 0 → ⊥) where
-        -- the mark is not 0, so the right term is not paired
-        unmarked : word (marksIn left right entry) (d - 1) ≡ 0 → ⊥
-        unmarked z = n (f .some n ∙ sym (mark-word left right entry q d refl p l) ∙ z)
-
-        -- The entry with the digit, in which the right term is marked as paired.
-        abbrev paired : List ℕ
-        paired = set (set entry i d) q 0
-
-        -- the digit comes behind those before it
-        paired-digits : take (i + 1) paired ≡ take i entry ++ d ∷ []
-        paired-digits = mark-digits left right (set entry i d) q d refl p l (i + 1) 0 (omega (arith, h)) ∙ digits-next
-
-        -- the right term is marked
-        paired-marks : marksIn left right paired ≡ set (marksIn left right entry) (d - 1) 0
-        paired-marks = mark-marks left right (set entry i d) q d refl p l 0 ∙ ap (λ (zs : List ℕ). set zs (d - 1) 0) (set-marks left right entry i d h)
-
-        -- the entry is as long as before
-        paired-long : length paired ≡ length entry
-        paired-long = length-set (set entry i d) q 0 ∙ length-set entry i d
-
-        -- one right term less is unpaired
-        unpaired-next : unpaired ≡ suc (unpairedIn (marksIn left right paired))
-        unpaired-next = g .branching .counted ∙ unpaired-set (marksIn left right entry) (d - 1) unmarked ∙ ap (λ (zs : List ℕ). suc (unpairedIn zs)) (sym paired-marks)
-
-        -- there is one, so that one can be taken off
-        pub unpaired-some : 0 < unpaired
-        unpaired-some = omega (arith, unpaired-next)
-
-        -- the pairs before it are the same
-        pairs-before : pairsIn left right paired i ≡ pairsIn left right entry i
-        pairs-before = ap (λ (ds : List ℕ). pairedBy left right ds []) (digits-before paired paired-digits)
-
-        -- there are i of them
-        digits-long : length (take i entry) ≡ i
-        digits-long = length-take-le i entry (omega (arith, digits-room, h))
-
-        -- and its pair comes in front
-        pairs-next : pairsIn left right paired (i + 1) ≡ (word left i, word right (d - 1)) ∷ pairsIn left right entry i
-        pairs-next =
-            ap (λ (ds : List ℕ). pairedBy left right ds []) paired-digits
-            ∙ paired-more left right (take i entry) d [] (omega (arith, digits-long, h)) l
-            ∙ ap (λ (j : ℕ). (word left j, word right (d - 1)) ∷ pairsIn left right entry i) digits-long
-
-        module _ {entry₁ : List ℕ} (z : entry₁ ≡ paired) where
-          -- the pair is to be joined to the classes
-          pub joining :
-              Joining nodes arguments left right labels known prepared heads next (key + d * weight) (weight * 16) (unpaired - 1) i (word left i)
-              (word right (d - 1)) entry₁ memory lent at
-          joining =
-              rw z
-              record {
-                listable = g .listable;
-                known-right = g .known-right;
-                partners = g .partners;
-                formed = g .formed;
-                trailed = g .trailed;
-                ready = g .ready;
-                standing = record { pairs = g .standing .pairs; stands = g .standing .stands; unifiers = λ σ. rw pairs-before (g .standing .unifiers σ) };
-                branching = branching-next (g .branching) h p paired-long paired-digits keyed (omega (arith, unpaired-next));
-                pair = rw (pairs-next, pairs-before) refl;
-                first = g .listable .left-nodes i h;
-                second = g .listable .right-nodes (d - 1) (omega (arith, p, l));
-                remembers = g .remembers;
-                room = g .room;
-              }
-            where
-              keyed : key + d * weight ≡ keyOfDigits (length right) (take i entry ++ d ∷ [])
-              keyed = rw (key-paired (length right) (take i entry) d l, digits-long, ← g .branching .weighed, ← g .branching .keyed) refl
-
-          -- its entries are those below it, if it can be
-          joined-entries :
-              digitEntries nodes arguments left right labels entry i d ≡ ifUnified (outcome (nodesFrom nodes arguments) ((word left i, word right (d - 1)) ∷ pairsIn left right paired i)) (branchEntries nodes arguments left right labels paired (i + 1))
-          joined-entries =
-              digit-pair (nodesFrom nodes arguments) right
-              (below (nodesFrom nodes arguments) right (labels .left) (labels .right) (drop (i + 1) left)) (take i entry)
-              (pairsIn left right entry i) (marksIn left right entry) (word left i) d l unmarked
-              ∙ rw (pairs-next, pairs-before, paired-digits, paired-marks) refl
-
-          module _ {entry′ memory′ lent′ : List ℕ} {w : Written}
-              (r : WalkedJoined nodes arguments left right labels i (word left i) (word right (d - 1)) entry₁ memory lent at entry′ memory′ lent′ w)
-            where
-              -- the place of the mark is in what is left of the entry
-              pub mark-inside : length left + d ≤ length entry′
-              mark-inside = omega (arith, r .size, ap length z, paired-long, branch-room (g .branching), p, l)
-
-              -- the mark is put back
-              pub joined-stepped : {entry″ : List ℕ} → entry″ ≡ set entry′ q mark →
-                  Stepped nodes arguments left right labels i d entry memory lent at entry″ memory′ lent′ w
-              joined-stepped {entry″} u =
-                  record {
-                    writes = rw (joined-entries, ← z) (r .writes);
-                    size = ap length u ∙ length-set entry′ q mark ∙ r .size ∙ ap length z ∙ paired-long;
-                    keeps = λ k. record { digits = ap (take i) u ∙ mark-digits left right entry′ q d refl p l i mark (omega (arith, h)) ∙ digits-before entry′ (r .keeps k .digits ∙ ap (take (i + 1)) z ∙ paired-digits); marks = ap (marksIn left right) u ∙ marks k };
-                    remembers = r .remembers;
-                  }
-                where
-                  marks : w .missed ≡ 0 → marksIn left right (set entry′ q mark) ≡ marksIn left right entry
-                  marks k =
-                      mark-marks left right entry′ q d refl p l mark
-                      ∙ ap (λ (zs : List ℕ). set zs (d - 1) mark) (r .keeps k .marks ∙ ap (marksIn left right) z ∙ paired-marks)
-                      ∙ set-set (marksIn left right entry) (d - 1) 0 mark
-                      ∙ ap (set (marksIn left right entry) (d - 1)) (f .some n ∙ sym (mark-word left right entry q d refl p l))
-                      ∙ set-getD (marksIn left right entry) (d - 1) 0
-
-  -- before the first digit
-  pub turning-first : i < length left → Turning nodes arguments left right labels i entry lent at 1 entry memory lent at
-  turning-first h =
-      let q : suc (length right + labels .right) - 1 ≡ length right + labels .right = omega arith in
-      record {
-        first = omega arith;
-        last = omega arith;
-        size = refl;
-        keeps = record { digits = refl; marks = refl };
-        remembers = g .remembers;
-        remains =
-            rw
-            (q, ← below-over (nodesFrom nodes arguments) left right (labels .left) (labels .right) i (take i entry) (pairsIn left right entry i) (marksIn left right entry) h)
-            (remains-whole (branchEntries nodes arguments left right labels entry i) lent at (g .room));
-      }
-
--- the digits of the next left term have been gone through up to d
-module _ {nodes arguments left right : List ℕ} {labels : Labels} {i : ℕ} {entry₀ lent₀ : List ℕ} {at₀ d : ℕ} {entry memory lent : List ℕ}
-    {at : ℕ} (t : Turning nodes arguments left right labels i entry₀ lent₀ at₀ d entry memory lent at) where
-  -- the branch is kept, so that the entries of a digit are the same
-  digit-kept : digitEntries nodes arguments left right labels entry i d ≡ digitEntries nodes arguments left right labels entry₀ i d
-  digit-kept = rw (t .keeps .digits, t .keeps .marks) refl
-
-  -- what is known of the branch still stands, where the classes are the same
-  pub turning-walking : {known prepared heads next heads′ next′ : List ℕ} {key weight unpaired : ℕ} {memory₀ : List ℕ} → heads′ ≡ heads →
-      next′ ≡ next → Walking nodes arguments left right labels known prepared heads next key weight unpaired i entry₀ memory₀ lent₀ at₀ →
-      Walking nodes arguments left right labels known prepared heads′ next′ key weight unpaired i entry memory lent at
-  turning-walking p q g = rw (p, q) (walking-kept g (t .size) (t .keeps) (t .remembers) (t .remains .within))
-
-  module _ (h : d ≤ length right + labels .right) where
-    next-remains :
-        Remains (branchEntries nodes arguments left right labels entry₀ i) lent₀ at₀
-        (digitEntries nodes arguments left right labels entry₀ i d ++ over (d + 1) (suc (length right + labels .right) - (d + 1)) (λ e. digitEntries nodes arguments left right labels entry₀ i e))
-        lent at
-    next-remains =
-        rw
-        (over-next (λ e. digitEntries nodes arguments left right labels entry₀ i e) d (suc (length right + labels .right)) (omega (arith, h))) at (t .remains)
-
-    module _ {entry′ memory′ lent′ : List ℕ} {w : Written}
-        (y : Stepped nodes arguments left right labels i d entry memory lent at entry′ memory′ lent′ w) where
-      stepped : Writes (digitEntries nodes arguments left right labels entry₀ i d) lent at lent′ w
-      stepped = rw digit-kept at (y .writes)
-
-      -- after one digit more
-      pub turning-next : w .missed ≡ 0 → Turning nodes arguments left right labels i entry₀ lent₀ at₀ (d + 1) entry′ memory′ lent′ (w .used)
-      turning-next f =
-          record {
-            first = omega arith;
-            last = omega (arith, h);
-            size = y .size ∙ t .size;
-            keeps = keeps-again (t .keeps) (y .keeps f);
-            remembers = y .remembers f;
-            remains = remains-next (digitEntries nodes arguments left right labels entry₀ i d) next-remains lent′ w stepped f;
-          }
-
-      -- where an entry does not fit
-      pub turning-full : (memory₀ : List ℕ) → (w .missed ≡ 0 → ⊥) →
-          Walked nodes arguments left right labels i entry₀ memory₀ lent₀ at₀ entry′ memory′ lent′ w
-      turning-full memory₀ f =
-          record {
-            writes =
-                remains-full (digitEntries nodes arguments left right labels entry₀ i d)
-                (over (d + 1) (suc (length right + labels .right) - (d + 1)) (λ e. digitEntries nodes arguments left right labels entry₀ i e))
-                next-remains lent′ w stepped f;
-            size = y .size ∙ t .size;
-            keeps = λ z. absurd (f z);
-            remembers = λ z. absurd (f z);
-          }
-
-  -- after the last digit
-  pub turning-done : (memory₀ : List ℕ) → length right + labels .right < d →
-      Walked nodes arguments left right labels i entry₀ memory₀ lent₀ at₀ entry memory lent (idle at)
-  turning-done memory₀ h =
-      record {
-        writes =
-            remains-done
-            (rw (over-end (λ e. digitEntries nodes arguments left right labels entry₀ i e) d (suc (length right + labels .right)) (omega (arith, h))) at (t .remains));
-        size = t .size;
-        keeps = λ z. t .keeps;
-        remembers = λ z. t .remembers;
-      }
-
--- a pair is to be joined to the classes
-module _ {nodes arguments left right : List ℕ} {labels : Labels} {known prepared heads next : List ℕ} {key weight unpaired i a b : ℕ}
-    {entry memory lent : List ℕ} {at : ℕ}
-    (g : Joining nodes arguments left right labels known prepared heads next key weight unpaired i a b entry memory lent at) where
-  -- it fails or not, whichever of the two lists it comes to
-  joined-unified :
-      outcome (nodesFrom nodes arguments) ((a, b) ∷ g .standing .pairs) ≡ unified ↔
-      (outcome (nodesFrom nodes arguments) ((a, b) ∷ pairsIn left right entry i) ≡ unified)
-  joined-unified =
-      let x = is-node nodes arguments a (g .first) in
-      let y = is-node nodes arguments b (g .second) in
-      same-unified (nodesFrom nodes arguments) (sections-well-formed nodes arguments (g .listable .sections)) ((a, b) ∷ g .standing .pairs)
-      ((a, b) ∷ pairsIn left right entry i) (inside-more (nodesFrom nodes arguments) a b (g .standing .pairs) x y (g .standing .stands .inside))
-      (rw (g .pair) at (branch-inside (g .listable) (g .branching)))
-      (same-more (nodesFrom nodes arguments) (a, b) (g .standing .pairs) (pairsIn left right entry i) (g .standing .unifiers))
-
-  -- where it does not, it is walked on with
-  walking-on : {heads′ next′ : List ℕ} → Formed nodes arguments known heads′ → Trailed (nodeCount nodes) heads′ next′ →
-      Prepared nodes arguments known heads′ prepared → Stands nodes arguments heads′ ((a, b) ∷ g .standing .pairs) →
-      Walking nodes arguments left right labels known prepared heads′ next′ key weight unpaired (i + 1) entry memory lent at
-  walking-on f o y s =
-      record {
-        listable = g .listable;
-        known-right = g .known-right;
-        partners = g .partners;
-        formed = f;
-        trailed = o;
-        ready = y;
-        standing = record { pairs = (a, b) ∷ g .standing .pairs; stands = s; unifiers = λ σ. rw (g .pair) (same-more (nodesFrom nodes arguments) (a, b) (g .standing .pairs) (pairsIn left right entry i) (g .standing .unifiers) σ) };
-        branching = g .branching;
-        remembers = g .remembers;
+        pairs = g .pairs;
+        standing = g .pairing .standing;
+        branching = rw e at (g .branching);
+        wide = g .wide;
         room = g .room;
       }
 
-  -- and its entries are those below it
-  walked-on : outcome (nodesFrom nodes arguments) ((a, b) ∷ g .standing .pairs) ≡ unified → {entry′ memory′ lent′ : List ℕ} {w : Written} →
-      Walked nodes arguments left right labels (i + 1) entry memory lent at entry′ memory′ lent′ w →
-      WalkedJoined nodes arguments left right labels i a b entry memory lent at entry′ memory′ lent′ w
-  unfolding ifUnified
-  walked-on u r = rw (joined-unified .0 u) r
+  -- so that the walk has what its end has
+  pub placed-walked : i ≡ leftCount known → {entry′ out′ : List ℕ} {r : ℕ} →
+      ((l : ℕ) → Walked nodes arguments known heads entry out (leftCount known) l at entry′ out′ r) →
+      Walked nodes arguments known heads entry out i least at entry′ out′ r
+  placed-walked e w = rw e (w least)
 
-  -- binding words are kept for the pairs, and nothing else is to be decided: x is whether they are kept
-  module _ {x : Bool} (y : x ≡ eqb (word memory (slotOf key)) (key + 1)) (e : (eqb unpaired 0 || eqb (i + 1) (length left)) && x ≡ true) where
-    -- every left term has its digit with the pair, or every right term is paired
-    pub kept-ending : (i + 1 ≡ length left) ⊎ (unpaired ≡ 0)
-    kept-ending = ⊎-elim inr inl (either unpaired 0 (i + 1) (length left) (and-true-left (eqb unpaired 0 || eqb (i + 1) (length left)) x e))
-
-    -- the key stands in its slot
-    pub kept-key : word memory (slotOf key) ≡ key + 1
-    kept-key = eqb-true (word memory (slotOf key)) (key + 1) (sym y ∙ and-true-right (eqb unpaired 0 || eqb (i + 1) (length left)) x e)
-
-  -- pairs for which they are kept have a unifier, so that the entries of the pair are those below it
-  pub kept-joined : outcome (nodesFrom nodes arguments) (pairsIn left right entry (i + 1)) ≡ unified →
-      {entry′ memory′ lent′ : List ℕ} {w : Written} →
-      Walked nodes arguments left right labels (i + 1) entry memory lent at entry′ memory′ lent′ w →
-      WalkedJoined nodes arguments left right labels i a b entry memory lent at entry′ memory′ lent′ w
-  unfolding ifUnified
-  kept-joined u r = rw (sym (ap (outcome (nodesFrom nodes arguments)) (g .pair)) ∙ u) r
+  -- or there is a next one
+  pub going-on : (i ≡ leftCount known → ⊥) → i < leftCount known
+  going-on n = omega (arith, n, g .branching .depth)
 
   -- how many heads have gone can be read
   pub mark-room : 256 < length next
   mark-room = omega (arith, g .trailed .size)
 
-  -- the two nodes have one head already: x is whether they have
-  module _ {x : Bool} (y : x ≡ eqb (word heads a) (word heads b)) (o : x ≡ true) where
-    -- by the test
-    e : classOf heads a ≡ classOf heads b
-    e = eqb-true (word heads a) (word heads b) (sym y ∙ o)
+  -- the nodes are well formed
+  formed-nodes : WellFormed (nodesFrom nodes arguments)
+  formed-nodes = sections-well-formed nodes arguments (g .knows .sections)
 
-    -- the classes stand for the pair as well
-    at-once : Stands nodes arguments heads ((a, b) ∷ g .standing .pairs)
-    at-once =
-        together nodes arguments known heads (g .listable .sections) (g .formed) a b (g .first) (g .second) e (g .standing .pairs)
-        (g .standing .stands)
+  -- sets of right terms are small
+  pub paired-small : paired < 256
+  paired-small =
+      let w : paired < 2 ^ rightCount known = rw (marks-long (g .knows) (g .branching)) at (g .branching .set-of .within) in
+      let q : 2 ^ rightCount known ≤ 2 ^ 8 = pow-le-pow-right {n = 2} (omega arith) {i = rightCount known} {j = 8} (g .knows .right-few) in
+      omega (arith, w, q)
 
-    -- so the walk goes on with them
-    pub same-next : Walking nodes arguments left right labels known prepared heads next key weight unpaired (i + 1) entry memory lent at
-    same-next = walking-on (g .formed) (g .trailed) (g .ready) at-once
+  module _ (h : i < leftCount known) where
+    -- where the digit has no entry, nothing is to be done
+    stepped-none : (d : ℕ) → ((ps : List (ℕ × ℕ)) → Pairing nodes arguments known heads ps → digitEntries nodes arguments known entry i ps d ≡ []) →
+        Stepped nodes arguments known heads entry out i d at entry out at
+    stepped-none d e = record { writes = λ ps p. rw (e ps p) (writes-none out at (g .room)); keeps = keeps-itself }
 
-    -- and the pair has the entries below it
-    pub same-joined : {entry′ memory′ lent′ : List ℕ} {w : Written} →
-        Walked nodes arguments left right labels (i + 1) entry memory lent at entry′ memory′ lent′ w →
-        WalkedJoined nodes arguments left right labels i a b entry memory lent at entry′ memory′ lent′ w
-    same-joined r =
-        walked-on
-        (formed-unified nodes arguments known heads (g .listable .sections) (g .formed) (g .known-right .counts) ((a, b) ∷ g .standing .pairs) at-once)
-        r
+    -- where a bit is 0, the left terms after this one cannot be placed
+    bit-lost : (s : ℕ) → s < 2 ^ rightCount known → bitAt can i s ≡ false → completesFrom known (i + 1) s ≡ false
+    bit-lost s q e = pick (completesFrom known (i + 1) s) refl
+      where
+        pick : (b : Bool) → completesFrom known (i + 1) s ≡ b → b ≡ false
+        pick true f = absurd (false≢true (sym e ∙ g .completable .bits i s h q f))
+        pick false f = refl
 
-  -- the classes are extended
-  module _ {r : Extended} {heads′ next′ : List ℕ} (x : Extends nodes arguments known heads next a b r heads′ next′) where
-    -- the answer is what the pairs come to
-    came-to : outcome (nodesFrom nodes arguments) ((a, b) ∷ g .standing .pairs) ≡ extended r
-    came-to = sym (x .answers (g .standing .pairs) (g .standing .stands))
+    -- digit `least` counts to a right term
+    module _ (l : least ≤ rightCount known) where
+      p : 0 < least
+      p = g .positive
 
-    -- a pair that fails has no entries below it, and the classes are as before
-    failed-joined : (extended r ≡ unified → ⊥) →
-        WalkedJoined nodes arguments left right labels i a b entry memory lent at entry memory lent (idle at) × ((heads′ ≡ heads) × (next′ ≡ next))
-    failed-joined f = (nothing-below (g .remembers) (g .room) (not-unified _ _ (λ z. f (sym came-to ∙ joined-unified .1 z))), x .failed (λ z. f (ap extended z)))
+      -- The two terms.
+      abbrev a : ℕ
+      a = word known (584 + i)
 
-    -- a clash
-    pub clash-joined : r ≡ Clash →
-        WalkedJoined nodes arguments left right labels i a b entry memory lent at entry memory lent (idle at) × ((heads′ ≡ heads) × (next′ ≡ next))
-    clash-joined e = failed-joined (λ z. let y = ap extended e in let o : _≡_ {A = ℕ} 0 1 = cc in omega arith)
+      abbrev b : ℕ
+      b = word known (592 + (least - 1))
 
-    -- a variable in a term that holds it
-    pub occurs-joined : r ≡ Occurs →
-        WalkedJoined nodes arguments left right labels i a b entry memory lent at entry memory lent (idle at) × ((heads′ ≡ heads) × (next′ ≡ next))
-    occurs-joined e = failed-joined (λ z. let y = ap extended e in let o : _≡_ {A = ℕ} 0 1 = cc in omega arith)
+      a-is : word (leftIn known) i ≡ a
+      a-is = left-word known i h
 
-    module _ (e : r ≡ Unified) where
-      -- the walk goes on with the extended classes
-      pub joined-next : Walking nodes arguments left right labels known prepared heads′ next′ key weight unpaired (i + 1) entry memory lent at
-      joined-next =
-          walking-on
-          (x .formed e (g .standing .pairs) (g .standing .stands))
-          (merges-trailed (g .trailed) (x .merges))
-          (prepared-kept nodes arguments known heads heads′ prepared (g .listable .sections) (g .known-right .counts) (x .kept e) (g .ready))
-          (x .stands e (g .standing .pairs) (g .standing .stands))
+      b-is : word (rightIn known) (least - 1) ≡ b
+      b-is = right-word known (least - 1) (omega (arith, p, l))
 
-      -- and the pair has the entries below it
-      pub unified-joined : {entry′ memory′ lent′ : List ℕ} {w : Written} →
-          Walked nodes arguments left right labels (i + 1) entry memory lent at entry′ memory′ lent′ w →
-          WalkedJoined nodes arguments left right labels i a b entry memory lent at entry′ memory′ lent′ w
-      unified-joined y = walked-on (came-to ∙ ap extended e) y
+      a-node : a < length (nodesFrom nodes arguments)
+      a-node = is-node nodes arguments a (g .knows .left-nodes i h)
 
-      -- after the walk they are the same, and the joins can be undone
-      module _ {heads″ next″ : List ℕ} (s : (heads″ ≡ heads′) × (next″ ≡ next′)) where
-        -- there are classes to go back to
-        pub joins-since : Since (length heads″) (gone next) heads″ next″ × (length next″ ≡ links)
-        joins-since = rw (s .0, s .1) (merges-since (g .trailed) (joined-next .formed .partition .size) (x .merges))
+      b-node : b < length (nodesFrom nodes arguments)
+      b-node = is-node nodes arguments b (g .knows .right-nodes (least - 1) (omega (arith, p, l)))
 
-        -- these are the classes before the joins
-        pub joins-undone : {heads₁ next₁ : List ℕ} → ComesFrom (length heads″) (gone next) heads₁ next₁ heads″ next″ →
-            (heads₁ ≡ heads) × (next₁ ≡ next)
-        joins-undone o = merges-back (joined-next .formed .partition .size) (x .merges) (rw (s .0, s .1) at o)
+      right-there : least ≤ length (rightIn known)
+      right-there = omega (arith, right-long (g .knows), l)
+
+      -- one pair more is of nodes, and strikes out no less
+      inside-next : (ps : List (ℕ × ℕ)) → Inside (nodesFrom nodes arguments) ps → Inside (nodesFrom nodes arguments) ((a, b) ∷ ps)
+      inside-next ps q = inside-more (nodesFrom nodes arguments) a b ps a-node b-node q
+
+      partners-next : (ps : List (ℕ × ℕ)) → MayPair nodes arguments known ps → MayPair nodes arguments known ((a, b) ∷ ps)
+      partners-next ps q = record { never = λ x y u v e. never-more (nodesFrom nodes arguments) (a, b) ps _ _ (q .never x y u v e) }
+
+      -- What is below the pair.
+      abbrev pairBelow : List (ℕ × ℕ) → List (List ℕ)
+      pairBelow ps = below (nodesFrom nodes arguments) (rightIn known) (leftLabels known) (rightLabels known) (drop (i + 1) (leftIn known)) (take i entry ++ least ∷ []) ((a, b) ∷ ps) (set (marksIn known entry) (least - 1) 0)
+
+      -- a digit has no entry where its right term is free, its pair is unified, and nothing is below
+      pair-empty : (ps : List (ℕ × ℕ)) → ((word (marksIn known entry) (least - 1) ≡ 0 → ⊥) → outcome (nodesFrom nodes arguments) ((a, b) ∷ ps) ≡ unified → pairBelow ps ≡ []) → digitEntries nodes arguments known entry i ps least ≡ []
+      pair-empty ps f =
+          digit-empty (nodesFrom nodes arguments) (rightIn known) (below (nodesFrom nodes arguments) (rightIn known) (leftLabels known) (rightLabels known) (drop (i + 1) (leftIn known))) (take i entry) ps (marksIn known entry) (word (leftIn known) i) least
+          (λ q z u. rw (a-is, b-is) (f z (rw (a-is, b-is) at u)))
+          (λ q. absurd (omega (arith, q, right-there)))
+
+      -- left terms that may not take the right term have no entry with it
+      pub closed-stepped : {r : Bool} → IsOpen known can i least paired r → r ≡ false → Stepped nodes arguments known heads entry out i least at entry out at
+      closed-stepped (may x y z) e = absurd (false≢true (sym e))
+      closed-stepped (struck x) e =
+          stepped-none least (λ ps q. pair-empty ps (λ z u. absurd (never-unified (nodesFrom nodes arguments) formed-nodes ps a b (inside-next ps (q .standing .inside)) (q .partners .never i (least - 1) h (omega (arith, p, l)) x) u)))
+      closed-stepped (taken x) e =
+          stepped-none least (λ ps q. pair-empty ps (λ z u. absurd (false≢true (sym (unpaired-not (marksIn known entry) paired (least - 1) (g .branching .set-of) (omega (arith, p, l, marks-long (g .knows) (g .branching))) z) ∙ x))))
+      closed-stepped (lost x y) e =
+          stepped-none least (λ ps q. pair-empty ps (λ z u. nothing ps q z))
+        where
+          set-of : (word (marksIn known entry) (least - 1) ≡ 0 → ⊥) → PairedSet (set (marksIn known entry) (least - 1) 0) (paired + 2 ^ (least - 1))
+          set-of z = paired-more (marksIn known entry) paired (least - 1) (g .branching .set-of) (omega (arith, p, l, marks-long (g .knows) (g .branching))) z
+
+          long : length (set (marksIn known entry) (least - 1) 0) ≡ rightCount known
+          long = length-set (marksIn known entry) (least - 1) 0 ∙ marks-long (g .knows) (g .branching)
+
+          nothing : (ps : List (ℕ × ℕ)) → Pairing nodes arguments known heads ps → (word (marksIn known entry) (least - 1) ≡ 0 → ⊥) → pairBelow ps ≡ []
+          nothing ps q z =
+              below-cannot nodes arguments known (g .knows) (i + 1) (omega (arith, h)) (paired + 2 ^ (least - 1)) (take i entry ++ least ∷ []) ((a, b) ∷ ps)
+              (set (marksIn known entry) (least - 1) 0) long (set-of z) (inside-next ps (q .standing .inside)) (partners-next ps (q .partners))
+              (bit-lost (paired + 2 ^ (least - 1)) (rw long at (set-of z .within)) y)
+
+      -- those that may, take a free one
+      pub open-free : {r : Bool} → IsOpen known can i least paired r → r ≡ true → has paired (least - 1) ≡ false
+      open-free (may x y z) e = y
+      open-free (struck x) e = absurd (false≢true e)
+      open-free (taken x) e = absurd (false≢true e)
+      open-free (lost x y) e = absurd (false≢true e)
+
+      -- the pair is joined, or it is not
+      module _ {r : Bool} {heads′ next′ : List ℕ} (x : JoinsPair nodes arguments known heads next a b r heads′ next′) where
+        -- it is, exactly if the pairs have a unifier with it
+        joined-unified : (ps : List (ℕ × ℕ)) → Pairing nodes arguments known heads ps → r ≡ true ↔ (outcome (nodesFrom nodes arguments) ((a, b) ∷ ps) ≡ unified)
+        joined-unified ps q =
+            let s = q .standing in
+            let y = x .answers (s .pairs) (s .stands) in
+            let z = same-unified (nodesFrom nodes arguments) formed-nodes ((a, b) ∷ s .pairs) ((a, b) ∷ ps) (inside-next (s .pairs) (s .stands .inside)) (inside-next ps (s .inside)) (same-more (nodesFrom nodes arguments) (a, b) (s .pairs) ps (s .unifiers)) in
+            ((λ e. z .0 (y .0 e)), (λ e. y .1 (z .1 e)))
+
+        -- where it is not, there is no entry, and the classes are as before
+        pub failed-stepped : r ≡ false → Stepped nodes arguments known heads entry out i least at entry out at × ((heads′ ≡ heads) × (next′ ≡ next))
+        failed-stepped e =
+            (stepped-none least (λ ps q. pair-empty ps (λ z u. absurd (false≢true (sym e ∙ joined-unified ps q .1 u)))), x .failed e)
+
+        module _ (e : r ≡ true) where
+          -- the classes after it are classes
+          joined-formed : Formed nodes arguments known heads′
+          joined-formed = x .formed e (g .pairing .standing .pairs) (g .pairing .standing .stands)
+
+          -- they stand for one pair more
+          joined-pairing : (ps : List (ℕ × ℕ)) → Pairing nodes arguments known heads ps → Pairing nodes arguments known heads′ ((a, b) ∷ ps)
+          joined-pairing ps q =
+              record {
+                standing =
+                    record {
+                      pairs = (a, b) ∷ q .standing .pairs;
+                      stands = x .stands e (q .standing .pairs) (q .standing .stands);
+                      inside = inside-next ps (q .standing .inside);
+                      unifiers = same-more (nodesFrom nodes arguments) (a, b) (q .standing .pairs) ps (q .standing .unifiers);
+                    };
+                partners = partners-next ps (q .partners);
+              }
+
+          -- the right term was free
+          module _ (f : has paired (least - 1) ≡ false) {entry₁ : List ℕ}
+              (z : entry₁ ≡ set (set entry i least) (leftCount known + least - 1) 0) where
+            -- the walk goes on with it
+            pub joined-next : {s : ℕ} → s ≡ paired + 2 ^ (least - 1) → Walking nodes arguments known can heads′ next′ entry₁ out (i + 1) 1 s at
+            joined-next u =
+                rw u
+                record {
+                  knows = g .knows;
+                  completable = g .completable;
+                  formed = joined-formed;
+                  trailed = merges-trailed (g .trailed) (x .merges);
+                  pairs = (a, b) ∷ g .pairs;
+                  pairing = joined-pairing (g .pairs) (g .pairing);
+                  branching = rw z (branching-pair (g .knows) (g .branching) h least p l f);
+                  positive = omega arith;
+                  wide = g .wide;
+                  room = g .room;
+                }
+
+            -- and the digit has the entries below it
+            joined-entries : (ps : List (ℕ × ℕ)) → Pairing nodes arguments known heads ps → digitEntries nodes arguments known entry i ps least ≡ branchEntries nodes arguments known entry₁ (i + 1) 1 ((a, b) ∷ ps)
+            unfolding ifUnified
+            joined-entries ps q =
+                let x₁ : ifUnified (outcome (nodesFrom nodes arguments) ((word (leftIn known) i, word (rightIn known) (least - 1)) ∷ ps)) (below (nodesFrom nodes arguments) (rightIn known) (leftLabels known) (rightLabels known) (drop (i + 1) (leftIn known)) (take i entry ++ least ∷ []) ((word (leftIn known) i, word (rightIn known) (least - 1)) ∷ ps) (set (marksIn known entry) (least - 1) 0)) ≡ pairBelow ps = rw (a-is, b-is, joined-unified ps q .0 e) refl in
+                let x₂ : pairBelow ps ≡ branchEntries nodes arguments known entry₁ (i + 1) 1 ((a, b) ∷ ps) =
+                rw (← pair-digits (g .knows) (g .branching) h least p l f, ← pair-marks (g .knows) (g .branching) h least p l f, ← z) (below-branch (g .knows) entry₁ (i + 1) (omega (arith, h)) ((a, b) ∷ ps)) in
+                digit-pair (nodesFrom nodes arguments) (rightIn known) (below (nodesFrom nodes arguments) (rightIn known) (leftLabels known) (rightLabels known) (drop (i + 1) (leftIn known))) (take i entry) ps (marksIn known entry) (word (leftIn known) i) least right-there
+                (λ w. let o = free-mark (g .knows) (g .branching) h least p l f in omega (arith, w, o))
+                ∙ x₁ ∙ x₂
+
+            -- so that they are written; the mark is put back
+            pub joined-stepped : {entry′ out′ : List ℕ} {w : ℕ} → Walked nodes arguments known heads′ entry₁ out (i + 1) 1 at entry′ out′ w →
+                {entry″ : List ℕ} → entry″ ≡ set entry′ (leftCount known + least - 1) 1 → Stepped nodes arguments known heads entry out i least at entry″ out′ w
+            joined-stepped y u =
+                record {
+                  writes = λ ps q. rw (joined-entries ps q) (y .writes ((a, b) ∷ ps) (joined-pairing ps q));
+                  keeps = pair-back (g .knows) (g .branching) h least p l f (rw z at (y .keeps)) u;
+                }
+
+            -- the place of the mark is in the entry
+            pub mark-inside : {n : ℕ} → n ≡ length entry₁ → leftCount known + least ≤ n
+            mark-inside y = omega (arith, y, ap length z, length-set (set entry i least) (leftCount known + least - 1) 0, length-set entry i least, branch-room (g .knows) (g .branching), p, l)
+
+          -- after the walk the classes are the same, and the joins can be undone
+          module _ {heads″ next″ : List ℕ} (s : (heads″ ≡ heads′) × (next″ ≡ next′)) where
+            -- there are classes to go back to
+            pub joins-since : Since (length heads″) (gone next) heads″ next″ × (length next″ ≡ links)
+            joins-since = rw (s .0, s .1) (merges-since (g .trailed) (joined-formed .partition .size) (x .merges))
+
+            -- these are the classes before the joins
+            pub joins-undone : {heads₁ next₁ : List ℕ} → ComesFrom (length heads″) (gone next) heads₁ next₁ heads″ next″ →
+                (heads₁ ≡ heads) × (next₁ ≡ next)
+            joins-undone o = merges-back (joined-formed .partition .size) (x .merges) (rw (s .0, s .1) at o)
+
+    -- digit `least` is that of a label
+    module _ (l : rightCount known < least) where
+      -- What is below a label.
+      abbrev labelBelow : List (ℕ × ℕ) → ℕ → List (List ℕ)
+      labelBelow ps d = below (nodesFrom nodes arguments) (rightIn known) (leftLabels known) (rightLabels known) (drop (i + 1) (leftIn known)) (take i entry ++ d ∷ []) ps (marksIn known entry)
+
+      -- a digit from it on has what is below its label
+      label-entries : (ps : List (ℕ × ℕ)) (d : ℕ) → least ≤ d → digitEntries nodes arguments known entry i ps d ≡ labelBelow ps d
+      label-entries ps d q =
+          digit-label (nodesFrom nodes arguments) (rightIn known) (below (nodesFrom nodes arguments) (rightIn known) (leftLabels known) (rightLabels known) (drop (i + 1) (leftIn known))) (take i entry) ps (marksIn known entry) (word (leftIn known) i) d (omega (arith, right-long (g .knows), l, q))
+
+      -- where no digit from it on has an entry, nothing is to be done
+      from-none : ((ps : List (ℕ × ℕ)) → Pairing nodes arguments known heads ps → digitsFrom nodes arguments known entry i ps least ≡ []) →
+          SteppedFrom nodes arguments known heads entry out i least at entry out at
+      from-none e = record { writes = λ ps q. rw (e ps q) (writes-none out at (g .room)); keeps = keeps-itself }
+
+      -- there is no such label
+      pub none-stepped : rightCount known + rightLabels known < least → SteppedFrom nodes arguments known heads entry out i least at entry out at
+      none-stepped q = from-none (λ ps y. over-end (λ e. digitEntries nodes arguments known entry i ps e) least (suc (rightCount known + rightLabels known)) (omega (arith, q)))
+
+      -- the left terms after it cannot be placed
+      pub lost-stepped : bitAt can i paired ≡ false → SteppedFrom nodes arguments known heads entry out i least at entry out at
+      lost-stepped e =
+          from-none (λ ps q.
+          over-none least (suc (rightCount known + rightLabels known) - least) (λ d. digitEntries nodes arguments known entry i ps d)
+          (λ d u v.
+          label-entries ps d u
+          ∙ below-cannot nodes arguments known (g .knows) (i + 1) (omega (arith, h)) paired (take i entry ++ d ∷ []) ps (marksIn known entry)
+          (marks-long (g .knows) (g .branching)) (g .branching .set-of) (q .standing .inside) (q .partners)
+          (bit-lost paired (rw (marks-long (g .knows) (g .branching)) at (g .branching .set-of .within)) e)))
+
+      module _ {entry₁ : List ℕ} (z : entry₁ ≡ set entry i least) where
+        -- the walk goes on with it
+        pub label-next : Walking nodes arguments known can heads next entry₁ out (i + 1) 1 paired at
+        label-next =
+            record {
+              knows = g .knows;
+              completable = g .completable;
+              formed = g .formed;
+              trailed = g .trailed;
+              pairs = g .pairs;
+              pairing = g .pairing;
+              branching = rw z (branching-label (g .knows) (g .branching) h least);
+              positive = omega arith;
+              wide = g .wide;
+              room = g .room;
+            }
+
+        -- what is below the label, as it stands in the entry
+        label-below : (ps : List (ℕ × ℕ)) → labelBelow ps least ≡ branchEntries nodes arguments known entry₁ (i + 1) 1 ps
+        label-below ps =
+            rw (← digits-next (g .knows) (g .branching) h least, ← set-marks known entry i least h, ← z) (below-branch (g .knows) entry₁ (i + 1) (omega (arith, h)) ps)
+
+        module _ (t : least ≤ rightCount known + rightLabels known) where
+          -- the entries of all labels are those of the first, and these repeated
+          labels-entries : (ps : List (ℕ × ℕ)) → digitsFrom nodes arguments known entry i ps least ≡ labelBelow ps least ++ repeated i (least + 1) (rightCount known + rightLabels known - least) (labelBelow ps least)
+          labels-entries ps =
+              let c : suc (rightCount known + rightLabels known) - (least + 1) ≡ rightCount known + rightLabels known - least = omega (arith, t) in
+              over-next (λ e. digitEntries nodes arguments known entry i ps e) least (suc (rightCount known + rightLabels known)) (omega (arith, t))
+              ∙ ap (λ (es : List (List ℕ)). es ++ over (least + 1) (suc (rightCount known + rightLabels known) - (least + 1)) (λ e. digitEntries nodes arguments known entry i ps e)) (label-entries ps least (omega arith))
+              ∙ ap (labelBelow ps least ++_)
+              (over-within (least + 1) (suc (rightCount known + rightLabels known) - (least + 1)) (λ e. digitEntries nodes arguments known entry i ps e) (labelBelow ps) (λ d u v. label-entries ps d (omega (arith, u)))
+              ∙ ap (λ (n : ℕ). over (least + 1) n (labelBelow ps)) c
+              ∙ labels-repeated (nodesFrom nodes arguments) (rightIn known) (leftLabels known) (rightLabels known) (drop (i + 1) (leftIn known)) (take i entry) ps (marksIn known entry) least (least + 1) (rightCount known + rightLabels known - least)
+              ∙ ap (λ (n : ℕ). repeated n (least + 1) (rightCount known + rightLabels known - least) (labelBelow ps least)) (digits-long (g .knows) (g .branching)))
+
+          -- each has as many words
+          label-wide : (ps : List (ℕ × ℕ)) (e : List ℕ) → List·Memᴰ e (labelBelow ps least) → length e ≡ widthIn known
+          label-wide ps e m =
+              let w = below-long (nodesFrom nodes arguments) (rightIn known) (leftLabels known) (rightLabels known) (drop (i + 1) (leftIn known)) (take i entry ++ least ∷ []) ps (marksIn known entry) e m in
+              let u = length-append (take i entry) (least ∷ []) in
+              let v = length-drop (i + 1) (leftIn known) in
+              omega (arith, w, u, v, digits-long (g .knows) (g .branching), left-long (g .knows), marks-long (g .knows) (g .branching), variables-long (g .knows), g .knows .width, h)
+
+          module _ {entry′ out′ : List ℕ} {w : ℕ} (y : Walked nodes arguments known heads entry₁ out (i + 1) 1 at entry′ out′ w) where
+            -- the entries of the first label are written
+            first-written : (ps : List (ℕ × ℕ)) → Pairing nodes arguments known heads ps → Writes (labelBelow ps least) out at out′ w
+            first-written ps q = rw (label-below ps) (y .writes ps q)
+
+            kept : KeepsBranch known i entry entry′
+            kept = label-back (g .knows) (g .branching) h least (rw z at (y .keeps))
+
+            -- one of them does not fit
+            pub label-full : length out < full → w ≡ full → SteppedFrom nodes arguments known heads entry out i least at entry′ out′ full
+            label-full b e =
+                record {
+                  writes = λ ps q. rw (labels-entries ps) (remains-full (labelBelow ps least) (repeated i (least + 1) (rightCount known + rightLabels known - least) (labelBelow ps least)) (remains-whole (labelBelow ps least ++ repeated i (least + 1) (rightCount known + rightLabels known - least) (labelBelow ps least)) out at (g .room)) b out′ w (first-written ps q) e);
+                  keeps = kept;
+                }
+
+            -- all of them fit
+            module _ (n : w ≡ full → ⊥) where
+              -- where they end
+              pub label-room : (at ≤ w) × (w ≤ length out′)
+              label-room =
+                  let r = writes-room (g .room) (first-written (g .pairs) (g .pairing)) in
+                  let s = r .1 n in
+                  (s .0, omega (arith, r .0, s .1))
+
+              -- and they are repeated for the other labels
+              pub labels-stepped : {out″ : List ℕ} {v width last : ℕ} → width ≡ widthIn known → last ≡ rightCount known + rightLabels known →
+                  ((es : List (List ℕ)) → Block es width out′ at w → Writes (repeated i (least + 1) (last - least) es) out′ w out″ v) →
+                  SteppedFrom nodes arguments known heads entry out i least at entry′ out″ v
+              labels-stepped {out″} {v} {width} {last} a b f₀ =
+                  let f : (es : List (List ℕ)) → Block es (widthIn known) out′ at w → Writes (repeated i (least + 1) (rightCount known + rightLabels known - least) es) out′ w out″ v = rw (← a, ← b) f₀ in
+                  record {
+                    writes = λ ps q. rw (labels-entries ps) (repeat-writes (labelBelow ps least) i (least + 1) (rightCount known + rightLabels known - least) (g .room) (first-written ps q) n (f (labelBelow ps least) (writes-block (widthIn known) (g .room) (first-written ps q) n (label-wide ps))));
+                    keeps = kept;
+                  }
+
+    -- before the first digit
+    pub turning-first : Turning nodes arguments known heads entry out i least at least entry out at
+    turning-first =
+        record {
+          first = omega arith;
+          size = refl;
+          within = g .room;
+          keeps = keeps-itself;
+          remains = λ ps q. rw (branch-digits nodes arguments known entry i least ps h) (remains-whole (digitsFrom nodes arguments known entry i ps least) out at (g .room));
+        }
+
+    -- the digits of the next left term have been gone through up to d
+    module _ {d : ℕ} {entry′ out′ : List ℕ} {at′ : ℕ} (t : Turning nodes arguments known heads entry out i least at d entry′ out′ at′) where
+      -- the branch is kept, so that the entries of a digit are the same
+      digit-kept : (ps : List (ℕ × ℕ)) (e : ℕ) → digitEntries nodes arguments known entry′ i ps e ≡ digitEntries nodes arguments known entry i ps e
+      digit-kept ps e = rw (t .keeps .digits, t .keeps .marks) refl
+
+      -- what is known of the branch still stands
+      pub turning-walking : {heads′ next′ : List ℕ} → heads′ ≡ heads → next′ ≡ next → Walking nodes arguments known can heads′ next′ entry′ out′ i d paired at′
+      turning-walking x y =
+          rw (x, y)
+          record {
+            knows = g .knows;
+            completable = g .completable;
+            formed = g .formed;
+            trailed = g .trailed;
+            pairs = g .pairs;
+            pairing = g .pairing;
+            branching = branching-kept (g .knows) (g .branching) (t .keeps);
+            positive = omega (arith, g .positive, t .first);
+            wide = g .wide;
+            room = t .within;
+          }
+
+      module _ {heads′ : List ℕ} (x : heads′ ≡ heads) where
+        -- digits from d on, with the digit first
+        module _ (u : d ≤ rightCount known) {entry″ out″ : List ℕ} {w : ℕ} (y : Stepped nodes arguments known heads′ entry′ out′ i d at′ entry″ out″ w) where
+          next-remains : (ps : List (ℕ × ℕ)) → Pairing nodes arguments known heads ps →
+              Remains (branchEntries nodes arguments known entry i least ps) out at
+              (digitEntries nodes arguments known entry i ps d ++ digitsFrom nodes arguments known entry i ps (d + 1)) out′ at′
+          next-remains ps q =
+              rw (over-next (λ e. digitEntries nodes arguments known entry i ps e) d (suc (rightCount known + rightLabels known)) (omega (arith, u))) at (t .remains ps q)
+
+          stepped : (ps : List (ℕ × ℕ)) → Pairing nodes arguments known heads ps → Writes (digitEntries nodes arguments known entry i ps d) out′ at′ out″ w
+          stepped ps q = rw (digit-kept ps d) at (y .writes ps (rw x q))
+
+          -- after one digit more
+          pub turning-next : (w ≡ full → ⊥) → Turning nodes arguments known heads entry out i least at (d + 1) entry″ out″ w
+          turning-next n =
+              let r = writes-room (t .within) (stepped (g .pairs) (g .pairing)) in
+              let s = r .1 n in
+              record {
+                first = omega (arith, t .first);
+                size = r .0 ∙ t .size;
+                within = omega (arith, r .0, s .1);
+                keeps = keeps-again (t .keeps) (y .keeps);
+                remains = λ ps q. remains-next (digitEntries nodes arguments known entry i ps d) (next-remains ps q) out″ w (stepped ps q) n;
+              }
+
+          -- where an entry does not fit
+          pub turning-full : length out < full → w ≡ full → Walked nodes arguments known heads entry out i least at entry″ out″ full
+          turning-full b e =
+              record {
+                writes = λ ps q. remains-full (digitEntries nodes arguments known entry i ps d) (digitsFrom nodes arguments known entry i ps (d + 1)) (next-remains ps q) (omega (arith, b, t .size)) out″ w (stepped ps q) e;
+                keeps = keeps-again (t .keeps) (y .keeps);
+              }
+
+        -- after the right terms come the labels
+        pub turning-done : {entry″ out″ : List ℕ} {w : ℕ} → SteppedFrom nodes arguments known heads′ entry′ out′ i d at′ entry″ out″ w →
+            Walked nodes arguments known heads entry out i least at entry″ out″ w
+        turning-done {out″ = out″} {w = w} y =
+            record {
+              writes = λ ps q. t .remains ps q .closes out″ w (same ps (y .writes ps (rw x q)));
+              keeps = keeps-again (t .keeps) (y .keeps);
+            }
+          where
+            same : (ps : List (ℕ × ℕ)) → Writes (digitsFrom nodes arguments known entry′ i ps d) out′ at′ out″ w → Writes (digitsFrom nodes arguments known entry i ps d) out′ at′ out″ w
+            same ps z = rw (over-within d (suc (rightCount known + rightLabels known) - d) (λ e. digitEntries nodes arguments known entry′ i ps e) (λ e. digitEntries nodes arguments known entry i ps e) (λ e q r. digit-kept ps e)) at z

@@ -1,4 +1,4 @@
-// The walk over the choices, a left digit at a time.
+// The walk over the choices.
 
-// The walk: `walk`, and the entries of a branch that has no pair to come.
+// The walk, and the entries that it writes.
 pub mod walk;
