@@ -79,6 +79,16 @@ PROBLEMS = {
 }
 
 
+def exchanged(text):
+    """The same problem with its sides exchanged."""
+    left, right = text.split(" = ")
+    return f"{right.strip()} = {left.strip()}"
+
+
+# Each rule stands on the left and on the right: a prover may put its goal on either side.
+PROBLEMS.update({f"{name}-exchanged": exchanged(text) for name, text in list(PROBLEMS.items()) if name.startswith("rule-")})
+
+
 def growth():
     """Families that grow in the number of entries, of nodes, of terms and of variables."""
     for count in range(1, 9):
