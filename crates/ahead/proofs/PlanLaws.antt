@@ -173,7 +173,8 @@ module _ {known : List ℕ} (z : Sized known) where
           let n : has s j ≡ false = not-true _ (and-true-right (has (word known (600 + i)) j) (not (has s j)) g) in
           b .joined s j refl (let w =
           o .1 in omega (arith, w, z .right-few)) (ap (λ (y : ℕ). has y j) re ∙ and-true-left (has (word known (600 + i)) j) (not (has s j)) g) n
-          (after (s + 2 ^ j) (added-within (rightCount known) s j few (o .1) n) (and-true-right (has (word known (600 + i)) j && not (has s j)) (rest (s + 2 ^ j)) f))
+          (after (s + 2 ^ j) (added-within (rightCount known) s j few (o .1) n)
+          (and-true-right (has (word known (600 + i)) j && not (has s j)) (rest (s + 2 ^ j)) f))
       pick false p false q v = absurd (false≢true v)
 
   -- a row before is filled
@@ -207,7 +208,8 @@ module _ {known : List ℕ} (z : Sized known) where
         size =
             d .size ∙ y .size;
         bits = λ k s l q few e. go k s l q few (eqb (leftLabels known) 0) refl
-            (sym (ap (λ (rows : List ℕ). completes (rightCount known) (leftLabels known) (rightLabels known) rows s) (rows-none (k + 1) (omega (arith, l, z .some)))) ∙ e);
+            (sym (ap (λ (rows : List ℕ). completes (rightCount known) (leftLabels known) (rightLabels known) rows s)
+            (rows-none (k + 1) (omega (arith, l, z .some)))) ∙ e);
       }
     where
       go : (k s : ℕ) → leftCount known - 1 ≤ k → k < leftCount known → s < 2 ^ rightCount known → (b : Bool) → eqb (leftLabels known) 0 ≡ b →

@@ -52,7 +52,8 @@ module _ (nodes arguments counts : List ℕ) (s : Sections nodes arguments) (hea
   never-by : ((ps : List (ℕ × ℕ)) → Stands nodes arguments heads ps → outcome ns ((a, b) ∷ ps) ≡ unified → ⊥) → NeverJoins nodes arguments heads a b
   never-by n ps g σ u =
       n (g .pairs) (g .stands)
-      (outcome-unified ns (sections-well-formed nodes arguments s) ((a, b) ∷ g .pairs) (inside-more ns a b (g .pairs) (is-node nodes arguments a p) (is-node nodes arguments b q) (g .stands .inside)) .1 (σ, all))
+      (outcome-unified ns (sections-well-formed nodes arguments s) ((a, b) ∷ g .pairs)
+      (inside-more ns a b (g .pairs) (is-node nodes arguments a p) (is-node nodes arguments b q) (g .stands .inside)) .1 (σ, all))
     where
       all : Unifies ns ((a, b) ∷ g .pairs) σ
       all i j (List·Memᴰ·head d) = u i j (List·Memᴰ·head d)
@@ -78,7 +79,8 @@ module _ (nodes arguments counts : List ℕ) (s : Sections nodes arguments) (hea
   pub never-closed : Counts nodes arguments counts (nodeCount nodes) → (g h : ℕ) → g ≡ classOf heads a → h ≡ classOf heads b → (g ≡ h → ⊥) →
       (r : Bool) → r ≡ (closedTest nodes counts g && closedTest nodes counts h) → r ≡ true → NeverJoins nodes arguments heads a b
   never-closed k g h x y n r d t =
-      never-clash (λ ps e. one ps e (closed-joined nodes arguments counts s k ((a, b) ∷ ps) (classOf heads a) (classOf heads b) first second (joined ps e)))
+      never-clash (λ ps e. one ps e (closed-joined nodes arguments counts s k ((a, b) ∷ ps) (classOf heads a) (classOf heads b) first second
+      (joined ps e)))
     where
       both : (closedTest nodes counts (classOf heads a) && closedTest nodes counts (classOf heads b)) ≡ true
       both = rw (x, y) at (sym d ∙ t)
@@ -95,7 +97,8 @@ module _ (nodes arguments counts : List ℕ) (s : Sections nodes arguments) (hea
       joined ps e =
           on
           (back (more-joined ((a, b) ∷ ps) (λ z m. List·Memᴰ·tail m) (e .closure .joined a (is-node nodes arguments a p))))
-          (on (given (List·Memᴰ·head refl)) (more-joined ((a, b) ∷ ps) (λ z m. List·Memᴰ·tail m) (e .closure .joined b (is-node nodes arguments b q))))
+          (on (given (List·Memᴰ·head refl)) (more-joined ((a, b) ∷ ps) (λ z m. List·Memᴰ·tail m)
+          (e .closure .joined b (is-node nodes arguments b q))))
 
       one : (ps : List (ℕ × ℕ)) → Stands nodes arguments heads ps →
           closure.Clash ns ((a, b) ∷ ps) ⊎ SameTerm nodes arguments (classOf heads a) (classOf heads b) → closure.Clash ns ((a, b) ∷ ps)

@@ -103,14 +103,11 @@ pub fn strike(nodes: &[u32], arguments: &[u32], heads: &[u8], known: &mut [u8]) 
     joins
 }
 
-// Whether a variable meets a variable or a closed term: these join.
-fn joins_always(nodes: &[u32], counts: &[u8], g: Node, h: Node) -> bool
-    requires { ⌜ (g .0 < nodeCount (now nodes)) × (h .0 < nodeCount (now nodes)) × (nodeCount (now nodes) ≤ length (now counts)) ⌝ }
+// Whether one of two heads is a variable: the two join, unless one holds the other, which the walk finds as soon.
+fn meets_variable(nodes: &[u32], g: Node, h: Node) -> bool
+    requires { ⌜ (g .0 < nodeCount (now nodes)) × (h .0 < nodeCount (now nodes)) ⌝ }
 {
-    let i = g.0 as usize;
-    let j = h.0 as usize;
-    sections::is_variable(nodes, g) & (counts[j] == 0)
-        | sections::is_variable(nodes, h) & (counts[i] == 0)
+    sections::is_variable(nodes, g) | sections::is_variable(nodes, h)
 }
 
 // Whether two terms may be joined: they are tried, and the classes are as before.
@@ -134,7 +131,7 @@ fn try_pair(
     if g.0 == h.0 {
         return true;
     }
-    if joins_always(nodes, known, g, h) {
+    if meets_variable(nodes, g, h) {
         return true;
     }
     let mark = next[GONE];

@@ -94,10 +94,21 @@ module _ (nodes arguments list : List ℕ) (e : list ≡ leastNodes (nodesFrom n
         rw q
         (bound {i = i} {f = g} {w = w} {us = us} p v d
         (record {
-          holds =
-              (nameOf nodes w, run nodes arguments w, is-node nodes arguments w (r .holds .0), application-from nodes arguments w (r .holds .0) (r .holds .1), r .holds .2);
+          holds = (
+            nameOf nodes w,
+            run nodes arguments w,
+            is-node nodes arguments w (r .holds .0),
+            application-from nodes arguments w (r .holds .0)
+                (r .holds .1),
+            r .holds .2,
+          );
           least =
-              λ j t. r .least j (counted nodes arguments j (t .2), from-application nodes arguments j (counted nodes arguments j (t .2)) (t .0) (t .1) (t .3) .0, t .4);
+              λ j t. r .least j (
+                counted nodes arguments j (t .2),
+                from-application nodes arguments j (counted nodes arguments j (t .2)) (t .0) (t .1)
+                    (t .3) .0,
+                t .4,
+              );
         }))
 
     -- where it is a variable
@@ -206,8 +217,14 @@ found-leaves nodes arguments counts heads names opens list out out′ f m l k o 
     let p = m .readable .partition in
     let h = t .inside in
     let c = t .closure in
-    let a = noted-all nodes arguments heads names m opens counts (f .applications) o l (name-itself nodes arguments counts heads names m l ps c) (f .noted) in
-    let d : wordsOf (nodesFrom nodes arguments) ps ≡ readAt heads names (f .all) list = names-decide (nodesFrom nodes arguments) (sections-well-formed nodes arguments s) ps h (classOf heads) (rank nodes counts (g .order)) (ordered-solved nodes arguments s counts k heads p (g .closed) ps h c (g .order) (g .ordered)) (suc (nodeCount nodes + suc (length (g .order)))) (ordered-enough nodes arguments s counts k heads p (g .closed) ps h c (g .order) (g .ordered)) (valueName heads names) (named-valued nodes arguments heads names s p (m .named)) (readAt heads names (f .all) list) (named-read nodes arguments list e heads names m ps c (f .applications) (f .all) a (f .free)) in
+    let a = noted-all nodes arguments heads names m opens counts (f .applications) o l (name-itself nodes arguments counts heads names m l ps c)
+    (f .noted) in
+    let d : wordsOf (nodesFrom nodes arguments) ps ≡ readAt heads names (f .all) list = names-decide (nodesFrom nodes arguments)
+    (sections-well-formed nodes arguments s) ps h (classOf heads) (rank nodes counts (g .order))
+    (ordered-solved nodes arguments s counts k heads p (g .closed) ps h c (g .order) (g .ordered)) (suc (nodeCount nodes + suc (length (g .order))))
+    (ordered-enough nodes arguments s counts k heads p (g .closed) ps h c (g .order) (g .ordered)) (valueName heads names)
+    (named-valued nodes arguments heads names s p (m .named)) (readAt heads names (f .all) list)
+    (named-read nodes arguments list e heads names m ps c (f .applications) (f .all) a (f .free)) in
     f .words-read
     ∙ ap (λ (n : List ℕ). n ++ drop (length list) out) (sym d)
     ∙ ap (λ (n : ℕ). wordsOf (nodesFrom nodes arguments) ps ++ drop n out) (ap length e ∙ least-long (nodesFrom nodes arguments))

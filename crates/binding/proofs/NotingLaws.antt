@@ -239,7 +239,11 @@ module _ (f : ℕ → ℕ) (list out : List ℕ) where
   unfolding readTo
   read-next k u a b e =
       let n : length (map f (take k list)) ≡ k = length-map (take k list) f ∙ length-take-le k list (omega arith) in
-      ap (λ (l : List ℕ). set (map f (take k list) ++ l) k u) (drop-cons out k 0 b) ∙ set-at (map f (take k list)) (word out k) (drop (suc k) out) u k n ∙ sym (append-snoc (map f (take k list)) u (drop (suc k) out)) ∙ ap (λ (l : List ℕ). l ++ drop (suc k) out) (ap (λ (z : ℕ). map f (take k list) ++ (z ∷ [])) e ∙ sym (map-append f (take k list) (word list k ∷ [])) ∙ ap (map f) (sym (take-suc list k 0 a))) ∙ ap (λ (j : ℕ). map f (take j list) ++ drop j out) (sym (add-one k))
+      ap (λ (l : List ℕ). set (map f (take k list) ++ l) k u) (drop-cons out k 0 b)
+      ∙ set-at (map f (take k list)) (word out k) (drop (suc k) out) u k n ∙ sym (append-snoc (map f (take k list)) u (drop (suc k) out))
+      ∙ ap (λ (l : List ℕ). l ++ drop (suc k) out) (ap (λ (z : ℕ). map f (take k list) ++ (z ∷ [])) e ∙ sym
+      (map-append f (take k list) (word list k ∷ [])) ∙ ap (map f) (sym (take-suc list k 0 a)))
+      ∙ ap (λ (j : ℕ). map f (take j list) ++ drop j out) (sym (add-one k))
 
   -- all are written
   pub read-all : (k : ℕ) → k ≡ length list → readTo k ≡ map f list ++ drop (length list) out

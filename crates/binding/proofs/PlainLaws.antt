@@ -201,7 +201,8 @@ module _ (nodes arguments : List ℕ) (s : Sections nodes arguments) (counts hea
           ∙ t .closure .one-variable (classOf heads j) (classOf heads i) x (head-inside j q) (head-inside i p) (b ∙ ap variable z) d
           ∙ f .partition .own i (counted nodes arguments i p)
       go (application g us) b =
-          let v : app g (each (resolved steps ns (classOf heads)) us) ≡ var x = sym (by-head j q (application g us) b) ∙ e ∙ by-head i p (variable x) d in
+          let v : app g (each (resolved steps ns (classOf heads)) us) ≡ var x = sym (by-head j q (application g us) b) ∙ e
+          ∙ by-head i p (variable x) d in
           let z : _≡_ {A = ℕ} 0 1 = cc in
           absurd (omega arith)
 
@@ -222,7 +223,8 @@ module _ (nodes arguments : List ℕ) (s : Sections nodes arguments) (counts hea
       argument : ((a : ℕ) → a < n → IsClosed nodes counts a → value ns σ a ≡ value ns var a) → (a : ℕ) →
           List·Memᴰ a (run nodes arguments i) → value ns σ a ≡ value ns var a
       argument below a q =
-          let r = argument-place nodes arguments s i (m .node) (nameOf nodes i) (run nodes arguments i) (application-from nodes arguments i (m .node) (m .applied)) a q in
+          let r = argument-place nodes arguments s i (m .node) (nameOf nodes i) (run nodes arguments i)
+          (application-from nodes arguments i (m .node) (m .applied)) a q in
           let l = s .smaller i (r .0) (m .node) (r .1) in
           let e = r .2 in
           below a (omega (arith, l, e, b)) (rw e (k .below i (m .node) m (r .0) (r .1)))
@@ -305,8 +307,13 @@ module _ (nodes arguments : List ℕ) (s : Sections nodes arguments) (counts hea
           (j : ℕ) × (j < length list) × (y ≡ word (variablesOf ns) j) × (headAt heads list j ≡ classOf heads (nodeOf ns x))
       valued-place y q v =
           let a = place-of nodes arguments list e y q in
-          let l = node-of ns y q in
-          (a .0, a .1, a .2, ap (classOf heads) (a .3) ∙ free-head (nodeOf ns x) (nodeOf ns y) z (own .holds .0) (l .holds .0) d (at-least y q ∙ v ∙ sym (at-least x p)))
+          let l = node-of ns y q in (
+            a .0,
+            a .1,
+            a .2,
+            ap (classOf heads) (a .3) ∙ free-head (nodeOf ns x) (nodeOf ns y) z (own .holds .0) (l .holds .0) d
+                (at-least y q ∙ v ∙ sym (at-least x p)),
+          )
 
       -- so the variable at the least such place is the lowest with its value
       lowest : (j : ℕ) → Least (WrittenAt (λ i. i < length list) (headAt heads list) 0 (length list) (classOf heads (nodeOf ns x))) j →
@@ -321,8 +328,11 @@ module _ (nodes arguments : List ℕ) (s : Sections nodes arguments) (counts hea
           rw (q ∙ g)
           (IsWord.free {z = z} {y = y} {w = nodeOf ns y} (sym (at-least x p) ∙ by-head (nodeOf ns x) (own .holds .0) (variable z) d)
           (record {
-            holds =
-                (c, sym (at-least y c) ∙ one-value (nodeOf ns y) (nodeOf ns x) (l .holds .0) (own .holds .0) (ap (classOf heads) (sym g) ∙ b .holds .3) ∙ at-least x p);
+            holds = (
+              c,
+              sym (at-least y c) ∙ one-value (nodeOf ns y) (nodeOf ns x) (l .holds .0) (own .holds .0)
+                  (ap (classOf heads) (sym g) ∙ b .holds .3) ∙ at-least x p,
+            );
             least = λ u m. below u (valued-place u (m .0) (m .1));
           })
           l)
@@ -356,8 +366,10 @@ module _ (nodes arguments : List ℕ) (s : Sections nodes arguments) (counts hea
           go (all-bare m) =
               let y = place-of nodes arguments list e x p in
               let l = node-of ns x p in
-              let n : countOf nodes (classOf heads (nodeOf ns x)) ≡ 0 = ap (countOf nodes) (ap (classOf heads) (sym (y .3))) ∙ m .bare (y .0) (y .1) in
-              bare-closed j h b (as-many j (classOf heads (nodeOf ns x)) h (f .partition .below (nodeOf ns x) (counted nodes arguments (nodeOf ns x) (l .holds .0))) b a v ∙ n)
+              let n : countOf nodes (classOf heads (nodeOf ns x)) ≡ 0 = ap (countOf nodes) (ap (classOf heads) (sym (y .3)))
+              ∙ m .bare (y .0) (y .1) in
+              bare-closed j h b (as-many j (classOf heads (nodeOf ns x)) h
+              (f .partition .below (nodeOf ns x) (counted nodes arguments (nodeOf ns x) (l .holds .0))) b a v ∙ n)
 
       -- the word of each variable present
       plain-present : (x : ℕ) → List·Memᴰ x (variablesOf ns) → IsWord ns σ x (plainWord nodes heads by (nodeOf ns x))

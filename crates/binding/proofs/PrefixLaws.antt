@@ -54,7 +54,9 @@ module _ (nodes arguments : List ℕ) (s : Sections nodes arguments) (counts hea
     closed-alike : (g h : ℕ) → IsClosed nodes counts g → IsClosed nodes counts h → Alike nodes arguments heads names g h →
         classOf heads g ≡ classOf heads h
     closed-alike g h p q a =
-        let e : each termAt (run nodes arguments g) ≡ each termAt (run nodes arguments h) = each-equal termAt termAt (run nodes arguments g) (run nodes arguments h) (run-long nodes arguments s g (p .node) ∙ a .count ∙ sym (run-long nodes arguments s h (q .node))) (λ x y m. at x y (pair-place nodes arguments s g h (p .node) (q .node) x y .0 m)) in
+        let e : each termAt (run nodes arguments g) ≡ each termAt (run nodes arguments h) = each-equal termAt termAt (run nodes arguments g)
+        (run nodes arguments h) (run-long nodes arguments s g (p .node) ∙ a .count ∙ sym (run-long nodes arguments s h (q .node)))
+        (λ x y m. at x y (pair-place nodes arguments s g h (p .node) (q .node) x y .0 m)) in
         f .closed .shared g h p q
         (spelt g p ∙ ap (λ (n : ℕ). app n (each termAt (run nodes arguments g))) (a .name) ∙ ap (app (nameOf nodes h)) e ∙ sym (spelt h q))
       where
@@ -89,7 +91,8 @@ module _ (nodes arguments : List ℕ) (s : Sections nodes arguments) (counts hea
             application = λ i h n. rw (own-name i h) n;
             composed = λ i j h b n m a.
                 ap (word names)
-                (sym (f .partition .own i h) ∙ closed-alike (classOf heads i) (classOf heads j) (head-closed i h n) (head-closed j b m) a ∙ f .partition .own j b);
+                (sym (f .partition .own i h) ∙ closed-alike (classOf heads i) (classOf heads j) (head-closed i h n) (head-closed j b m) a
+                ∙ f .partition .own j b);
             taken-apart = λ i j h b n m e.
                 let d : classOf heads i ≡ classOf heads j = sym (own-name i h) ∙ e ∙ own-name j b in
                 rw d (alike-same (classOf heads j));
@@ -249,7 +252,11 @@ module _ (nodes arguments : List ℕ) (s : Sections nodes arguments) (counts hea
 
         go : Dec (word counts (classOf heads i) ≡ 0) → IsPlaced order (classOf heads i)
         go (yes e) =
-            let r = c .whole (classOf heads i) (record { node = b; applied = counted-application nodes arguments s (classOf heads i) 0 b l; none = e }) l (f .partition .own i h) in
+            let r = c .whole (classOf heads i) (record {
+              node = b;
+              applied = counted-application nodes arguments s (classOf heads i) 0 b l;
+              none = e;
+            }) l (f .partition .own i h) in
             let m = r .1 in
             (r .0, omega (arith, z, m), List·getD-append closed placed 0 (r .0) m ∙ r .2)
         go (no n) = met n (o .whole i h)
@@ -268,7 +275,9 @@ module _ (nodes arguments : List ℕ) (s : Sections nodes arguments) (counts hea
       -- no two places of the first are alike
       closed-apart : (q r : ℕ) → q < length closed → r < length closed → Alike nodes arguments heads names (word order q) (word order r) → q ≡ r
       closed-apart q r h b a =
-          let e : word closed q ≡ word closed r = sym (c .own q h) ∙ closed-alike names l t (word closed q) (word closed r) (c .is-closed q h) (c .is-closed r b) (rw (same-node q h, same-node r b) at a) ∙ c .own r b in
+          let e : word closed q ≡ word closed r = sym (c .own q h)
+          ∙ closed-alike names l t (word closed q) (word closed r) (c .is-closed q h) (c .is-closed r b) (rw (same-node q h, same-node r b) at a)
+          ∙ c .own r b in
           go e (ℕ-discrete q r) (decLt q r)
         where
           go : word closed q ≡ word closed r → Dec (q ≡ r) → Dec (q < r) → q ≡ r
@@ -307,7 +316,10 @@ module _ (nodes arguments : List ℕ) (s : Sections nodes arguments) (counts hea
             buckets-long = x .buckets-long;
             earlier-long = x .earlier-long;
             named = first-named;
-            chained = chained-same _ _ _ _ buckets earlier (length closed) (λ q h r. record { application = rw (same-node q h) (r .application); itself = rw (same-node q h) (r .itself) }) (λ q h r. record { application = rw (same-node q h) at (r .application); itself = rw (same-node q h) at (r .itself) }) (λ q h. ap (λ (g : ℕ). keyOf nodes arguments heads names g) (same-node q h)) (x .chained names l t);
+            chained = chained-same _ _ _ _ buckets earlier (length closed)
+                (λ q h r. record { application = rw (same-node q h) (r .application); itself = rw (same-node q h) (r .itself) })
+                (λ q h r. record { application = rw (same-node q h) at (r .application); itself = rw (same-node q h) at (r .itself) })
+                (λ q h. ap (λ (g : ℕ). keyOf nodes arguments heads names g) (same-node q h)) (x .chained names l t);
           }
 
     -- what is named along them has the least names of closed applications
@@ -388,11 +400,13 @@ none-leads nodes counts opens heads o q n i h = go (ℕ-discrete (word counts (c
         ap (word counts) (sym (q .own i h) ∙ ap (classOf heads) (sym (r .2))) ∙ n .none (r .0) (r .1)
 
 -- what is put into an order: closed applications, and open ones behind them
-pub order-put : (closed placed xs ys zs : List ℕ) (start end : ℕ) → start ≡ length closed → end ≡ start + length placed → ys ≡ closed ++ drop (length closed) xs → zs ≡ take start ys ++ placed ++ drop (start + length placed) ys → take (end - 0) zs ≡ closed ++ placed
+pub order-put : (closed placed xs ys zs : List ℕ) (start end : ℕ) → start ≡ length closed → end ≡ start + length placed →
+    ys ≡ closed ++ drop (length closed) xs → zs ≡ take start ys ++ placed ++ drop (start + length placed) ys → take (end - 0) zs ≡ closed ++ placed
 order-put closed placed xs ys zs start end e d f g =
     let z : end - 0 ≡ length (closed ++ placed) = omega (arith, d, e, length-append closed placed) in
     let h : take start ys ≡ closed = ap (take start) f ∙ take-at closed (drop (length closed) xs) start (sym e) in
-    ap (take (end - 0)) (g ∙ ap (λ (l : List ℕ). l ++ placed ++ drop (start + length placed) ys) h) ∙ take-at (closed ++ placed) (drop (start + length placed) ys) (end - 0) (sym z)
+    ap (take (end - 0)) (g ∙ ap (λ (l : List ℕ). l ++ placed ++ drop (start + length placed) ys) h)
+    ∙ take-at (closed ++ placed) (drop (start + length placed) ys) (end - 0) (sym z)
 
 -- the parts of the table and the list behind it, as the code takes them
 pub closed-parts : (nodes arguments counts heads prepared : List ℕ) (r : ℕ) → ClosedListed nodes counts heads (take r (drop 512 prepared)) →

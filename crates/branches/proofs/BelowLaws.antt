@@ -45,7 +45,8 @@ pairedBy (a ∷ ls) rs [] ps = ps
 pairedBy (a ∷ ls) rs (d ∷ ds) ps = pairedBy ls rs ds (cond (leb d (length rs)) ((a, word rs (d - 1)) ∷ ps) ps)
 
 -- what strings that branch have, they have digit by digit
-pub flat-branch : (f : List ℕ → List (List ℕ)) (d c : ℕ) (g : ℕ → List (List ℕ)) → flatMap f (branch d c g) ≡ over d c (λ e. flatMap (λ es. f (e ∷ es)) (g e))
+pub flat-branch : (f : List ℕ → List (List ℕ)) (d c : ℕ) (g : ℕ → List (List ℕ)) →
+    flatMap f (branch d c g) ≡ over d c (λ e. flatMap (λ es. f (e ∷ es)) (g e))
 unfolding flatMap branch over
 flat-branch f d zero g = refl
 flat-branch f d (suc c) g =
@@ -110,7 +111,8 @@ marks-placed m marks used d q k =
     }
 
 -- the strings by marks from place i on are those by the digits used
-marked-from : (k : ℕ) (marks used : List ℕ) (i : ℕ) → ((j p : ℕ) → j < length marks → p ≡ i + j → eqb (word marks j) 0 ≡ among (suc p) used) → marked k marks ≡ rights k used i (length marks)
+marked-from : (k : ℕ) (marks used : List ℕ) (i : ℕ) → ((j p : ℕ) → j < length marks → p ≡ i + j → eqb (word marks j) 0 ≡ among (suc p) used) →
+    marked k marks ≡ rights k used i (length marks)
 unfolding marked rights
 marked-from k [] used i h = refl
 marked-from k (z ∷ zs) used i h =
@@ -145,14 +147,23 @@ module _ (ns : List Node) (w : WellFormed ns) (rs : List ℕ) (right : Nodes ns 
       more-none ns ps (p ∷ ps) (λ q m. List·Memᴰ·tail m) (λ u. n (outcome-unified ns w ps h .1 u)) (outcome-unified ns w (p ∷ ps) i .0 e)
 
   -- so of the strings after them none is kept
-  none-after : (ls used : List ℕ) (ps : List (ℕ × ℕ)) (g : List ℕ → List (ℕ × ℕ) → List ℕ) → Nodes ns ls → Inside ns ps → (outcome ns ps ≡ unified → ⊥) → flatMap (keptAfter ns rs ls ps g) (lefts (length rs) k l used (length ls)) ≡ []
+  none-after : (ls used : List ℕ) (ps : List (ℕ × ℕ)) (g : List ℕ → List (ℕ × ℕ) → List ℕ) → Nodes ns ls → Inside ns ps →
+      (outcome ns ps ≡ unified → ⊥) → flatMap (keptAfter ns rs ls ps g) (lefts (length rs) k l used (length ls)) ≡ []
   unfolding flatMap pairedBy lefts
   none-after [] used ps g left h n = flat-none (keptAfter ns rs [] ps g) (lefts (length rs) k l used 0) (λ es. kept-none (outcome ns ps) (g es ps) n)
   none-after (a ∷ ls) used ps g left h n =
-      flat-branch (keptAfter ns rs (a ∷ ls) ps g) 1 (length rs + l) (λ d. cond (leb d (length rs) && among d used) [] (lefts (length rs) k l (d ∷ used) (length ls)))
-      ∙ over-none 1 (length rs + l) _ (λ d p q. pick d p (leb d (length rs)) refl (among d used) (λ i m. none-after ls (d ∷ used) (pairUp a d ps) (λ es. g (d ∷ es)) (λ j r. left (suc j) (omega arith)) i m) (none-after ls (d ∷ used) ps (λ es. g (d ∷ es)) (λ j r. left (suc j) (omega arith)) h n))
+      flat-branch (keptAfter ns rs (a ∷ ls) ps g) 1 (length rs + l)
+      (λ d. cond (leb d (length rs) && among d used) [] (lefts (length rs) k l (d ∷ used) (length ls)))
+      ∙ over-none 1 (length rs + l) _ (λ d p q. pick d p (leb d (length rs)) refl (among d used)
+      (λ i m. none-after ls (d ∷ used) (pairUp a d ps) (λ es. g (d ∷ es)) (λ j r. left (suc j) (omega arith)) i m)
+      (none-after ls (d ∷ used) ps (λ es. g (d ∷ es)) (λ j r. left (suc j) (omega arith)) h n))
     where
-      pick : (d : ℕ) → 1 ≤ d → (b : Bool) → leb d (length rs) ≡ b → (c : Bool) → (Inside ns (pairUp a d ps) → (outcome ns (pairUp a d ps) ≡ unified → ⊥) → flatMap (keptAfter ns rs ls (pairUp a d ps) (λ es. g (d ∷ es))) (lefts (length rs) k l (d ∷ used) (length ls)) ≡ []) → flatMap (keptAfter ns rs ls ps (λ es. g (d ∷ es))) (lefts (length rs) k l (d ∷ used) (length ls)) ≡ [] → flatMap (keptAfter ns rs ls (cond b (pairUp a d ps) ps) (λ es. g (d ∷ es))) (cond (b && c) [] (lefts (length rs) k l (d ∷ used) (length ls))) ≡ []
+      pick : (d : ℕ) → 1 ≤ d → (b : Bool) → leb d (length rs) ≡ b → (c : Bool) →
+          (Inside ns (pairUp a d ps) → (outcome ns (pairUp a d ps) ≡ unified → ⊥) →
+          flatMap (keptAfter ns rs ls (pairUp a d ps) (λ es. g (d ∷ es))) (lefts (length rs) k l (d ∷ used) (length ls)) ≡ []) →
+          flatMap (keptAfter ns rs ls ps (λ es. g (d ∷ es))) (lefts (length rs) k l (d ∷ used) (length ls)) ≡ [] →
+          flatMap (keptAfter ns rs ls (cond b (pairUp a d ps) ps) (λ es. g (d ∷ es)))
+          (cond (b && c) [] (lefts (length rs) k l (d ∷ used) (length ls))) ≡ []
       pick d p true e true x y = refl
       pick d p true e false x y =
           let i = inside-pair a d ps (left 0 (omega arith)) p (leb-true d (length rs) e) h in
@@ -165,31 +176,43 @@ module _ (ns : List Node) (w : WellFormed ns) (rs : List ℕ) (right : Nodes ns 
 
   -- What is below a branch with left terms ls to go is what is kept of its strings of digits.
   abbrev KeptBelow : List ℕ → Type 0
-  KeptBelow ls = (ds : List ℕ) (ps : List (ℕ × ℕ)) (marks used : List ℕ) → Inside ns ps → outcome ns ps ≡ unified → Marks (length rs) marks used → below ns rs k l ls ds ps marks ≡ flatMap (keptAfter ns rs ls ps (entryAfter ds)) (lefts (length rs) k l used (length ls))
+  KeptBelow ls = (ds : List ℕ) (ps : List (ℕ × ℕ)) (marks used : List ℕ) → Inside ns ps → outcome ns ps ≡ unified → Marks (length rs) marks used →
+      below ns rs k l ls ds ps marks ≡ flatMap (keptAfter ns rs ls ps (entryAfter ds)) (lefts (length rs) k l used (length ls))
 
   module _ (ls : List ℕ) (left : Nodes ns ls) (rest : KeptBelow ls) where
     -- the same with a further left digit
-    rest-after : (ds : List ℕ) (d : ℕ) (ps : List (ℕ × ℕ)) (marks used : List ℕ) → Inside ns ps → outcome ns ps ≡ unified → Marks (length rs) marks used → below ns rs k l ls (ds ++ d ∷ []) ps marks ≡ flatMap (keptAfter ns rs ls ps (λ es. entryAfter ds (d ∷ es))) (lefts (length rs) k l used (length ls))
+    rest-after : (ds : List ℕ) (d : ℕ) (ps : List (ℕ × ℕ)) (marks used : List ℕ) → Inside ns ps → outcome ns ps ≡ unified →
+        Marks (length rs) marks used → below ns rs k l ls (ds ++ d ∷ []) ps marks ≡ flatMap (keptAfter ns rs ls ps (λ es. entryAfter ds (d ∷ es)))
+        (lefts (length rs) k l used (length ls))
     rest-after ds d ps marks used h o s =
         rest (ds ++ d ∷ []) ps marks used h o s
-        ∙ flat-same (keptAfter ns rs ls ps (entryAfter (ds ++ d ∷ []))) (keptAfter ns rs ls ps (λ es. entryAfter ds (d ∷ es))) (lefts (length rs) k l used (length ls))
-        (λ es m. ap (λ (zs : List ℕ). kept (outcome ns (pairedBy ls rs es ps)) (zs ++ wordsOf ns (pairedBy ls rs es ps))) (append-assoc ds (d ∷ []) es))
+        ∙ flat-same (keptAfter ns rs ls ps (entryAfter (ds ++ d ∷ []))) (keptAfter ns rs ls ps (λ es. entryAfter ds (d ∷ es)))
+        (lefts (length rs) k l used (length ls))
+        (λ es m. ap (λ (zs : List ℕ). kept (outcome ns (pairedBy ls rs es ps)) (zs ++ wordsOf ns (pairedBy ls rs es ps)))
+        (append-assoc ds (d ∷ []) es))
 
     -- where a pair has come to ps, there is nothing below unless they are unified
-    after-pair : (ds : List ℕ) (d : ℕ) (ps : List (ℕ × ℕ)) (marks used : List ℕ) → Inside ns ps → Marks (length rs) marks used → ifUnified (outcome ns ps) (below ns rs k l ls (ds ++ d ∷ []) ps marks) ≡ flatMap (keptAfter ns rs ls ps (λ es. entryAfter ds (d ∷ es))) (lefts (length rs) k l used (length ls))
+    after-pair : (ds : List ℕ) (d : ℕ) (ps : List (ℕ × ℕ)) (marks used : List ℕ) → Inside ns ps → Marks (length rs) marks used →
+        ifUnified (outcome ns ps) (below ns rs k l ls (ds ++ d ∷ []) ps marks) ≡ flatMap (keptAfter ns rs ls ps (λ es. entryAfter ds (d ∷ es)))
+        (lefts (length rs) k l used (length ls))
     unfolding ifUnified
     after-pair ds d ps marks used h s = pick (outcome ns ps) refl
       where
-        none : (outcome ns ps ≡ unified → ⊥) → [] ≡ flatMap (keptAfter ns rs ls ps (λ es. entryAfter ds (d ∷ es))) (lefts (length rs) k l used (length ls))
+        none : (outcome ns ps ≡ unified → ⊥) → [] ≡ flatMap (keptAfter ns rs ls ps (λ es. entryAfter ds (d ∷ es)))
+            (lefts (length rs) k l used (length ls))
         none n = sym (none-after ls used ps (λ es. entryAfter ds (d ∷ es)) left h n)
 
-        pick : (o : Outcome) → outcome ns ps ≡ o → ifUnified o (below ns rs k l ls (ds ++ d ∷ []) ps marks) ≡ flatMap (keptAfter ns rs ls ps (λ es. entryAfter ds (d ∷ es))) (lefts (length rs) k l used (length ls))
+        pick : (o : Outcome) → outcome ns ps ≡ o → ifUnified o (below ns rs k l ls (ds ++ d ∷ []) ps marks) ≡ flatMap
+            (keptAfter ns rs ls ps (λ es. entryAfter ds (d ∷ es))) (lefts (length rs) k l used (length ls))
         pick unified e = rest-after ds d ps marks used h e s
         pick clash e = none (λ f. let z : _≡_ {A = ℕ} 0 1 = cc in omega arith)
         pick occurs e = none (λ f. let z : _≡_ {A = ℕ} 0 1 = cc in omega arith)
 
     -- what a digit of the next left term has
-    after-digit : (a : ℕ) → a < length ns → (ds : List ℕ) (ps : List (ℕ × ℕ)) (marks used : List ℕ) → Inside ns ps → outcome ns ps ≡ unified → Marks (length rs) marks used → (d : ℕ) → 1 ≤ d → onDigit ns rs (below ns rs k l ls) ds ps marks a d ≡ flatMap (λ es. keptAfter ns rs (a ∷ ls) ps (entryAfter ds) (d ∷ es)) (cond (leb d (length rs) && among d used) [] (lefts (length rs) k l (d ∷ used) (length ls)))
+    after-digit : (a : ℕ) → a < length ns → (ds : List ℕ) (ps : List (ℕ × ℕ)) (marks used : List ℕ) → Inside ns ps → outcome ns ps ≡ unified →
+        Marks (length rs) marks used → (d : ℕ) → 1 ≤ d → onDigit ns rs (below ns rs k l ls) ds ps marks a d ≡ flatMap
+        (λ es. keptAfter ns rs (a ∷ ls) ps (entryAfter ds) (d ∷ es))
+        (cond (leb d (length rs) && among d used) [] (lefts (length rs) k l (d ∷ used) (length ls)))
     unfolding onDigit pairedBy flatMap
     after-digit a p ds ps marks used h o s d q = pick (leb d (length rs)) refl (among d used) refl
       where
@@ -198,11 +221,16 @@ module _ (ns : List Node) (w : WellFormed ns) (rs : List ℕ) (right : Nodes ns 
             let e : suc (d - 1) ≡ d = omega arith in
             s .paired (d - 1) (omega arith) ∙ ap (λ (z : ℕ). among z used) e
 
-        pick : (b : Bool) → leb d (length rs) ≡ b → (c : Bool) → among d used ≡ c → cond b (cond (eqb (word marks (d - 1)) 0) [] (ifUnified (outcome ns (pairUp a d ps)) (below ns rs k l ls (ds ++ d ∷ []) (pairUp a d ps) (set marks (d - 1) 0)))) (below ns rs k l ls (ds ++ d ∷ []) ps marks) ≡ flatMap (keptAfter ns rs ls (cond b (pairUp a d ps) ps) (λ es. entryAfter ds (d ∷ es))) (cond (b && c) [] (lefts (length rs) k l (d ∷ used) (length ls)))
+        pick : (b : Bool) → leb d (length rs) ≡ b → (c : Bool) → among d used ≡ c →
+            cond b (cond (eqb (word marks (d - 1)) 0) [] (ifUnified (outcome ns (pairUp a d ps))
+            (below ns rs k l ls (ds ++ d ∷ []) (pairUp a d ps) (set marks (d - 1) 0)))) (below ns rs k l ls (ds ++ d ∷ []) ps marks) ≡ flatMap
+            (keptAfter ns rs ls (cond b (pairUp a d ps) ps) (λ es. entryAfter ds (d ∷ es)))
+            (cond (b && c) [] (lefts (length rs) k l (d ∷ used) (length ls)))
         pick true e true f = rw (mark (leb-true d (length rs) e), f)
         pick true e false f =
             let r = leb-true d (length rs) e in
-            rw (mark r, f) (after-pair ds d (pairUp a d ps) (set marks (d - 1) 0) (d ∷ used) (inside-pair a d ps p q r h) (marks-paired (length rs) marks used d q r s))
+            rw (mark r, f) (after-pair ds d (pairUp a d ps) (set marks (d - 1) 0) (d ∷ used) (inside-pair a d ps p q r h)
+            (marks-paired (length rs) marks used d q r s))
         pick false e c f =
             rest-after ds d ps marks (d ∷ used) h o (marks-placed (length rs) marks used d (leb-false d (length rs) e) s)
 
@@ -212,12 +240,16 @@ module _ (ns : List Node) (w : WellFormed ns) (rs : List ℕ) (right : Nodes ns 
   kept-below [] left ds ps marks used h o s =
       ap (map (λ es. entryAfter ds es ps)) (marked-rights k (length rs) marks used s)
       ∙ sym (flat-one (λ es. entryAfter ds es ps) (rights k used 0 (length rs)))
-      ∙ flat-same (λ es. entryAfter ds es ps ∷ []) (keptAfter ns rs [] ps (entryAfter ds)) (rights k used 0 (length rs)) (λ es m. sym (ap (λ (r : Outcome). kept r (entryAfter ds es ps)) o))
+      ∙ flat-same (λ es. entryAfter ds es ps ∷ []) (keptAfter ns rs [] ps (entryAfter ds)) (rights k used 0 (length rs))
+      (λ es m. sym (ap (λ (r : Outcome). kept r (entryAfter ds es ps)) o))
   kept-below (a ∷ ls) left ds ps marks used h o s =
       let rest = kept-below ls (λ j q. left (suc j) (omega arith)) in
-      over-same 1 (length rs + l) (λ d. onDigit ns rs (below ns rs k l ls) ds ps marks a d) (λ d. flatMap (λ es. keptAfter ns rs (a ∷ ls) ps (entryAfter ds) (d ∷ es)) (cond (leb d (length rs) && among d used) [] (lefts (length rs) k l (d ∷ used) (length ls))))
+      over-same 1 (length rs + l) (λ d. onDigit ns rs (below ns rs k l ls) ds ps marks a d)
+      (λ d. flatMap (λ es. keptAfter ns rs (a ∷ ls) ps (entryAfter ds) (d ∷ es))
+      (cond (leb d (length rs) && among d used) [] (lefts (length rs) k l (d ∷ used) (length ls))))
       (λ d q. after-digit ls (λ j r. left (suc j) (omega arith)) rest a (left 0 (omega arith)) ds ps marks used h o s d q)
-      ∙ sym (flat-branch (keptAfter ns rs (a ∷ ls) ps (entryAfter ds)) 1 (length rs + l) (λ d. cond (leb d (length rs) && among d used) [] (lefts (length rs) k l (d ∷ used) (length ls))))
+      ∙ sym (flat-branch (keptAfter ns rs (a ∷ ls) ps (entryAfter ds)) 1 (length rs + l)
+      (λ d. cond (leb d (length rs) && among d used) [] (lefts (length rs) k l (d ∷ used) (length ls))))
 
 -- further digits keep the pairs before them
 paired-kept : (ls rs es : List ℕ) (ps : List (ℕ × ℕ)) (p : ℕ × ℕ) → List·Memᴰ p ps → List·Memᴰ p (pairedBy ls rs es ps)
@@ -238,7 +270,9 @@ paired-pairs (a ∷ ls) rs [] ps p m = absurd (List·Memᴰ·not-nil m)
 paired-pairs (a ∷ ls) rs (d ∷ es) ps p m =
     pick (leb d (length rs)) m (paired-pairs ls rs es ((a, word rs (d - 1)) ∷ ps) p) (paired-pairs ls rs es ps p)
   where
-    pick : (b : Bool) → List·Memᴰ p (cond b ((a, word rs (d - 1)) ∷ pairs ls rs es) (pairs ls rs es)) → (List·Memᴰ p (pairs ls rs es) → List·Memᴰ p (pairedBy ls rs es ((a, word rs (d - 1)) ∷ ps))) → (List·Memᴰ p (pairs ls rs es) → List·Memᴰ p (pairedBy ls rs es ps)) → List·Memᴰ p (pairedBy ls rs es (cond b ((a, word rs (d - 1)) ∷ ps) ps))
+    pick : (b : Bool) → List·Memᴰ p (cond b ((a, word rs (d - 1)) ∷ pairs ls rs es) (pairs ls rs es)) →
+        (List·Memᴰ p (pairs ls rs es) → List·Memᴰ p (pairedBy ls rs es ((a, word rs (d - 1)) ∷ ps))) →
+        (List·Memᴰ p (pairs ls rs es) → List·Memᴰ p (pairedBy ls rs es ps)) → List·Memᴰ p (pairedBy ls rs es (cond b ((a, word rs (d - 1)) ∷ ps) ps))
     pick true (List·Memᴰ·head e) x y = paired-kept ls rs es ((a, word rs (d - 1)) ∷ ps) p (List·Memᴰ·head e)
     pick true (List·Memᴰ·tail n) x y = x n
     pick false n x y = y n
@@ -250,7 +284,8 @@ paired-from [] rs es ps p m = inl m
 paired-from (a ∷ ls) rs [] ps p m = inl m
 paired-from (a ∷ ls) rs (d ∷ es) ps p m = pick (leb d (length rs)) (paired-from ls rs es _ p m)
   where
-    pick : (b : Bool) → List·Memᴰ p (cond b ((a, word rs (d - 1)) ∷ ps) ps) ⊎ List·Memᴰ p (pairs ls rs es) → List·Memᴰ p ps ⊎ List·Memᴰ p (cond b ((a, word rs (d - 1)) ∷ pairs ls rs es) (pairs ls rs es))
+    pick : (b : Bool) → List·Memᴰ p (cond b ((a, word rs (d - 1)) ∷ ps) ps) ⊎ List·Memᴰ p (pairs ls rs es) →
+        List·Memᴰ p ps ⊎ List·Memᴰ p (cond b ((a, word rs (d - 1)) ∷ pairs ls rs es) (pairs ls rs es))
     pick true (inl (List·Memᴰ·head e)) = inr (List·Memᴰ·head e)
     pick true (inl (List·Memᴰ·tail n)) = inl n
     pick true (inr n) = inr (List·Memᴰ·tail n)
@@ -287,7 +322,8 @@ module _ (ns : List Node) (f : WellFormed ns) (k : Half) (g : HalfPosed (length 
 
   -- what is below the branch without digits are the entries of the half's choices
   pub below-half :
-      below ns (k .right) (length (k .leftLabels)) (length (k .rightLabels)) (k .left) [] [] (replicate (length (k .right)) 1) ≡ flatMap (λ ds. kept (outcome ns (halfPairs k ds)) (ds ++ wordsOf ns (halfPairs k ds))) (halfChoices k)
+      below ns (k .right) (length (k .leftLabels)) (length (k .rightLabels)) (k .left) [] [] (replicate (length (k .right)) 1) ≡ flatMap
+      (λ ds. kept (outcome ns (halfPairs k ds)) (ds ++ wordsOf ns (halfPairs k ds))) (halfChoices k)
   unfolding halfChoices choices
   below-half =
       kept-below ns f (k .right) (g .right-node) (length (k .leftLabels)) (length (k .rightLabels)) (k .left) (g .left-node) [] []
@@ -297,11 +333,13 @@ module _ (ns : List Node) (f : WellFormed ns) (k : Half) (g : HalfPosed (length 
 
   -- and so document 01's listing of a problem of this half
   pub below-listing :
-      below ns (k .right) (length (k .leftLabels)) (length (k .rightLabels)) (k .left) [] [] (replicate (length (k .right)) 1) ≡ admissibleListing (oneHalf ns k)
+      below ns (k .right) (length (k .leftLabels)) (length (k .rightLabels)) (k .left) [] [] (replicate (length (k .right)) 1) ≡ admissibleListing
+      (oneHalf ns k)
   below-listing = below-half ∙ sym (one-listing k ns)
 
 -- what holds of each entry that a digit has holds of each that several have
-over-each : (P : List ℕ → Type 0) (d c : ℕ) (f : ℕ → List (List ℕ)) → ((e : ℕ) (x : List ℕ) → List·Memᴰ x (f e) → P x) → (x : List ℕ) → List·Memᴰ x (over d c f) → P x
+over-each : (P : List ℕ → Type 0) (d c : ℕ) (f : ℕ → List (List ℕ)) → ((e : ℕ) (x : List ℕ) → List·Memᴰ x (f e) → P x) → (x : List ℕ) →
+    List·Memᴰ x (over d c f) → P x
 unfolding over
 over-each P d zero f h x m = absurd (List·Memᴰ·not-nil m)
 over-each P d (suc c) f h x m = go (over-each P (suc d) c f h x) (List·Memᴰ·append-cases (f d) m)
@@ -311,12 +349,15 @@ over-each P d (suc c) f h x m = go (over-each P (suc d) c f h x) (List·Memᴰ·
     go r (inr n) = r n
 
 -- the same of what a digit has: it is what its pair or its label has, or nothing
-digit-each : (P : List ℕ → Type 0) (ns : List Node) (rs : List ℕ) (f : List ℕ → List (ℕ × ℕ) → List ℕ → List (List ℕ)) (ds : List ℕ) (ps : List (ℕ × ℕ)) (marks : List ℕ) (a d : ℕ) → ((x : List ℕ) → List·Memᴰ x (f (ds ++ d ∷ []) ((a, word rs (d - 1)) ∷ ps) (set marks (d - 1) 0)) → P x) → ((x : List ℕ) → List·Memᴰ x (f (ds ++ d ∷ []) ps marks) → P x) → (x : List ℕ) → List·Memᴰ x (onDigit ns rs f ds ps marks a d) → P x
+digit-each : (P : List ℕ → Type 0) (ns : List Node) (rs : List ℕ) (f : List ℕ → List (ℕ × ℕ) → List ℕ → List (List ℕ)) (ds : List ℕ)
+    (ps : List (ℕ × ℕ)) (marks : List ℕ) (a d : ℕ) → ((x : List ℕ) → List·Memᴰ x (f (ds ++ d ∷ []) ((a, word rs (d - 1)) ∷ ps) (set marks (d - 1) 0))
+    → P x) → ((x : List ℕ) → List·Memᴰ x (f (ds ++ d ∷ []) ps marks) → P x) → (x : List ℕ) → List·Memᴰ x (onDigit ns rs f ds ps marks a d) → P x
 unfolding onDigit ifUnified
 digit-each P ns rs f ds ps marks a d h k x m =
     pick (leb d (length rs)) (eqb (word marks (d - 1)) 0) (outcome ns ((a, word rs (d - 1)) ∷ ps)) m
   where
-    pick : (b c : Bool) (o : Outcome) → List·Memᴰ x (cond b (cond c [] (ifUnified o (f (ds ++ d ∷ []) ((a, word rs (d - 1)) ∷ ps) (set marks (d - 1) 0)))) (f (ds ++ d ∷ []) ps marks)) → P x
+    pick : (b c : Bool) (o : Outcome) → List·Memᴰ x (cond b (cond c [] (ifUnified o (f (ds ++ d ∷ []) ((a, word rs (d - 1)) ∷ ps)
+        (set marks (d - 1) 0)))) (f (ds ++ d ∷ []) ps marks)) → P x
     pick true true o n = absurd (List·Memᴰ·not-nil n)
     pick true false unified n = h x n
     pick true false clash n = absurd (List·Memᴰ·not-nil n)
@@ -324,7 +365,8 @@ digit-each P ns rs f ds ps marks a d h k x m =
     pick false c o n = k x n
 
 -- every entry below a branch has a word for each left term, each right term and each variable
-pub below-long : (ns : List Node) (rs : List ℕ) (k l : ℕ) (ls ds : List ℕ) (ps : List (ℕ × ℕ)) (marks e : List ℕ) → List·Memᴰ e (below ns rs k l ls ds ps marks) → length e ≡ length ds + length ls + length marks + length (variablesOf ns)
+pub below-long : (ns : List Node) (rs : List ℕ) (k l : ℕ) (ls ds : List ℕ) (ps : List (ℕ × ℕ)) (marks e : List ℕ) →
+    List·Memᴰ e (below ns rs k l ls ds ps marks) → length e ≡ length ds + length ls + length marks + length (variablesOf ns)
 unfolding below
 below-long ns rs k l [] ds ps marks e m =
     let r = Memᴰ·of-map (λ es. ds ++ es ++ wordsOf ns ps) (marked k marks) m in
@@ -334,7 +376,8 @@ below-long ns rs k l [] ds ps marks e m =
     let v = length-append (ds ++ r .0) (wordsOf ns ps) in
     sym (ap length (r .2)) ∙ omega (arith, x, y, u, v)
 below-long ns rs k l (a ∷ ls) ds ps marks e m =
-    over-each (λ e. length e ≡ length ds + suc (length ls) + length marks + length (variablesOf ns)) 1 (length rs + l) (λ d. onDigit ns rs (below ns rs k l ls) ds ps marks a d)
+    over-each (λ e. length e ≡ length ds + suc (length ls) + length marks + length (variablesOf ns)) 1 (length rs + l)
+    (λ d. onDigit ns rs (below ns rs k l ls) ds ps marks a d)
     (λ d.
     let u = length-append ds (d ∷ []) in
     let z = length-set marks (d - 1) 0 in
@@ -356,7 +399,8 @@ module _ (ns : List Node) where
   SameUnifiers ps qs = (σ : Substitution) → Unifies ns ps σ ↔ Unifies ns qs σ
 
   -- what unifies one unifies the other, with one pair more
-  one-more : (p : ℕ × ℕ) (ps qs : List (ℕ × ℕ)) (σ : Substitution) → (Unifies ns ps σ → Unifies ns qs σ) → Unifies ns (p ∷ ps) σ → Unifies ns (p ∷ qs) σ
+  one-more : (p : ℕ × ℕ) (ps qs : List (ℕ × ℕ)) (σ : Substitution) → (Unifies ns ps σ → Unifies ns qs σ) → Unifies ns (p ∷ ps) σ →
+      Unifies ns (p ∷ qs) σ
   one-more p ps qs σ f u x y (List·Memᴰ·head e) = u x y (List·Memᴰ·head e)
   one-more p ps qs σ f u x y (List·Memᴰ·tail m) = f (λ a b n. u a b (List·Memᴰ·tail n)) x y m
 

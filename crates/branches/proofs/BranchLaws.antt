@@ -1,19 +1,18 @@
 -- A branch of the walk, as it stands in an entry: what one digit more, a mark of 0 and a mark put back make of it.
 -- By the places that are set. Assumes nothing.
-use Prim.Native.Nat.{ℕ, suc, _+_, _-_, _^_, _≤_, _<_}
-use mathlib.Core.Bool.{Bool, true, false}
+use Prim.Native.Nat.{ℕ, _+_, _-_, _^_, _≤_, _<_}
+use mathlib.Core.Bool.{false}
 use mathlib.Core.List.{List, [], _∷_, _++_}
 use mathlib.Core.Path.{_≡_, refl, sym, ap, _∙_}
 use native.Mathlib.Decide.{ℕ-discrete}
 use native.Mathlib.Numerals.{add-one}
 use native.Mathlib.Omega.{arith}
-use borrow.Author.Tests.{eqb-false, eqb-true}
-use lib.Dec.{eqb}
+use borrow.Author.Tests.{eqb-false}
 use lib.ListN.{length, take, drop, set, length-set, length-drop}
 use lib.Seq.{length-take-le, take-suc-set, take-set-le, take-set-lt, take-take, take-at, drop-set-lt, drop-set-add, getD-take, getD-drop, getD-set-same, getD-set-other, set-set, set-getD}
 use Rattle.table.specs.Layout.{word}
-use Rattle.branches.specs.Code.Known.{leftCount, rightCount, widthIn, KnownOf}
-use Rattle.branches.specs.Code.Ahead.{has, PairedSet}
+use Rattle.branches.specs.Code.Known.{leftCount, rightCount, KnownOf}
+use Rattle.branches.specs.Code.Ahead.{has}
 use Rattle.branches.specs.Code.Walk.{marksIn, Branching, KeepsBranch}
 use Rattle.branches.proofs.SetLaws.{paired-more}
 
@@ -37,7 +36,8 @@ module _ (known entry : List ℕ) (p d : ℕ) (e : p ≡ leftCount known + d - 1
   pub mark-marks : (v : ℕ) → marksIn known (set entry p v) ≡ set (marksIn known entry) (d - 1) v
   mark-marks v =
       let q : p ≡ leftCount known + (d - 1) = omega (arith, e, h) in
-      rw (q, drop-set-add (leftCount known) entry (d - 1) v) (take-set-lt (rightCount known) (drop (leftCount known) entry) (d - 1) v (omega (arith, h, l)))
+      rw (q, drop-set-add (leftCount known) entry (d - 1) v)
+      (take-set-lt (rightCount known) (drop (leftCount known) entry) (d - 1) v (omega (arith, h, l)))
 
 -- a mark is read in an entry
 pub mark-word : (known entry : List ℕ) (j : ℕ) → j < rightCount known → word (marksIn known entry) j ≡ word entry (leftCount known + j)
@@ -59,7 +59,8 @@ module _ {nodes arguments known entry : List ℕ} {i paired : ℕ} (k : KnownOf 
 
   -- there is a mark for each right term
   pub marks-long : length (marksIn known entry) ≡ rightCount known
-  marks-long = length-take-le (rightCount known) (drop (leftCount known) entry) (rw (length-drop (leftCount known) entry) (omega (arith, branch-room)))
+  marks-long = length-take-le (rightCount known) (drop (leftCount known) entry)
+      (rw (length-drop (leftCount known) entry) (omega (arith, branch-room)))
 
   -- the digits before the next one
   pub digits-long : length (take i entry) ≡ i
@@ -71,7 +72,8 @@ module _ {nodes arguments known entry : List ℕ} {i paired : ℕ} (k : KnownOf 
       record {
         size = q .size ∙ g .size;
         depth = g .depth;
-        small = λ j h. let e : word entry′ (leftCount known + j) ≡ word entry (leftCount known + j) = sym (mark-word known entry′ j h) ∙ ap (λ (zs : List ℕ). word zs j) (q .marks) ∙ mark-word known entry j h in omega (arith, e, g .small j h);
+        small = λ j h. let e : word entry′ (leftCount known + j) ≡ word entry (leftCount known + j) = sym (mark-word known entry′ j h)
+            ∙ ap (λ (zs : List ℕ). word zs j) (q .marks) ∙ mark-word known entry j h in omega (arith, e, g .small j h);
         set-of = rw (q .marks) (g .set-of);
       }
 
@@ -95,7 +97,8 @@ module _ {nodes arguments known entry : List ℕ} {i paired : ℕ} (k : KnownOf 
         record {
           size = length-set entry i d ∙ g .size;
           depth = omega (arith, h);
-          small = λ j q. let e : word (set entry i d) (leftCount known + j) ≡ word entry (leftCount known + j) = getD-set-other entry i (leftCount known + j) d 0 (omega (arith, h)) in omega (arith, e, g .small j q);
+          small = λ j q. let e : word (set entry i d) (leftCount known + j) ≡ word entry (leftCount known + j) = getD-set-other entry i
+              (leftCount known + j) d 0 (omega (arith, h)) in omega (arith, e, g .small j q);
           set-of = rw (set-marks known entry i d h) (g .set-of);
         }
 
@@ -112,7 +115,8 @@ module _ {nodes arguments known entry : List ℕ} {i paired : ℕ} (k : KnownOf 
       -- the marks
       pub pair-marks : marksIn known paired-entry ≡ set (marksIn known entry) (d - 1) 0
       pair-marks =
-          mark-marks known (set entry i d) (leftCount known + d - 1) d refl p l 0 ∙ ap (λ (zs : List ℕ). set zs (d - 1) 0) (set-marks known entry i d h)
+          mark-marks known (set entry i d) (leftCount known + d - 1) d refl p l 0
+          ∙ ap (λ (zs : List ℕ). set zs (d - 1) 0) (set-marks known entry i d h)
 
       -- the mark is 1 before
       pub free-mark : word (marksIn known entry) (d - 1) ≡ 1
@@ -128,24 +132,31 @@ module _ {nodes arguments known entry : List ℕ} {i paired : ℕ} (k : KnownOf 
             size = length-set (set entry i d) (leftCount known + d - 1) 0 ∙ length-set entry i d ∙ g .size;
             depth = omega (arith, h);
             small = λ j q. small j q (ℕ-discrete j (d - 1));
-            set-of = rw pair-marks (paired-more (marksIn known entry) paired (d - 1) (g .set-of) (omega (arith, marks-long, p, l)) (λ z. omega (arith, z, free-mark)));
+            set-of = rw pair-marks (paired-more (marksIn known entry) paired (d - 1) (g .set-of) (omega (arith, marks-long, p, l))
+                (λ z. omega (arith, z, free-mark)));
           }
         where
           small : (j : ℕ) → j < rightCount known → Dec (j ≡ d - 1) → word paired-entry (leftCount known + j) ≤ 1
           small j q (yes e) =
               let x : leftCount known + j ≡ leftCount known + d - 1 = omega (arith, e, p) in
-              let y : word paired-entry (leftCount known + j) ≡ 0 = ap (word paired-entry) x ∙ getD-set-same (set entry i d) (leftCount known + d - 1) 0 0 (omega (arith, length-set entry i d, branch-room, p, l)) in
+              let y : word paired-entry (leftCount known + j) ≡ 0 = ap (word paired-entry) x
+              ∙ getD-set-same (set entry i d) (leftCount known + d - 1) 0 0 (omega (arith, length-set entry i d, branch-room, p, l)) in
               omega (arith, y)
           small j q (no e) =
-              let y : word paired-entry (leftCount known + j) ≡ word entry (leftCount known + j) = getD-set-other (set entry i d) (leftCount known + d - 1) (leftCount known + j) 0 0 (omega (arith, e, p)) ∙ getD-set-other entry i (leftCount known + j) d 0 (omega (arith, h)) in
+              let y : word paired-entry (leftCount known + j) ≡ word entry (leftCount known + j) = getD-set-other (set entry i d)
+              (leftCount known + d - 1) (leftCount known + j) 0 0 (omega (arith, e, p))
+              ∙ getD-set-other entry i (leftCount known + j) d 0 (omega (arith, h)) in
               omega (arith, y, g .small j q)
 
       -- with the mark put back it is as before
-      pub pair-back : {entry′ entry″ : List ℕ} → KeepsBranch known (i + 1) paired-entry entry′ → entry″ ≡ set entry′ (leftCount known + d - 1) 1 → KeepsBranch known i entry entry″
+      pub pair-back : {entry′ entry″ : List ℕ} → KeepsBranch known (i + 1) paired-entry entry′ → entry″ ≡ set entry′ (leftCount known + d - 1) 1 →
+          KeepsBranch known i entry entry″
       pair-back {entry′} {entry″} q z =
           record {
-            size = ap length z ∙ length-set entry′ (leftCount known + d - 1) 1 ∙ q .size ∙ length-set (set entry i d) (leftCount known + d - 1) 0 ∙ length-set entry i d;
-            digits = ap (take i) z ∙ mark-digits known entry′ (leftCount known + d - 1) d refl p l i 1 (omega (arith, h)) ∙ digits-before entry′ (q .digits ∙ pair-digits);
+            size = ap length z ∙ length-set entry′ (leftCount known + d - 1) 1 ∙ q .size ∙ length-set (set entry i d) (leftCount known + d - 1) 0
+                ∙ length-set entry i d;
+            digits = ap (take i) z ∙ mark-digits known entry′ (leftCount known + d - 1) d refl p l i 1 (omega (arith, h))
+                ∙ digits-before entry′ (q .digits ∙ pair-digits);
             marks =
                 ap (marksIn known) z
                 ∙ mark-marks known entry′ (leftCount known + d - 1) d refl p l 1

@@ -5,8 +5,8 @@ use mathlib.Core.Bool.{Bool, true, false, cond, not, _&&_, false≢true}
 use mathlib.Core.List.{List, [], _∷_, _++_, map, List·Memᴰ·head, List·Memᴰ·tail}
 use mathlib.Core.Path.{_≡_, refl, sym, ap, _∙_}
 use native.Mathlib.Omega.{arith}
-use borrow.Author.Tests.{eqb-true, eqb-false, ne-eqb, leb-true, leb-false, not-false}
-use lib.Dec.{eqb, leb}
+use borrow.Author.Tests.{eqb-true, eqb-false, ne-eqb, not-false}
+use lib.Dec.{eqb}
 use lib.ListN.{length, drop, set, length-set, length-drop}
 use lib.Seq.{getD-drop}
 use Rattle.table.specs.Layout.{word}
@@ -50,7 +50,8 @@ never-more ns p ps a b n σ u = n σ fewer
     fewer x y (List·Memᴰ·tail m) = u x y (List·Memᴰ·tail (List·Memᴰ·tail m))
 
 -- such a pair is not unified on top of them
-pub never-unified : (ns : List Node) → WellFormed ns → (ps : List (ℕ × ℕ)) (a b : ℕ) → Inside ns ((a, b) ∷ ps) → NeverOn ns ps a b → outcome ns ((a, b) ∷ ps) ≡ unified → ⊥
+pub never-unified : (ns : List Node) → WellFormed ns → (ps : List (ℕ × ℕ)) (a b : ℕ) → Inside ns ((a, b) ∷ ps) → NeverOn ns ps a b →
+    outcome ns ((a, b) ∷ ps) ≡ unified → ⊥
 never-unified ns w ps a b i n e = let u = outcome-unified ns w ((a, b) ∷ ps) i .0 e in n (u .0) (u .1)
 
 -- of two tests that do not both hold, the second fails where the first holds
@@ -67,18 +68,23 @@ label-cannot m k l row rows s e h =
     (rw (ne-eqb l 0 (λ z. omega (arith, h, z))))
 
 -- nor with a pair that may be
-pub pair-cannot : (m k l row : ℕ) (rows : List ℕ) (s : ℕ) → completes m k l (row ∷ rows) s ≡ false → (j : ℕ) → j < m → has row j ≡ true → has s j ≡ false → completes m k l rows (s + 2 ^ j) ≡ false
+pub pair-cannot : (m k l row : ℕ) (rows : List ℕ) (s : ℕ) → completes m k l (row ∷ rows) s ≡ false → (j : ℕ) → j < m → has row j ≡ true →
+    has s j ≡ false → completes m k l rows (s + 2 ^ j) ≡ false
 unfolding completes partnerAt
 pair-cannot m k l row rows s e j h p q =
     and-false-right (has row j && not (has s j)) _
-    (none-some (partnerAt row s (completes m k l rows)) m (or-false-right (not (eqb l 0) && completes m k l rows s) (someBelow m (partnerAt row s (completes m k l rows))) e) j h)
+    (none-some (partnerAt row s (completes m k l rows)) m (or-false-right (not (eqb l 0) && completes m k l rows s)
+    (someBelow m (partnerAt row s (completes m k l rows))) e) j h)
     (rw (p, q))
 
 -- at the end there are no left labels, and the set is not whole
 pub end-cannot : (m k l s : ℕ) → completes m k l [] s ≡ false → (k ≡ 0) × (s + 1 ≡ 2 ^ m → ⊥)
 unfolding completes
-end-cannot m k l s e =
-    (eqb-true k 0 (not-false _ (or-false-left (not (eqb k 0)) (eqb (s + 1) (2 ^ m)) e)), eqb-false (s + 1) (2 ^ m) (or-false-right (not (eqb k 0)) (eqb (s + 1) (2 ^ m)) e))
+end-cannot m k l s e = (
+  eqb-true k 0 (not-false _ (or-false-left (not (eqb k 0)) (eqb (s + 1) (2 ^ m)) e)),
+  eqb-false (s + 1) (2 ^ m)
+      (or-false-right (not (eqb k 0)) (eqb (s + 1) (2 ^ m)) e),
+)
 
 module _ (ns : List Node) (w : WellFormed ns) (rs : List ℕ) (right : (j : ℕ) → j < length rs → word rs j < length ns) (k l : ℕ) where
   -- nothing is below a branch with left terms ls and their sets to go, where these cannot be placed
@@ -97,7 +103,8 @@ module _ (ns : List Node) (w : WellFormed ns) (rs : List ℕ) (right : (j : ℕ)
   cannot (a ∷ ls) (row ∷ rows) z left s ds ps marks lm p i never e =
       let rest : (t : ℕ) (es : List ℕ) (qs : List (ℕ × ℕ)) (zs : List ℕ) → length zs ≡ length rs → PairedSet zs t → Inside ns qs → ((q j : ℕ) → q < length ls → j < length rs → has (word rows q) j ≡ false → NeverOn ns qs (word ls q) (word rs j)) → completes (length rs) k l rows t ≡ false → below ns rs k l ls es qs zs ≡ [] =
       cannot ls rows (omega (arith, z)) (λ q h. left (suc q) (omega arith)) in
-      let later : (q j : ℕ) → q < length ls → j < length rs → has (word rows q) j ≡ false → NeverOn ns ps (word ls q) (word rs j) = λ q j h g o. never (suc q) j (omega arith) g o in
+      let later : (q j : ℕ) → q < length ls → j < length rs → has (word rows q) j ≡ false → NeverOn ns ps (word ls q) (word rs j) = λ q j h g o. never
+      (suc q) j (omega arith) g o in
       over-none 1 (length rs + l) (λ d. onDigit ns rs (below ns rs k l ls) ds ps marks a d)
       (λ d x y.
       digit-empty ns rs (below ns rs k l ls) ds ps marks a d
@@ -108,12 +115,15 @@ module _ (ns : List Node) (w : WellFormed ns) (rs : List ℕ) (right : (j : ℕ)
       inside d x t = inside-more ns a (word rs (d - 1)) ps (left 0 (omega arith)) (right (d - 1) (omega arith)) i
 
       pick : (d : ℕ) → 1 ≤ d → d ≤ length rs → (word marks (d - 1) ≡ 0 → ⊥) → outcome ns ((a, word rs (d - 1)) ∷ ps) ≡ unified →
-          ((t : ℕ) (es : List ℕ) (qs : List (ℕ × ℕ)) (zs : List ℕ) → length zs ≡ length rs → PairedSet zs t → Inside ns qs → ((q j : ℕ) → q < length ls → j < length rs → has (word rows q) j ≡ false → NeverOn ns qs (word ls q) (word rs j)) → completes (length rs) k l rows t ≡ false → below ns rs k l ls es qs zs ≡ []) →
+          ((t : ℕ) (es : List ℕ) (qs : List (ℕ × ℕ)) (zs : List ℕ) → length zs ≡ length rs → PairedSet zs t → Inside ns qs →
+          ((q j : ℕ) → q < length ls → j < length rs → has (word rows q) j ≡ false → NeverOn ns qs (word ls q) (word rs j)) →
+          completes (length rs) k l rows t ≡ false → below ns rs k l ls es qs zs ≡ []) →
           ((q j : ℕ) → q < length ls → j < length rs → has (word rows q) j ≡ false → NeverOn ns ps (word ls q) (word rs j)) →
           (b : Bool) → has row (d - 1) ≡ b → below ns rs k l ls (ds ++ d ∷ []) ((a, word rs (d - 1)) ∷ ps) (set marks (d - 1) 0) ≡ []
       pick d x t n o rest later true h =
           let g : d - 1 < length marks = omega (arith, x, t, lm) in
-          rest (s + 2 ^ (d - 1)) (ds ++ d ∷ []) ((a, word rs (d - 1)) ∷ ps) (set marks (d - 1) 0) (length-set marks (d - 1) 0 ∙ lm) (paired-more marks s (d - 1) p g n) (inside d x t)
+          rest (s + 2 ^ (d - 1)) (ds ++ d ∷ []) ((a, word rs (d - 1)) ∷ ps) (set marks (d - 1) 0) (length-set marks (d - 1) 0 ∙ lm)
+          (paired-more marks s (d - 1) p g n) (inside d x t)
           (λ q j v u y. never-more ns (a, word rs (d - 1)) ps (word ls q) (word rs j) (later q j v u y))
           (pair-cannot (length rs) k l row rows s e (d - 1) (omega (arith, x, t)) h (unpaired-not marks s (d - 1) p g n))
       pick d x t n o rest later false h =
@@ -134,9 +144,11 @@ below-cannot nodes arguments known k i h s ds ps marks lm p g may e =
     cannot (nodesFrom nodes arguments) w (rightIn known)
     (λ j q. rw (right-word known j (omega (arith, q, y))) (is-node nodes arguments (word known (592 + j)) (k .right-nodes j (omega (arith, q, y)))))
     (leftLabels known) (rightLabels known) (drop i (leftIn known)) (drop i (rowsIn known)) (omega (arith, x, z, u, v))
-    (λ q r. rw (left-at q (omega (arith, r, u, x))) (is-node nodes arguments (word known (584 + (i + q))) (k .left-nodes (i + q) (omega (arith, r, u, x)))))
+    (λ q r. rw (left-at q (omega (arith, r, u, x))) (is-node nodes arguments (word known (584 + (i + q)))
+    (k .left-nodes (i + q) (omega (arith, r, u, x)))))
     s ds ps marks (lm ∙ sym y) p g
-    (λ q j r t o. rw (left-at q (omega (arith, r, u, x)), right-word known j (omega (arith, t, y))) (may .never (i + q) j (omega (arith, r, u, x)) (omega (arith, t, y)) (sym (ap (λ (n : ℕ). has n j) (row-at q (omega (arith, r, u, x)))) ∙ o)))
+    (λ q j r t o. rw (left-at q (omega (arith, r, u, x)), right-word known j (omega (arith, t, y)))
+    (may .never (i + q) j (omega (arith, r, u, x)) (omega (arith, t, y)) (sym (ap (λ (n : ℕ). has n j) (row-at q (omega (arith, r, u, x)))) ∙ o)))
     (ap (λ (m : ℕ). completes m (leftLabels known) (rightLabels known) (drop i (rowsIn known)) s) y ∙ e)
   where
     left-at : (q : ℕ) → i + q < leftCount known → word (drop i (leftIn known)) q ≡ word known (584 + (i + q))

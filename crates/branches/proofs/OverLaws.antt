@@ -32,29 +32,37 @@ if-empty occurs es h = refl
 -- a digit has no entry if neither the label that it may stand for has one, nor its pair where that is unified
 pub digit-empty :
     (ns : List Node) (rs : List ℕ) (f : List ℕ → List (ℕ × ℕ) → List ℕ → List (List ℕ)) (ds : List ℕ) (ps : List (ℕ × ℕ)) (marks : List ℕ) (a d : ℕ) →
-    (d ≤ length rs → (word marks (d - 1) ≡ 0 → ⊥) → outcome ns ((a, word rs (d - 1)) ∷ ps) ≡ unified → f (ds ++ d ∷ []) ((a, word rs (d - 1)) ∷ ps) (set marks (d - 1) 0) ≡ []) →
+    (d ≤ length rs → (word marks (d - 1) ≡ 0 → ⊥) → outcome ns ((a, word rs (d - 1)) ∷ ps) ≡ unified →
+    f (ds ++ d ∷ []) ((a, word rs (d - 1)) ∷ ps) (set marks (d - 1) 0) ≡ []) →
     (length rs < d → f (ds ++ d ∷ []) ps marks ≡ []) → onDigit ns rs f ds ps marks a d ≡ []
 unfolding onDigit
 digit-empty ns rs f ds ps marks a d h k =
     pick (leb d (length rs)) refl (eqb (word marks (d - 1)) 0) refl
   where
-    pick : (b : Bool) → leb d (length rs) ≡ b → (c : Bool) → eqb (word marks (d - 1)) 0 ≡ c → cond b (cond c [] (ifUnified (outcome ns ((a, word rs (d - 1)) ∷ ps)) (f (ds ++ d ∷ []) ((a, word rs (d - 1)) ∷ ps) (set marks (d - 1) 0)))) (f (ds ++ d ∷ []) ps marks) ≡ []
+    pick : (b : Bool) → leb d (length rs) ≡ b → (c : Bool) → eqb (word marks (d - 1)) 0 ≡ c →
+        cond b (cond c [] (ifUnified (outcome ns ((a, word rs (d - 1)) ∷ ps)) (f (ds ++ d ∷ []) ((a, word rs (d - 1)) ∷ ps) (set marks (d - 1) 0))))
+        (f (ds ++ d ∷ []) ps marks) ≡ []
     pick true p true q = refl
     pick true p false q = if-empty _ _ (h (leb-true d (length rs) p) (eqb-false (word marks (d - 1)) 0 q))
     pick false p c q = k (leb-false d (length rs) p)
 
 -- a digit above the right terms puts the next left term in a right label
-pub digit-label : (ns : List Node) (rs : List ℕ) (f : List ℕ → List (ℕ × ℕ) → List ℕ → List (List ℕ)) (ds : List ℕ) (ps : List (ℕ × ℕ)) (marks : List ℕ) (a d : ℕ) → length rs < d → onDigit ns rs f ds ps marks a d ≡ f (ds ++ d ∷ []) ps marks
+pub digit-label : (ns : List Node) (rs : List ℕ) (f : List ℕ → List (ℕ × ℕ) → List ℕ → List (List ℕ)) (ds : List ℕ) (ps : List (ℕ × ℕ))
+    (marks : List ℕ) (a d : ℕ) → length rs < d → onDigit ns rs f ds ps marks a d ≡ f (ds ++ d ∷ []) ps marks
 unfolding onDigit
 digit-label ns rs f ds ps marks a d h = rw (lt-leb d (length rs) h)
 
 -- a right term that is paired already takes no other
-pub digit-taken : (ns : List Node) (rs : List ℕ) (f : List ℕ → List (ℕ × ℕ) → List ℕ → List (List ℕ)) (ds : List ℕ) (ps : List (ℕ × ℕ)) (marks : List ℕ) (a d : ℕ) → d ≤ length rs → word marks (d - 1) ≡ 0 → onDigit ns rs f ds ps marks a d ≡ []
+pub digit-taken : (ns : List Node) (rs : List ℕ) (f : List ℕ → List (ℕ × ℕ) → List ℕ → List (List ℕ)) (ds : List ℕ) (ps : List (ℕ × ℕ))
+    (marks : List ℕ) (a d : ℕ) → d ≤ length rs → word marks (d - 1) ≡ 0 → onDigit ns rs f ds ps marks a d ≡ []
 unfolding onDigit
 digit-taken ns rs f ds ps marks a d h e = rw (le-leb d (length rs) h, eq-eqb (word marks (d - 1)) 0 e)
 
 -- otherwise the pair decides
-pub digit-pair : (ns : List Node) (rs : List ℕ) (f : List ℕ → List (ℕ × ℕ) → List ℕ → List (List ℕ)) (ds : List ℕ) (ps : List (ℕ × ℕ)) (marks : List ℕ) (a d : ℕ) → d ≤ length rs → (word marks (d - 1) ≡ 0 → ⊥) → onDigit ns rs f ds ps marks a d ≡ ifUnified (outcome ns ((a, word rs (d - 1)) ∷ ps)) (f (ds ++ d ∷ []) ((a, word rs (d - 1)) ∷ ps) (set marks (d - 1) 0))
+pub digit-pair : (ns : List Node) (rs : List ℕ) (f : List ℕ → List (ℕ × ℕ) → List ℕ → List (List ℕ)) (ds : List ℕ) (ps : List (ℕ × ℕ))
+    (marks : List ℕ) (a d : ℕ) → d ≤ length rs → (word marks (d - 1) ≡ 0 → ⊥) →
+    onDigit ns rs f ds ps marks a d ≡ ifUnified (outcome ns ((a, word rs (d - 1)) ∷ ps))
+    (f (ds ++ d ∷ []) ((a, word rs (d - 1)) ∷ ps) (set marks (d - 1) 0))
 unfolding onDigit
 digit-pair ns rs f ds ps marks a d h n = rw (le-leb d (length rs) h, ne-eqb (word marks (d - 1)) 0 n)
 

@@ -14,7 +14,7 @@ use Rattle.unification.specs.Code.Sections.{Sections}
 use Rattle.nodes.specs.Code.Open.{Counts, OpenListed}
 use Rattle.values.specs.Code.Present.{leastNodes}
 use Rattle.values.proofs.LeastLaws.{least-long}
-use Rattle.branches.specs.Code.Known.{knownBytes, leftCount, rightCount, leftLabels, rightLabels, widthIn, leftIn, rightIn, opensIn, listIn, KnownOf, SidesKnown, counted, putAt, PutSides}
+use Rattle.branches.specs.Code.Known.{knownBytes, leftIn, rightIn, opensIn, listIn, SidesKnown, counted, putAt, PutSides}
 use Rattle.branches.proofs.KnownLaws.{part-kept, counts-kept, opens-same-listed, left-word, right-word}
 
 -- a word of a part
@@ -156,7 +156,8 @@ module _ {left right list known known′ : List ℕ} {k l : ℕ} (size : length 
   unfolding listIn
   sides-list =
       ap (λ (n : ℕ). take n (drop 512 known′)) (sides-number 0 (omega arith))
-      ∙ part-same listed known′ 512 (length list) (sides-long ∙ sym (put-long 512 list known list-room)) (λ i h. early (512 + i) (omega (arith, h, list-few)) ∙ put-before 577 numbers listed number-room (512 + i) (omega (arith, h, list-few)))
+      ∙ part-same listed known′ 512 (length list) (sides-long ∙ sym (put-long 512 list known list-room))
+      (λ i h. early (512 + i) (omega (arith, h, list-few)) ∙ put-before 577 numbers listed number-room (512 + i) (omega (arith, h, list-few)))
       ∙ put-here 512 list known list-room
 
   -- the left terms
@@ -165,7 +166,8 @@ module _ {left right list known known′ : List ℕ} {k l : ℕ} (size : length 
   sides-left =
       ap (λ (n : ℕ). take n (drop 584 known′)) (sides-number 1 (omega arith))
       ∙ ap (λ (ks : List ℕ). take (length left) (drop 584 ks)) parts
-      ∙ part-same lefted (putAt 592 right lefted) 584 (length left) (put-long 592 right lefted right-room) (λ i h. put-before 592 right lefted right-room (584 + i) (omega (arith, h, left-few)))
+      ∙ part-same lefted (putAt 592 right lefted) 584 (length left) (put-long 592 right lefted right-room)
+      (λ i h. put-before 592 right lefted right-room (584 + i) (omega (arith, h, left-few)))
       ∙ put-here 584 left numbered left-room
 
   -- the right terms
@@ -233,8 +235,10 @@ module _ {nodes arguments known₀ known₁ left right list known : List ℕ} {r
           list = sides-list noted-long left-few right-few list-few p ∙ is-list;
           left-few = omega (arith, number 1 (omega arith), left-few);
           right-few = omega (arith, number 2 (omega arith), right-few);
-          left-nodes = λ j h. rw (sym (left-word known j h) ∙ ap (λ (ws : List ℕ). word ws j) is-left) (left-nodes j (omega (arith, h, number 1 (omega arith))));
-          right-nodes = λ j h. rw (sym (right-word known j h) ∙ ap (λ (ws : List ℕ). word ws j) is-right) (right-nodes j (omega (arith, h, number 2 (omega arith))));
+          left-nodes = λ j h. rw (sym (left-word known j h) ∙ ap (λ (ws : List ℕ). word ws j) is-left)
+              (left-nodes j (omega (arith, h, number 1 (omega arith))));
+          right-nodes = λ j h. rw (sym (right-word known j h) ∙ ap (λ (ws : List ℕ). word ws j) is-right)
+              (right-nodes j (omega (arith, h, number 2 (omega arith))));
           left-labels = omega (arith, number 3 (omega arith), k-few);
           right-labels = omega (arith, number 4 (omega arith), l-few);
           width = omega (arith, number 5 (omega arith), number 1 (omega arith), number 2 (omega arith), number 0 (omega arith));
@@ -244,7 +248,8 @@ module _ {nodes arguments known₀ known₁ left right list known : List ℕ} {r
         right-is = is-right;
         left-labelled = number 3 (omega arith);
         right-labelled = number 4 (omega arith);
-        width-is = number 5 (omega arith) ∙ ap (λ (n : ℕ). length left + length right + n) (ap length is-list ∙ least-long (nodesFrom nodes arguments));
+        width-is = number 5 (omega arith) ∙ ap (λ (n : ℕ). length left + length right + n)
+            (ap length is-list ∙ least-long (nodesFrom nodes arguments));
       }
     where
       is-left : leftIn known ≡ left

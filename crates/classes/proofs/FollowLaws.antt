@@ -91,7 +91,8 @@ module _ {nodes arguments heads : List ℕ} {due : ℕ → ℕ} (order : List �
       Met due (order ++ g ∷ []) p (classOf heads (argumentOf nodes arguments (word (order ++ g ∷ []) p) j))
   behind-first =
       below-more
-      (λ p. (j : ℕ) → j < due (word (order ++ g ∷ []) p) → Met due (order ++ g ∷ []) p (classOf heads (argumentOf nodes arguments (word (order ++ g ∷ []) p) j)))
+      (λ p. (j : ℕ) → j < due (word (order ++ g ∷ []) p) → Met due (order ++ g ∷ []) p
+      (classOf heads (argumentOf nodes arguments (word (order ++ g ∷ []) p) j)))
       (length order)
       (λ p b. rw (stays p b) (λ j m. still-met p (omega arith) _ (o .first p b j m)))
       (rw newest (λ j m. still-met (length order) (omega arith) _ (met j m)))

@@ -10,4 +10,3 @@ pub mod FollowLaws
 pub mod MendLaws
 pub mod ExtensionLaws
 pub mod AtOnceLaws
-pub mod AloneLaws

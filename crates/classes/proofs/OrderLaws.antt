@@ -86,7 +86,8 @@ later-on {n} {marks} {after} {then} p q =
     }
 
 -- one more of the nodes that are to be visited is done, if arguments of it are looked at
-settled-next : {n : ℕ} (due : ℕ → ℕ) {marks later : List ℕ} (node : ℕ → ℕ) (j h : ℕ) → h ≡ node j → Settled due later h → Later n marks later → ((i : ℕ) → i < j → node i < n) → ((i : ℕ) → i < j → Settled due marks (node i)) → (i : ℕ) → i < j + 1 → Settled due later (node i)
+settled-next : {n : ℕ} (due : ℕ → ℕ) {marks later : List ℕ} (node : ℕ → ℕ) (j h : ℕ) → h ≡ node j → Settled due later h → Later n marks later →
+    ((i : ℕ) → i < j → node i < n) → ((i : ℕ) → i < j → Settled due marks (node i)) → (i : ℕ) → i < j + 1 → Settled due later (node i)
 settled-next due {marks} {later} node j h e z l below done =
     below-more (λ i. Settled due later (node i)) j kept (rw (← e) z)
   where
@@ -105,7 +106,8 @@ due-some due marks g x e t = go (eqb (word marks g) 2) (eqb (due g) 0) refl (sym
     go false false q z = let d : due g ≡ 0 → ⊥ = eqb-false _ _ q in omega arith
 
 -- any other node is done, if arguments of it are looked at
-pub not-due : (due : ℕ → ℕ) (marks : List ℕ) (g : ℕ) (x : Bool) → x ≡ not (eqb (word marks g) 2) && not (eqb (due g) 0) → x ≡ false → Settled due marks g
+pub not-due : (due : ℕ → ℕ) (marks : List ℕ) (g : ℕ) (x : Bool) → x ≡ not (eqb (word marks g) 2) && not (eqb (due g) 0) → x ≡ false →
+    Settled due marks g
 not-due due marks g x e t a = go (eqb (word marks g) 2) refl (sym e ∙ t)
   where
     go : (b : Bool) → eqb (word marks g) 2 ≡ b → not b && not (eqb (due g) 0) ≡ false → word marks g ≡ 2
@@ -188,7 +190,8 @@ module _ {nodes arguments heads marks order : List ℕ} {due : ℕ → ℕ} {cou
       Met due (set order count h) p (classOf heads (argumentOf nodes arguments (word (set order count h) p) j))
   behind-first below settled =
       below-more
-      (λ p. (j : ℕ) → j < due (word (set order count h) p) → Met due (set order count h) p (classOf heads (argumentOf nodes arguments (word (set order count h) p) j)))
+      (λ p. (j : ℕ) → j < due (word (set order count h) p) →
+      Met due (set order count h) p (classOf heads (argumentOf nodes arguments (word (set order count h) p) j)))
       count
       (λ p b. rw (stays p b) (λ j m. still-met p (omega arith) _ (o .first p b j m)))
       (rw newest (λ j m. argument-met _ (below j m) (settled j m)))
@@ -214,7 +217,8 @@ module _ {nodes arguments heads marks order : List ℕ} {due : ℕ → ℕ} {cou
   unfolding isDone
   behind-room =
       let r = o .room in
-      let l = count-less (isDone (set marks h 2)) (isDone marks) (nodeCount nodes) (λ k b e. eq-eqb _ _ (still-done k (eqb-true _ _ e))) h node (eq-eqb (word (set marks h 2) h) 2 (getD-set-same marks h 2 0 within)) (ne-eqb (word marks h) 2 not-done) in
+      let l = count-less (isDone (set marks h 2)) (isDone marks) (nodeCount nodes) (λ k b e. eq-eqb _ _ (still-done k (eqb-true _ _ e))) h node
+      (eq-eqb (word (set marks h 2) h) 2 (getD-set-same marks h 2 0 within)) (ne-eqb (word marks h) 2 not-done) in
       omega (arith, r, l)
 
   -- it is listed, where the heads of its arguments are
@@ -557,8 +561,14 @@ swept-none s =
 pub swept-all : {nodes arguments counts heads list marks order : List ℕ} {count i : ℕ} → Partition (nodeCount nodes) heads →
     OpenListed nodes counts list → Sweep nodes arguments (word counts) heads list marks order count i → length list ≤ i →
     (count ≤ nodeCount nodes) × Ordered nodes arguments (word counts) heads (take count order)
-swept-all {nodes} {counts = counts} {heads} {list} {marks} p t w a =
-    (placed-most (w .ordering), record { listed = placed-listed (w .ordering); whole = λ i l. placed-settled (w .ordering) (classOf heads i) (p .below i l) (settled i l) })
+swept-all {nodes} {counts = counts} {heads} {list} {marks} p t w a = (
+  placed-most (w .ordering),
+  record {
+    listed = placed-listed (w .ordering);
+    whole = λ i l. placed-settled (w .ordering) (classOf heads i)
+        (p .below i l) (settled i l);
+  },
+)
   where
     -- a head with arguments that are looked at stands in the list itself
     settled : (i : ℕ) → i < nodeCount nodes → Settled (word counts) marks (classOf heads i)
@@ -601,7 +611,8 @@ searched-passed {order = order} {h = h} {c} e l p =
     (record { order = take c order; listed = placed-listed (p .ordering); from = rw (← e) (placed-settled (p .ordering) h l (λ a. p .passed)) })
 
 -- with new marks the search can start
-pub starting : {order : List ℕ} {total : ℕ} (n : ℕ) → length order ≡ total → n ≡ total → n ≤ maxNodes → Starting total (take (n - 0) (replicate maxNodes 0)) order
+pub starting : {order : List ℕ} {total : ℕ} (n : ℕ) → length order ≡ total → n ≡ total → n ≤ maxNodes →
+    Starting total (take (n - 0) (replicate maxNodes 0)) order
 starting n o e l =
     record {
       marks-size = first-long n l ∙ e;

@@ -12,9 +12,6 @@ pub mod order;
 // The classes of a list of pairs, extended by one pair more: `extend`.
 pub mod settle;
 
-// A pair by itself: `may_unify`.
-pub mod alone;
-
 // What extending classes by a pair comes to.
 pub enum Extended {
     Unified,

@@ -64,7 +64,9 @@ set-put at xs lent j d h l =
     ∙ ap (λ (k : ℕ). take at lent ++ set xs j d ++ drop (at + k) lent) (sym (length-set xs j d))
 
 -- one more of the lent words is copied behind them
-pub moved-next : (lent : List ℕ) (from count at i : ℕ) {lent′ : List ℕ} → from + count ≤ at → at + count ≤ length lent → i < count → lent′ ≡ paste lent at (take count (drop from lent)) i → set lent′ (at + i) (getD lent′ (from + i) 0) ≡ paste lent at (take count (drop from lent)) (i + 1)
+pub moved-next : (lent : List ℕ) (from count at i : ℕ) {lent′ : List ℕ} → from + count ≤ at → at + count ≤ length lent → i < count →
+    lent′ ≡ paste lent at (take count (drop from lent)) i → set lent′ (at + i) (getD lent′ (from + i) 0) ≡ paste lent at (take count (drop from lent))
+    (i + 1)
 moved-next lent from count at i {lent′} h l m e =
     let words = take count (drop from lent) in
     let n : length words ≡ count = length-take-le count (drop from lent) (omega (arith, h, l, length-drop from lent)) in
@@ -90,7 +92,8 @@ digit-long p d (e ∷ es) =
     omega (arith, a, b, digit-long p d es, length-set e p d)
 
 -- and each has
-digit-wide : (p d width : ℕ) (es : List (List ℕ)) → ((e : List ℕ) → List·Memᴰ e es → length e ≡ width) → (e : List ℕ) → List·Memᴰ e (withDigit p d es) → length e ≡ width
+digit-wide : (p d width : ℕ) (es : List (List ℕ)) → ((e : List ℕ) → List·Memᴰ e es → length e ≡ width) → (e : List ℕ) →
+    List·Memᴰ e (withDigit p d es) → length e ≡ width
 digit-wide p d width es h e m =
     let s = Memᴰ·of-map (λ e. set e p d) es m in
     sym (ap length (s .2)) ∙ length-set (s .0) p d ∙ h (s .0) (s .1)
@@ -106,7 +109,8 @@ wide-long width (e ∷ es) h =
     omega (arith, a, b, c, suc-mul (length es) width)
 
 -- of entries of one width as many are taken as there are widths in the room
-pub fitting-wide : (width room j : ℕ) (es : List (List ℕ)) → ((e : List ℕ) → List·Memᴰ e es → length e ≡ width) → j * width ≤ room → room < j * width + width → fitting room es ≡ take j es
+pub fitting-wide : (width room j : ℕ) (es : List (List ℕ)) → ((e : List ℕ) → List·Memᴰ e es → length e ≡ width) → j * width ≤ room →
+    room < j * width + width → fitting room es ≡ take j es
 unfolding fitting
 fitting-wide width room j [] h a b = sym (take-nil j)
 fitting-wide width room zero (e ∷ es) h a b =
@@ -130,16 +134,19 @@ first-among j es m = rw (take-append-drop j es) at (Memᴰ·append-left (drop j 
 
 module _ {es : List (List ℕ)} {width : ℕ} {lent : List ℕ} {from to : ℕ} (b : Block es width lent from to) where
   -- words put behind entries leave them
-  pub block-kept : (at : ℕ) (xs : List ℕ) {lent′ : List ℕ} → to ≤ at → at + length xs ≤ length lent → lent′ ≡ put at xs lent → Block es width lent′ from to
+  pub block-kept : (at : ℕ) (xs : List ℕ) {lent′ : List ℕ} → to ≤ at → at + length xs ≤ length lent → lent′ ≡ put at xs lent →
+      Block es width lent′ from to
   block-kept at xs {lent′} h l e =
       let n = length (flatten es) in
       let q = ap length e ∙ put-long at xs lent l in
-      let f : take (from + n) lent′ ≡ take (from + n) lent = ap (take (from + n)) e ∙ put-before at xs lent (from + n) (omega (arith, h, b .end)) (omega (arith, l)) in
+      let f : take (from + n) lent′ ≡ take (from + n) lent = ap (take (from + n)) e
+      ∙ put-before at xs lent (from + n) (omega (arith, h, b .end)) (omega (arith, l)) in
       record {
         wide = b .wide;
         end = b .end;
         within = omega (arith, q, b .within);
-        there = part-of from n lent′ (omega (arith, q, b .within, b .end)) ∙ ap (drop from) f ∙ sym (part-of from n lent (omega (arith, b .within, b .end))) ∙ b .there;
+        there = part-of from n lent′ (omega (arith, q, b .within, b .end)) ∙ ap (drop from) f
+            ∙ sym (part-of from n lent (omega (arith, b .within, b .end))) ∙ b .there;
       }
 
   -- the first of the entries
@@ -147,14 +154,16 @@ module _ {es : List (List ℕ)} {width : ℕ} {lent : List ℕ} {from to : ℕ} 
   block-first j h =
       let w : (e : List ℕ) → List·Memᴰ e (take j es) → length e ≡ width = λ e m. b .wide e (first-among j es m) in
       let l : length (flatten (take j es)) ≡ j * width = wide-long width (take j es) w ∙ ap (λ (k : ℕ). k * width) (length-take-le j es h) in
-      let s : flatten es ≡ flatten (take j es) ++ flatten (drop j es) = ap flatten (sym (take-append-drop j es)) ∙ flatten-append (take j es) (drop j es) in
+      let s : flatten es ≡ flatten (take j es) ++ flatten (drop j es) = ap flatten (sym (take-append-drop j es))
+      ∙ flatten-append (take j es) (drop j es) in
       let a = length-append (flatten (take j es)) (flatten (drop j es)) in
       let n : length (flatten (take j es)) ≤ length (flatten es) = omega (arith, ap length s, a) in
       record {
         wide = w;
         end = ap (from +_) (sym l);
         within = omega (arith, l, n, b .end, b .within);
-        there = sym (take-take (length (flatten (take j es))) (length (flatten es)) (drop from lent) n) ∙ ap (take (length (flatten (take j es)))) (b .there ∙ s) ∙ take-append-seam (flatten (take j es)) (flatten (drop j es));
+        there = sym (take-take (length (flatten (take j es))) (length (flatten es)) (drop from lent) n)
+            ∙ ap (take (length (flatten (take j es)))) (b .there ∙ s) ∙ take-append-seam (flatten (take j es)) (flatten (drop j es));
       }
 
   -- how many words they have
@@ -189,14 +198,22 @@ module _ {es : List (List ℕ)} {width : ℕ} {lent : List ℕ} {at : ℕ} (coun
   -- how many words the entries have
   digits-count : {lent′ : List ℕ} {i : ℕ} (g : Digits es p d lent at lent′ i) → count ≡ length (flatten (g .done)) + length (flatten (g .rest))
   digits-count g =
-      omega (arith, b .end, ap length (ap flatten (g .split) ∙ flatten-append (g .done) (g .rest)), length-append (flatten (g .done)) (flatten (g .rest)))
+      omega (
+        arith,
+        b .end,
+        ap length (ap flatten (g .split) ∙ flatten-append (g .done) (g .rest)),
+        length-append (flatten (g .done))
+            (flatten (g .rest)),
+      )
 
   -- one more has
-  pub digits-next : p < width → {lent′ : List ℕ} {i : ℕ} → Digits es p d lent at lent′ i → i < count → Digits es p d lent at (set lent′ (at + i) d) (i + width)
+  pub digits-next : p < width → {lent′ : List ℕ} {i : ℕ} → Digits es p d lent at lent′ i → i < count →
+      Digits es p d lent at (set lent′ (at + i) d) (i + width)
   unfolding flatten
   digits-next h {lent′} {i} g l = go (g .rest) (g .split) (g .words) (digits-count g)
     where
-      go : (rest : List (List ℕ)) → es ≡ g .done ++ rest → lent′ ≡ put at (flatten (withDigit p d (g .done)) ++ flatten rest) lent → count ≡ length (flatten (g .done)) + length (flatten rest) → Digits es p d lent at (set lent′ (at + i) d) (i + width)
+      go : (rest : List (List ℕ)) → es ≡ g .done ++ rest → lent′ ≡ put at (flatten (withDigit p d (g .done)) ++ flatten rest) lent →
+          count ≡ length (flatten (g .done)) + length (flatten rest) → Digits es p d lent at (set lent′ (at + i) d) (i + width)
       go [] s w c = absurd (omega (arith, l, c, g .place))
       go (e ∷ rest) s w c =
           let m : List·Memᴰ e es = rw s (Memᴰ·append-right (g .done) (List·Memᴰ·head refl)) in
@@ -209,29 +226,38 @@ module _ {es : List (List ℕ)} {width : ℕ} {lent : List ℕ} {at : ℕ} (coun
           ap (λ (k : ℕ). set (xs ++ (e ++ flatten rest)) k d) y
           ∙ set-behind xs (e ++ flatten rest) p d
           ∙ ap (xs ++_) (set-append-left e (flatten rest) p d (omega (arith, h, n))) in
-          let v : flatten (withDigit p d (g .done ++ (e ∷ []))) ≡ xs ++ (set e p d ++ []) = ap flatten (map-append (λ e. set e p d) (g .done) (e ∷ [])) ∙ flatten-append (withDigit p d (g .done)) (set e p d ∷ []) in
-          let f : length (flatten (g .done ++ (e ∷ []))) ≡ length (flatten (g .done)) + length e = ap length (flatten-append (g .done) (e ∷ [])) ∙ length-append (flatten (g .done)) (e ++ []) ∙ ap (λ (r : List ℕ). length (flatten (g .done)) + length r) (append-nil e) in
+          let v : flatten (withDigit p d (g .done ++ (e ∷ []))) ≡ xs ++ (set e p d ++ []) = ap flatten
+          (map-append (λ e. set e p d) (g .done) (e ∷ [])) ∙ flatten-append (withDigit p d (g .done)) (set e p d ∷ []) in
+          let f : length (flatten (g .done ++ (e ∷ []))) ≡ length (flatten (g .done)) + length e = ap length (flatten-append (g .done) (e ∷ []))
+          ∙ length-append (flatten (g .done)) (e ++ []) ∙ ap (λ (r : List ℕ). length (flatten (g .done)) + length r) (append-nil e) in
           record {
             done = g .done ++ (e ∷ []);
             rest = rest;
             split = s ∙ sym (append-assoc (g .done) (e ∷ []) rest);
             place = omega (arith, f, n, g .place);
-            words = ap (λ (r : List ℕ). set r (at + i) d) w ∙ set-put at (xs ++ (e ++ flatten rest)) lent i d (omega (arith, q, y, h, n, length-append e (flatten rest))) (omega (arith, b .within)) ∙ ap (λ (r : List ℕ). put at r lent) (u ∙ sym (append-assoc xs (set e p d) (flatten rest)) ∙ ap (λ (r : List ℕ). r ++ flatten rest) (ap (xs ++_) (sym (append-nil (set e p d))) ∙ sym v));
+            words = ap (λ (r : List ℕ). set r (at + i) d) w ∙ set-put at (xs ++ (e ++ flatten rest)) lent i d
+                (omega (arith, q, y, h, n, length-append e (flatten rest))) (omega (arith, b .within))
+                ∙ ap (λ (r : List ℕ). put at r lent) (u ∙ sym (append-assoc xs (set e p d) (flatten rest)) ∙ ap (λ (r : List ℕ). r ++ flatten rest)
+                (ap (xs ++_) (sym (append-nil (set e p d))) ∙ sym v));
           }
 
   -- at the end all have
-  pub digits-last : p < width → {lent′ : List ℕ} {i : ℕ} → Digits es p d lent at lent′ i → count ≤ i → lent′ ≡ put at (flatten (withDigit p d es)) lent
+  pub digits-last : p < width → {lent′ : List ℕ} {i : ℕ} → Digits es p d lent at lent′ i → count ≤ i →
+      lent′ ≡ put at (flatten (withDigit p d es)) lent
   unfolding flatten
   digits-last h {lent′} {i} g l = go (g .rest) (g .split) (g .words) (digits-count g)
     where
-      go : (rest : List (List ℕ)) → es ≡ g .done ++ rest → lent′ ≡ put at (flatten (withDigit p d (g .done)) ++ flatten rest) lent → count ≡ length (flatten (g .done)) + length (flatten rest) → lent′ ≡ put at (flatten (withDigit p d es)) lent
+      go : (rest : List (List ℕ)) → es ≡ g .done ++ rest → lent′ ≡ put at (flatten (withDigit p d (g .done)) ++ flatten rest) lent →
+          count ≡ length (flatten (g .done)) + length (flatten rest) → lent′ ≡ put at (flatten (withDigit p d es)) lent
       go [] s w c =
-          w ∙ ap (λ (r : List ℕ). put at r lent) (append-nil (flatten (withDigit p d (g .done))) ∙ ap (λ (zs : List (List ℕ)). flatten (withDigit p d zs)) (sym (s ∙ append-nil (g .done))))
+          w ∙ ap (λ (r : List ℕ). put at r lent) (append-nil (flatten (withDigit p d (g .done))) ∙ ap
+          (λ (zs : List (List ℕ)). flatten (withDigit p d zs)) (sym (s ∙ append-nil (g .done))))
       go (e ∷ rest) s w c =
           let m : List·Memᴰ e es = rw s (Memᴰ·append-right (g .done) (List·Memᴰ·head refl)) in
           absurd (omega (arith, l, c, g .place, h, b .wide e m, length-append e (flatten rest)))
 
-module _ {es : List (List ℕ)} {width : ℕ} {lent : List ℕ} {from : ℕ} (at count : ℕ) {lent′ : List ℕ} (b : Block es width lent from (from + count)) (l : at + count ≤ length lent) (c : lent′ ≡ put at (take count (drop from lent)) lent) where
+module _ {es : List (List ℕ)} {width : ℕ} {lent : List ℕ} {from : ℕ} (at count : ℕ) {lent′ : List ℕ} (b : Block es width lent from (from + count))
+    (l : at + count ≤ length lent) (c : lent′ ≡ put at (take count (drop from lent)) lent) where
   -- the words that are copied are those of the entries
   moved-words : take count (drop from lent) ≡ flatten es
   moved-words = let n : count ≡ length (flatten es) = omega (arith, b .end) in ap (λ (k : ℕ). take k (drop from lent)) n ∙ b .there
@@ -253,7 +279,8 @@ module _ {es : List (List ℕ)} {width : ℕ} {lent : List ℕ} {from : ℕ} (at
   pub moved-digit : (p d : ℕ) {lent″ : List ℕ} → lent″ ≡ put at (flatten (withDigit p d es)) lent′ → lent″ ≡ put at (flatten (withDigit p d es)) lent
   moved-digit p d e =
       let n : count ≡ length (flatten es) = omega (arith, b .end) in
-      e ∙ ap (put at (flatten (withDigit p d es))) (c ∙ ap (λ (r : List ℕ). put at r lent) moved-words) ∙ put-over at (flatten (withDigit p d es)) (flatten es) lent (omega (arith, l, n)) (digit-long p d es)
+      e ∙ ap (put at (flatten (withDigit p d es))) (c ∙ ap (λ (r : List ℕ). put at r lent) moved-words)
+      ∙ put-over at (flatten (withDigit p d es)) (flatten es) lent (omega (arith, l, n)) (digit-long p d es)
 
 -- no entries, repeated
 repeated-none : (p d c : ℕ) → repeated p d c [] ≡ []
@@ -262,7 +289,8 @@ repeated-none p d zero = refl
 repeated-none p d (suc c) = repeated-none p (suc d) c
 
 -- the entries with digit d, and then those with a greater one
-repeated-next : (p d last : ℕ) (es : List (List ℕ)) → d ≤ last → repeated p d (last + 1 - d) es ≡ withDigit p d es ++ repeated p (d + 1) (last + 1 - (d + 1)) es
+repeated-next : (p d last : ℕ) (es : List (List ℕ)) → d ≤ last →
+    repeated p d (last + 1 - d) es ≡ withDigit p d es ++ repeated p (d + 1) (last + 1 - (d + 1)) es
 unfolding repeated
 repeated-next p d last es h =
     let n : last + 1 - d ≡ suc (last + 1 - (d + 1)) = omega arith in
@@ -275,11 +303,13 @@ unfolding repeated
 repeated-end p d last es h = let n : last + 1 - d ≡ 0 = omega arith in rw n refl
 
 -- fewer words than an entry has are no entry's
-pub repeats-none : {es : List (List ℕ)} {width : ℕ} {lent : List ℕ} {from to : ℕ} → Block es width lent from to → (p d c : ℕ) → to - from < width → Writes (repeated p d c es) lent to lent to
+pub repeats-none : {es : List (List ℕ)} {width : ℕ} {lent : List ℕ} {from to : ℕ} → Block es width lent from to → (p d c : ℕ) → to - from < width →
+    Writes (repeated p d c es) lent to lent to
 unfolding flatten
 repeats-none {es} {width} {lent} {from} {to} b p d c h = go es (b .wide) (b .end)
   where
-    go : (es : List (List ℕ)) → ((e : List ℕ) → List·Memᴰ e es → length e ≡ width) → to ≡ from + length (flatten es) → Writes (repeated p d c es) lent to lent to
+    go : (es : List (List ℕ)) → ((e : List ℕ) → List·Memᴰ e es → length e ≡ width) → to ≡ from + length (flatten es) →
+        Writes (repeated p d c es) lent to lent to
     go [] w e = rw (repeated-none p d c) (writes-none lent to (b .within))
     go (x ∷ es) w e = absurd (omega (arith, h, e, w x (List·Memᴰ·head refl), length-append x (flatten es)))
 
@@ -289,7 +319,8 @@ pub record Repeating (es : List (List ℕ)) (width p first last from to : ℕ) (
   pub remains : Remains (repeated p (first + 1) (last - first) es) lent₀ to (repeated p d (last + 1 - d) es) lent used
 
 -- at the start all remain
-pub repeats-first : {es : List (List ℕ)} {width : ℕ} {lent : List ℕ} {from to : ℕ} → Block es width lent from to → (p first last : ℕ) → Repeating es width p first last from to lent (first + 1) lent to
+pub repeats-first : {es : List (List ℕ)} {width : ℕ} {lent : List ℕ} {from to : ℕ} → Block es width lent from to → (p first last : ℕ) →
+    Repeating es width p first last from to lent (first + 1) lent to
 repeats-first {es} {width} {lent} {from} {to} b p first last =
     let n : last + 1 - (first + 1) ≡ last - first = omega arith in
     record {
@@ -297,13 +328,16 @@ repeats-first {es} {width} {lent} {from} {to} b p first last =
       remains = rw n (remains-whole (repeated p (first + 1) (last - first) es) lent to (b .within));
     }
 
-module _ {es : List (List ℕ)} {width p first last from to : ℕ} {lent₀ : List ℕ} {d : ℕ} {lent : List ℕ} {used : ℕ} (g : Repeating es width p first last from to lent₀ d lent used) where
+module _ {es : List (List ℕ)} {width p first last from to : ℕ} {lent₀ : List ℕ} {d : ℕ} {lent : List ℕ} {used : ℕ}
+    (g : Repeating es width p first last from to lent₀ d lent used) where
   -- what remains begins with the entries with digit d
-  repeats-turn : d ≤ last → Remains (repeated p (first + 1) (last - first) es) lent₀ to (withDigit p d es ++ repeated p (d + 1) (last + 1 - (d + 1)) es) lent used
+  repeats-turn : d ≤ last → Remains (repeated p (first + 1) (last - first) es) lent₀ to
+      (withDigit p d es ++ repeated p (d + 1) (last + 1 - (d + 1)) es) lent used
   repeats-turn h = rw (← repeated-next p d last es h) (g .remains)
 
   -- a turn writes these
-  pub repeats-next : d ≤ last → length lent < full → to ≤ used → to - from ≤ length lent - used → {lent′ : List ℕ} → lent′ ≡ put used (flatten (withDigit p d es)) lent → Repeating es width p first last from to lent₀ (d + 1) lent′ (used + (to - from))
+  pub repeats-next : d ≤ last → length lent < full → to ≤ used → to - from ≤ length lent - used → {lent′ : List ℕ} →
+      lent′ ≡ put used (flatten (withDigit p d es)) lent → Repeating es width p first last from to lent₀ (d + 1) lent′ (used + (to - from))
   repeats-next h b t l {lent′} e =
       let n = block-count (g .block) in
       let m = digit-long p d es in
@@ -316,12 +350,15 @@ module _ {es : List (List ℕ)} {width p first last from to : ℕ} {lent₀ : Li
       }
 
   -- where they do not all fit, those that do are written
-  pub repeats-full : d ≤ last → length lent < full → 0 < width → length lent - used < to - from → {lent′ : List ℕ} → lent′ ≡ put used (flatten (withDigit p d (take ((length lent - used) / width) es))) lent → Writes (repeated p (first + 1) (last - first) es) lent₀ to lent′ full
+  pub repeats-full : d ≤ last → length lent < full → 0 < width → length lent - used < to - from → {lent′ : List ℕ} →
+      lent′ ≡ put used (flatten (withDigit p d (take ((length lent - used) / width) es))) lent →
+      Writes (repeated p (first + 1) (last - first) es) lent₀ to lent′ full
   repeats-full h b z l {lent′} e =
       let n = block-count (g .block) in
       let m = digit-long p d es in
       let f = cut-fits (g .block) (length lent - used) p d z in
-      let w = writes-cut (withDigit p d es) lent used (omega (arith, l, n, m)) (e ∙ ap (λ (zs : List (List ℕ)). put used (flatten zs) lent) (sym f)) in
+      let w = writes-cut (withDigit p d es) lent used (omega (arith, l, n, m)) (e ∙ ap (λ (zs : List (List ℕ)). put used (flatten zs) lent) (sym f))
+      in
       remains-full (withDigit p d es) (repeated p (d + 1) (last + 1 - (d + 1)) es) (repeats-turn h) b lent′ full w refl
 
   -- after the last digit all is written
@@ -329,7 +366,8 @@ module _ {es : List (List ℕ)} {width p first last from to : ℕ} {lent₀ : Li
   repeats-last h = remains-done (rw (repeated-end p d last es h) at (g .remains))
 
   -- the entries of which there is room for all words
-  pub repeats-cut : 0 < width → length lent - used < to - from → Block (take ((length lent - used) / width) es) width lent from (from + (length lent - used) / width * width)
+  pub repeats-cut : 0 < width → length lent - used < to - from →
+      Block (take ((length lent - used) / width) es) width lent from (from + (length lent - used) / width * width)
   repeats-cut z l = let h = cut-less (g .block) (length lent - used) z l in block-first (g .block) ((length lent - used) / width) (omega (arith, h))
 
   -- the entries, by how many words they have

@@ -27,13 +27,15 @@ marks-cons e p end h l =
     ∙ ap (λ (k : ℕ). getD e p 0 ∷ take (end - (p + 1)) (drop k e)) s
 
 -- where the word at a place is 0, it stays
-marked-paired : (k : ℕ) (e : List ℕ) (p end : ℕ) → p < end → end ≤ length e → getD e p 0 ≡ 0 → marked k (marksFrom e p end) ≡ map (0 ∷_) (marked k (marksFrom e (p + 1) end))
+marked-paired : (k : ℕ) (e : List ℕ) (p end : ℕ) → p < end → end ≤ length e → getD e p 0 ≡ 0 →
+    marked k (marksFrom e p end) ≡ map (0 ∷_) (marked k (marksFrom e (p + 1) end))
 unfolding marked branch
 marked-paired k e p end h l z =
     ap (marked k) (marks-cons e p end h l) ∙ rw (eq-eqb (getD e p 0) 0 z) (append-nil (map (0 ∷_) (marked k (marksFrom e (p + 1) end))))
 
 -- where it is not 0, it goes from 1 to k
-marked-unpaired : (k : ℕ) (e : List ℕ) (p end : ℕ) → p < end → end ≤ length e → (getD e p 0 ≡ 0 → ⊥) → marked k (marksFrom e p end) ≡ branch 1 k (λ d. marked k (marksFrom e (p + 1) end))
+marked-unpaired : (k : ℕ) (e : List ℕ) (p end : ℕ) → p < end → end ≤ length e → (getD e p 0 ≡ 0 → ⊥) →
+    marked k (marksFrom e p end) ≡ branch 1 k (λ d. marked k (marksFrom e (p + 1) end))
 unfolding marked
 marked-unpaired k e p end h l z =
     ap (marked k) (marks-cons e p end h l) ∙ rw (ne-eqb (getD e p 0) 0 z) refl
@@ -43,7 +45,8 @@ abbrev with : List ℕ → ℕ → ℕ → List ℕ → List ℕ
 with e p end ds = take p e ++ ds ++ drop end e
 
 -- a digit before the digits from the next place on
-with-digit : (e e′ : List ℕ) (p end d : ℕ) (ds : List ℕ) → take (p + 1) e′ ≡ take p e ++ (d ∷ []) → drop end e′ ≡ drop end e → with e′ (p + 1) end ds ≡ with e p end (d ∷ ds)
+with-digit : (e e′ : List ℕ) (p end d : ℕ) (ds : List ℕ) → take (p + 1) e′ ≡ take p e ++ (d ∷ []) → drop end e′ ≡ drop end e →
+    with e′ (p + 1) end ds ≡ with e p end (d ∷ ds)
 with-digit e e′ p end d ds t l = rw (t, l) (ap (λ (r : List ℕ). r ++ drop end e) (append-assoc (take p e) (d ∷ []) ds))
 
 -- no place is left: the entry itself
@@ -80,7 +83,8 @@ with-set e p end d ds h =
     ∙ ap (λ (r : List ℕ). r ++ drop end e) (append-assoc (take p e) (d ∷ []) ds)
 
 -- each of c digits from d on at a place, before the same digits from the next place on
-branch-repeated : (e : List ℕ) (p end d c : ℕ) (m : List (List ℕ)) → p < length e → map (with e p end) (branch d c (λ x. m)) ≡ repeated p d c (map (with e (p + 1) end) m)
+branch-repeated : (e : List ℕ) (p end d c : ℕ) (m : List (List ℕ)) → p < length e →
+    map (with e p end) (branch d c (λ x. m)) ≡ repeated p d c (map (with e (p + 1) end) m)
 unfolding branch repeated
 branch-repeated e p end d zero m h = refl
 branch-repeated e p end d (suc c) m h =
@@ -93,22 +97,26 @@ branch-repeated e p end d (suc c) m h =
     ∙ ap (map (λ f. set f p d) (map (with e (p + 1) end) m) ++_) (branch-repeated e p end (suc d) c m h)
 
 -- the word at the place is not 0: the entries from the next place on, with each digit from 1 to k there
-rights-unpaired : (k : ℕ) (e : List ℕ) (p end : ℕ) → p < end → end ≤ length e → (getD e p 0 ≡ 0 → ⊥) → rightEntries k e p end ≡ repeated p 1 k (rightEntries k e (p + 1) end)
+rights-unpaired : (k : ℕ) (e : List ℕ) (p end : ℕ) → p < end → end ≤ length e → (getD e p 0 ≡ 0 → ⊥) →
+    rightEntries k e p end ≡ repeated p 1 k (rightEntries k e (p + 1) end)
 unfolding rightEntries
 rights-unpaired k e p end h l z =
     ap (map (with e p end)) (marked-unpaired k e p end h l z)
     ∙ branch-repeated e p end 1 k (marked k (marksFrom e (p + 1) end)) (omega (arith, h, l))
 
 -- the entries from the next place on have the word that is at the place
-rights-word : (k : ℕ) (e : List ℕ) (p end : ℕ) → p < length e → map (λ f. set f p (getD e p 0)) (rightEntries k e (p + 1) end) ≡ rightEntries k e (p + 1) end
+rights-word : (k : ℕ) (e : List ℕ) (p end : ℕ) → p < length e →
+    map (λ f. set f p (getD e p 0)) (rightEntries k e (p + 1) end) ≡ rightEntries k e (p + 1) end
 unfolding rightEntries
 rights-word k e p end h =
     let m = marked k (marksFrom e (p + 1) end) in
     map-map (λ f. set f p (getD e p 0)) (with e (p + 1) end) m
-    ∙ map-same (λ ds. set (with e (p + 1) end ds) p (getD e p 0)) (with e (p + 1) end) m (λ ds z. with-set e p end (getD e p 0) ds h ∙ sym (with-digit e e p end (getD e p 0) ds (next-digit e p h) refl))
+    ∙ map-same (λ ds. set (with e (p + 1) end ds) p (getD e p 0)) (with e (p + 1) end) m
+    (λ ds z. with-set e p end (getD e p 0) ds h ∙ sym (with-digit e e p end (getD e p 0) ds (next-digit e p h) refl))
 
 -- the word at the place is 1: the entries from the next place on, and then these with each digit from 2 to k there
-pub rights-marked : (k : ℕ) (e : List ℕ) (p end : ℕ) → p < end → end ≤ length e → getD e p 0 ≡ 1 → 0 < k → rightEntries k e p end ≡ rightEntries k e (p + 1) end ++ repeated p 2 (k - 1) (rightEntries k e (p + 1) end)
+pub rights-marked : (k : ℕ) (e : List ℕ) (p end : ℕ) → p < end → end ≤ length e → getD e p 0 ≡ 1 → 0 < k →
+    rightEntries k e p end ≡ rightEntries k e (p + 1) end ++ repeated p 2 (k - 1) (rightEntries k e (p + 1) end)
 unfolding repeated
 rights-marked k e p end h l o z =
     let es = rightEntries k e (p + 1) end in
@@ -148,15 +156,21 @@ rights-one k e p end b h l g = go (end - p) p (omega arith) (omega arith)
         turn r a (omega (arith, n)) (ℕ-discrete (getD e r 0) 0) ∙ go c (r + 1) (omega (arith, a)) (omega (arith, n))
 
 -- the entries from a place on are the first of those from a place before it on
-rights-rest : (k : ℕ) (e : List ℕ) (p end : ℕ) → Least k e p end → end ≤ length e → (q : ℕ) → p ≤ q → q ≤ end → (rest : List (List ℕ)) × (rightEntries k e p end ≡ rightEntries k e q end ++ rest)
+rights-rest : (k : ℕ) (e : List ℕ) (p end : ℕ) → Least k e p end → end ≤ length e → (q : ℕ) → p ≤ q → q ≤ end →
+    (rest : List (List ℕ)) × (rightEntries k e p end ≡ rightEntries k e q end ++ rest)
 rights-rest k e p end g l q h m = go (q - p) p (omega arith) (omega arith)
   where
-    turn : (r : ℕ) → p ≤ r → r < end → Dec (getD e r 0 ≡ 0) → (rest : List (List ℕ)) × (rightEntries k e (r + 1) end ≡ rightEntries k e q end ++ rest) → (rest : List (List ℕ)) × (rightEntries k e r end ≡ rightEntries k e q end ++ rest)
+    turn : (r : ℕ) → p ≤ r → r < end → Dec (getD e r 0 ≡ 0) →
+        (rest : List (List ℕ)) × (rightEntries k e (r + 1) end ≡ rightEntries k e q end ++ rest) →
+        (rest : List (List ℕ)) × (rightEntries k e r end ≡ rightEntries k e q end ++ rest)
     turn r a n (yes z) s = (s .0, rights-paired k e r end n l z ∙ s .1)
     turn r a n (no z) s =
         let o = mark-one g r a n z in
-        let more = repeated r 2 (k - 1) (rightEntries k e (r + 1) end) in
-        (s .0 ++ more, rights-marked k e r end n l (o .0) (o .1) ∙ ap (λ (zs : List (List ℕ)). zs ++ more) (s .1) ∙ append-assoc (rightEntries k e q end) (s .0) more)
+        let more = repeated r 2 (k - 1) (rightEntries k e (r + 1) end) in (
+          s .0 ++ more,
+          rights-marked k e r end n l (o .0) (o .1) ∙ ap (λ (zs : List (List ℕ)). zs ++ more) (s .1)
+              ∙ append-assoc (rightEntries k e q end) (s .0) more,
+        )
 
     go : (c r : ℕ) → p ≤ r → r + c ≡ q → (rest : List (List ℕ)) × (rightEntries k e r end ≡ rightEntries k e q end ++ rest)
     go zero r a n =
@@ -166,7 +180,8 @@ rights-rest k e p end g l q h m = go (q - p) p (omega arith) (omega arith)
         turn r a (omega (arith, n, m)) (ℕ-discrete (getD e r 0) 0) (go c (r + 1) (omega (arith, a)) (omega (arith, n)))
 
 -- what holds of each string of f, a digit before it, holds of each that branches
-branch-each : (P : List ℕ → Type 0) (d c : ℕ) (f : ℕ → List (List ℕ)) → ((e : ℕ) (x : List ℕ) → List·Memᴰ x (f e) → P (e ∷ x)) → (x : List ℕ) → List·Memᴰ x (branch d c f) → P x
+branch-each : (P : List ℕ → Type 0) (d c : ℕ) (f : ℕ → List (List ℕ)) → ((e : ℕ) (x : List ℕ) → List·Memᴰ x (f e) → P (e ∷ x)) → (x : List ℕ) →
+    List·Memᴰ x (branch d c f) → P x
 unfolding branch
 branch-each P d zero f h x m = absurd (List·Memᴰ·not-nil m)
 branch-each P d (suc c) f h x m = go (branch-each P (suc d) c f h x) (List·Memᴰ·append-cases (map (d ∷_) (f d)) m)
@@ -181,12 +196,14 @@ unfolding marked
 marked-long k [] es m = ap length (List·Memᴰ·eq-of-singleton m)
 marked-long k (z ∷ zs) es m = pick (eqb z 0) (λ e fs n. ap suc (marked-long k zs fs n)) m
   where
-    pick : (b : Bool) → ((e : ℕ) (fs : List ℕ) → List·Memᴰ fs (marked k zs) → length (e ∷ fs) ≡ suc (length zs)) → List·Memᴰ es (cond b (branch 0 1 (λ d. marked k zs)) (branch 1 k (λ d. marked k zs))) → length es ≡ suc (length zs)
+    pick : (b : Bool) → ((e : ℕ) (fs : List ℕ) → List·Memᴰ fs (marked k zs) → length (e ∷ fs) ≡ suc (length zs)) →
+        List·Memᴰ es (cond b (branch 0 1 (λ d. marked k zs)) (branch 1 k (λ d. marked k zs))) → length es ≡ suc (length zs)
     pick true h n = branch-each (λ fs. length fs ≡ suc (length zs)) 0 1 (λ d. marked k zs) h es n
     pick false h n = branch-each (λ fs. length fs ≡ suc (length zs)) 1 k (λ d. marked k zs) h es n
 
 -- as many digits in the place of those from p up to `end` leave as many words, and the same behind them
-with-words : (e : List ℕ) (p end : ℕ) (ds : List ℕ) → p ≤ end → end ≤ length e → length ds ≡ end - p → (length (with e p end ds) ≡ length e) × (drop end (with e p end ds) ≡ drop end e)
+with-words : (e : List ℕ) (p end : ℕ) (ds : List ℕ) → p ≤ end → end ≤ length e → length ds ≡ end - p →
+    (length (with e p end ds) ≡ length e) × (drop end (with e p end ds) ≡ drop end e)
 with-words e p end ds h l n =
     let a = length-take-le p e (omega (arith, h, l)) in
     let b = length-append (take p e) ds in
@@ -195,7 +212,8 @@ with-words e p end ds h l n =
     (omega (arith, a, b, c, d, n, h, l), drop-at (take p e ++ ds) (drop end e) end (omega (arith, a, b, n, h)))
 
 -- entries that differ in their right digits alone have as many words, and the same behind the digits
-rights-kept : (k : ℕ) (e : List ℕ) (p end : ℕ) → p ≤ end → end ≤ length e → (f : List ℕ) → List·Memᴰ f (rightEntries k e p end) → (length f ≡ length e) × (drop end f ≡ drop end e)
+rights-kept : (k : ℕ) (e : List ℕ) (p end : ℕ) → p ≤ end → end ≤ length e → (f : List ℕ) → List·Memᴰ f (rightEntries k e p end) →
+    (length f ≡ length e) × (drop end f ≡ drop end e)
 unfolding rightEntries
 rights-kept k e p end h l f i =
     let r = Memᴰ·of-map (with e p end) (marked k (marksFrom e p end)) i in
@@ -204,25 +222,36 @@ rights-kept k e p end h l f i =
     rw (← r .2) (with-words e p end (r .0) h l (a ∙ b))
 
 -- those of n left digits and m right ones
-pub right-words : (k : ℕ) (e : List ℕ) (n m : ℕ) → n + m ≤ length e → (f : List ℕ) → List·Memᴰ f (rightEntries k e n (n + m)) → (length f ≡ length e) × (drop (n + m) f ≡ drop (n + m) e)
+pub right-words : (k : ℕ) (e : List ℕ) (n m : ℕ) → n + m ≤ length e → (f : List ℕ) → List·Memᴰ f (rightEntries k e n (n + m)) →
+    (length f ≡ length e) × (drop (n + m) f ≡ drop (n + m) e)
 right-words k e n m l f i = rights-kept k e n (n + m) (omega arith) l f i
 
 -- at the end of the places the entry is written
-pub rights-first : (k : ℕ) (e : List ℕ) (end : ℕ) (lent : List ℕ) (at : ℕ) {lent′ : List ℕ} → at + length e ≤ length lent → lent′ ≡ put at e lent → Writes (rightEntries k e end end) lent at lent′ (at + length e)
+pub rights-first : (k : ℕ) (e : List ℕ) (end : ℕ) (lent : List ℕ) (at : ℕ) {lent′ : List ℕ} → at + length e ≤ length lent → lent′ ≡ put at e lent →
+    Writes (rightEntries k e end end) lent at lent′ (at + length e)
 rights-first k e end lent at h q = rw (rights-end k e end end refl) (entry-fits e lent at (omega (arith, h)) q)
 
 -- with fewer than two labels it is all
-pub rights-few : (k : ℕ) (e : List ℕ) (p end : ℕ) (lent : List ℕ) (at : ℕ) {lent′ : List ℕ} → k < 2 → p ≤ end → end ≤ length e → Least k e p end → at + length e ≤ length lent → lent′ ≡ put at e lent → Writes (rightEntries k e p end) lent at lent′ (at + length e)
+pub rights-few : (k : ℕ) (e : List ℕ) (p end : ℕ) (lent : List ℕ) (at : ℕ) {lent′ : List ℕ} → k < 2 → p ≤ end → end ≤ length e → Least k e p end →
+    at + length e ≤ length lent → lent′ ≡ put at e lent → Writes (rightEntries k e p end) lent at lent′ (at + length e)
 rights-few k e p end lent at b h l g m q = rw (rights-one k e p end b h l g) (entry-fits e lent at (omega (arith, m)) q)
 
 -- where the entry does not fit, none of them does
-pub rights-over : (k : ℕ) (e : List ℕ) (p end : ℕ) (lent : List ℕ) (at : ℕ) → p ≤ end → end ≤ length e → Least k e p end → length lent - at < length e → Writes (rightEntries k e p end) lent at lent full
+pub rights-over : (k : ℕ) (e : List ℕ) (p end : ℕ) (lent : List ℕ) (at : ℕ) → p ≤ end → end ≤ length e → Least k e p end →
+    length lent - at < length e → Writes (rightEntries k e p end) lent at lent full
 rights-over k e p end lent at h l g o =
     let s = rights-rest k e p end g l end h (omega arith) in
-    let z : 0 < length (rightEntries k e p end) = omega (arith, ap length (s .1), ap length (rights-end k e end end refl), length-append (rightEntries k e end end) (s .0)) in
+    let z : 0 < length (rightEntries k e p end) = omega (
+      arith,
+      ap length (s .1),
+      ap length (rights-end k e end end refl),
+      length-append
+          (rightEntries k e end end) (s .0),
+    ) in
     none-fits (rightEntries k e p end) lent at z (λ f i. let n = rights-kept k e p end h l f i in omega (arith, o, n .0))
 
-module _ (k : ℕ) (e : List ℕ) (p q end : ℕ) (h : p < q) (m : q ≤ end) (l : end ≤ length e) {lent : List ℕ} {at : ℕ} {lent₁ : List ℕ} {r₁ : ℕ} (w : Writes (rightEntries k e q end) lent at lent₁ r₁) where
+module _ (k : ℕ) (e : List ℕ) (p q end : ℕ) (h : p < q) (m : q ≤ end) (l : end ≤ length e) {lent : List ℕ} {at : ℕ} {lent₁ : List ℕ} {r₁ : ℕ}
+    (w : Writes (rightEntries k e q end) lent at lent₁ r₁) where
   -- a place with 0 changes nothing
   pub rights-skip : getD e (q - 1) 0 ≡ 0 → Writes (rightEntries k e (q - 1) end) lent at lent₁ r₁
   rights-skip z =
@@ -235,18 +264,22 @@ module _ (k : ℕ) (e : List ℕ) (p q end : ℕ) (h : p < q) (m : q ≤ end) (l
     rights-block = writes-block (length e) b w f (λ x i. rights-kept k e q end m l x i .0)
 
     -- at a place with 1 they are repeated
-    pub rights-repeat : Least k e p end → (getD e (q - 1) 0 ≡ 0 → ⊥) → {lent₂ : List ℕ} {r₂ : ℕ} → Writes (repeated (q - 1) 2 (k - 1) (rightEntries k e q end)) lent₁ r₁ lent₂ r₂ → Writes (rightEntries k e (q - 1) end) lent at lent₂ r₂
+    pub rights-repeat : Least k e p end → (getD e (q - 1) 0 ≡ 0 → ⊥) → {lent₂ : List ℕ} {r₂ : ℕ} →
+        Writes (repeated (q - 1) 2 (k - 1) (rightEntries k e q end)) lent₁ r₁ lent₂ r₂ → Writes (rightEntries k e (q - 1) end) lent at lent₂ r₂
     rights-repeat g z v =
         let n : q - 1 + 1 ≡ q = omega (arith, h) in
         let o = mark-one g (q - 1) (omega (arith, h)) (omega (arith, h, m)) z in
         rw (rights-marked k e (q - 1) end (omega (arith, h, m)) l (o .0) (o .1), n) (repeat-writes (rightEntries k e q end) (q - 1) 2 (k - 1) b w f v)
 
     -- where they do not all fit, full is answered
-    pub rights-full : Least k e p end → (getD e (q - 1) 0 ≡ 0 → ⊥) → length lent < full → {lent₂ : List ℕ} {r₂ : ℕ} → Writes (repeated (q - 1) 2 (k - 1) (rightEntries k e q end)) lent₁ r₁ lent₂ r₂ → r₂ ≡ full → Writes (rightEntries k e p end) lent at lent₂ full
+    pub rights-full : Least k e p end → (getD e (q - 1) 0 ≡ 0 → ⊥) → length lent < full → {lent₂ : List ℕ} {r₂ : ℕ} →
+        Writes (repeated (q - 1) 2 (k - 1) (rightEntries k e q end)) lent₁ r₁ lent₂ r₂ → r₂ ≡ full →
+        Writes (rightEntries k e p end) lent at lent₂ full
     rights-full g z u v t =
         let s = rights-rest k e p end g l (q - 1) (omega (arith, h)) (omega (arith, m)) in
         rw (s .1) (writes-full (rightEntries k e (q - 1) end) (s .0) b u (rights-repeat g z v) t)
 
 -- at the first place all is written
-pub rights-last : (k : ℕ) (e : List ℕ) (p q end : ℕ) {lent : List ℕ} {at : ℕ} {lent′ : List ℕ} {r : ℕ} → q ≡ p → Writes (rightEntries k e q end) lent at lent′ r → Writes (rightEntries k e p end) lent at lent′ r
+pub rights-last : (k : ℕ) (e : List ℕ) (p q end : ℕ) {lent : List ℕ} {at : ℕ} {lent′ : List ℕ} {r : ℕ} → q ≡ p →
+    Writes (rightEntries k e q end) lent at lent′ r → Writes (rightEntries k e p end) lent at lent′ r
 rights-last k e p q end z w = rw (← z) w

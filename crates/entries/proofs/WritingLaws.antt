@@ -21,7 +21,8 @@ flatten-append [] ys = refl
 flatten-append (x ∷ xs) ys = ap (x ++_) (flatten-append xs ys) ∙ sym (append-assoc x (flatten xs) (flatten ys))
 
 -- where all of xs fits, it is taken, and of the rest what fits after it
-fitting-after : (room : ℕ) (xs rest : List (List ℕ)) → length (flatten xs) ≤ room → fitting room (xs ++ rest) ≡ xs ++ fitting (room - length (flatten xs)) rest
+fitting-after : (room : ℕ) (xs rest : List (List ℕ)) → length (flatten xs) ≤ room →
+    fitting room (xs ++ rest) ≡ xs ++ fitting (room - length (flatten xs)) rest
 unfolding fitting flatten
 fitting-after room [] rest h = ap (λ (n : ℕ). fitting n rest) (omega arith)
 fitting-after room (x ∷ xs) rest h =
@@ -37,7 +38,8 @@ unfolding fitting flatten
 fitting-before room [] rest h = absurd (omega (arith, h))
 fitting-before room (x ∷ xs) rest h = pick (leb (length x) room) refl (fitting-before (room - length x) xs rest)
   where
-    pick : (b : Bool) → leb (length x) room ≡ b → (room - length x < length (flatten xs) → fitting (room - length x) (xs ++ rest) ≡ fitting (room - length x) xs) → cond b (x ∷ fitting (room - length x) (xs ++ rest)) [] ≡ cond b (x ∷ fitting (room - length x) xs) []
+    pick : (b : Bool) → leb (length x) room ≡ b → (room - length x < length (flatten xs) → fitting (room - length x) (xs ++ rest) ≡ fitting
+        (room - length x) xs) → cond b (x ∷ fitting (room - length x) (xs ++ rest)) [] ≡ cond b (x ∷ fitting (room - length x) xs) []
     pick true q r =
         let l = length-append x (flatten xs) in
         let m = leb-true (length x) room q in
@@ -65,7 +67,8 @@ pub put-none : (at : ℕ) (lent : List ℕ) → put at [] lent ≡ lent
 unfolding put
 put-none at lent =
     let z : at + 0 ≡ at = omega arith in
-    ap (λ (r : List ℕ). r ++ drop (at + 0) lent) (append-nil (take at lent)) ∙ ap (λ (n : ℕ). take at lent ++ drop n lent) z ∙ take-append-drop at lent
+    ap (λ (r : List ℕ). r ++ drop (at + 0) lent) (append-nil (take at lent)) ∙ ap (λ (n : ℕ). take at lent ++ drop n lent) z
+    ∙ take-append-drop at lent
 
 -- words put behind words
 put-put : (at : ℕ) (xs ys lent : List ℕ) → at + length xs ≤ length lent → put (at + length xs) ys (put at xs lent) ≡ put at (xs ++ ys) lent
@@ -83,9 +86,11 @@ put-put at xs ys lent h =
     rw (t, e) (ap (λ (r : List ℕ). r ++ drop (at + length (xs ++ ys)) lent) (append-assoc (take at lent) xs ys))
 
 -- one more word is copied
-pub copied-next : (words lent : List ℕ) (at i : ℕ) {lent′ : List ℕ} → at + length words ≤ length lent → i < length words → lent′ ≡ paste lent at words i → set lent′ (at + i) (getD words i 0) ≡ paste lent at words (i + 1)
+pub copied-next : (words lent : List ℕ) (at i : ℕ) {lent′ : List ℕ} → at + length words ≤ length lent → i < length words →
+    lent′ ≡ paste lent at words i → set lent′ (at + i) (getD words i 0) ≡ paste lent at words (i + 1)
 copied-next words lent at i h l e =
-    ap (λ (r : List ℕ). set r (at + i) (getD words i 0)) e ∙ paste-suc lent at words i 0 (omega (arith, h, l)) l ∙ ap (paste lent at words) (sym (add-one i))
+    ap (λ (r : List ℕ). set r (at + i) (getD words i 0)) e ∙ paste-suc lent at words i 0 (omega (arith, h, l)) l
+    ∙ ap (paste lent at words) (sym (add-one i))
 
 -- all words are copied
 pub copied-all : (words lent : List ℕ) (at i : ℕ) {lent′ : List ℕ} → i ≡ length words → lent′ ≡ paste lent at words i → lent′ ≡ put at words lent
@@ -146,7 +151,8 @@ module _ {es : List (List ℕ)} {lent : List ℕ} {at : ℕ} {lent′ : List ℕ
       (sym (w .used) ∙ q)
 
 -- what is written leaves as many words, and uses no more
-pub writes-room : {es : List (List ℕ)} {lent : List ℕ} {at : ℕ} {lent′ : List ℕ} {r : ℕ} → at ≤ length lent → Writes es lent at lent′ r → (length lent′ ≡ length lent) × ((r ≡ full → ⊥) → (at ≤ r) × (r ≤ length lent))
+pub writes-room : {es : List (List ℕ)} {lent : List ℕ} {at : ℕ} {lent′ : List ℕ} {r : ℕ} → at ≤ length lent → Writes es lent at lent′ r →
+    (length lent′ ≡ length lent) × ((r ≡ full → ⊥) → (at ≤ r) × (r ≤ length lent))
 writes-room {es} {lent} {at} {lent′} {r} h w =
     let f = fitting-fits (length lent - at) es in
     let l = put-long at (flatten (fitting (length lent - at) es)) lent (omega (arith, h, f)) in
@@ -160,7 +166,8 @@ writes-none lent at h =
     record { words = sym (put-none at lent); used = z ∙ sym (used-all (length lent - at) 0 (at + 0) (omega arith)) }
 
 -- entries that fit are written
-pub writes-all : (es : List (List ℕ)) (lent : List ℕ) (at : ℕ) {lent′ : List ℕ} → length (flatten es) ≤ length lent - at → lent′ ≡ put at (flatten es) lent → Writes es lent at lent′ (at + length (flatten es))
+pub writes-all : (es : List (List ℕ)) (lent : List ℕ) (at : ℕ) {lent′ : List ℕ} → length (flatten es) ≤ length lent - at →
+    lent′ ≡ put at (flatten es) lent → Writes es lent at lent′ (at + length (flatten es))
 writes-all es lent at h q =
     let f = fitting-all (length lent - at) es h in
     record {
@@ -169,25 +176,29 @@ writes-all es lent at h q =
     }
 
 -- an entry that fits is written
-pub entry-fits : (e lent : List ℕ) (at : ℕ) {lent′ : List ℕ} → length e ≤ length lent - at → lent′ ≡ put at e lent → Writes (e ∷ []) lent at lent′ (at + length e)
+pub entry-fits : (e lent : List ℕ) (at : ℕ) {lent′ : List ℕ} → length e ≤ length lent - at → lent′ ≡ put at e lent →
+    Writes (e ∷ []) lent at lent′ (at + length e)
 unfolding flatten
 entry-fits e lent at {lent′} h q =
     let a : e ++ [] ≡ e = append-nil e in
     rw a at (writes-all (e ∷ []) lent at {lent′ = lent′} (rw a h) (rw a q))
 
 -- of entries that do not all fit those that do are written
-pub writes-cut : (es : List (List ℕ)) (lent : List ℕ) (at : ℕ) {lent′ : List ℕ} → length lent - at < length (flatten es) → lent′ ≡ put at (flatten (fitting (length lent - at) es)) lent → Writes es lent at lent′ full
+pub writes-cut : (es : List (List ℕ)) (lent : List ℕ) (at : ℕ) {lent′ : List ℕ} → length lent - at < length (flatten es) →
+    lent′ ≡ put at (flatten (fitting (length lent - at) es)) lent → Writes es lent at lent′ full
 writes-cut es lent at h q =
     record { words = q; used = sym (used-over (length lent - at) (length (flatten es)) (at + length (flatten es)) h) }
 
 -- where there are entries and each is longer than the room, none is
-pub none-fits : (es : List (List ℕ)) (lent : List ℕ) (at : ℕ) → 0 < length es → ((e : List ℕ) → List·Memᴰ e es → length lent - at < length e) → Writes es lent at lent full
+pub none-fits : (es : List (List ℕ)) (lent : List ℕ) (at : ℕ) → 0 < length es → ((e : List ℕ) → List·Memᴰ e es → length lent - at < length e) →
+    Writes es lent at lent full
 unfolding flatten fitting
 none-fits [] lent at z h = absurd (omega (arith, z))
 none-fits (e ∷ es) lent at z h =
     let l = h e (List·Memᴰ·head refl) in
     let f : fitting (length lent - at) (e ∷ es) ≡ [] = rw (lt-leb (length e) (length lent - at) l) in
-    writes-cut (e ∷ es) lent at (omega (arith, l, length-append e (flatten es))) (sym (put-none at lent) ∙ ap (λ (zs : List (List ℕ)). put at (flatten zs) lent) (sym f))
+    writes-cut (e ∷ es) lent at (omega (arith, l, length-append e (flatten es)))
+    (sym (put-none at lent) ∙ ap (λ (zs : List (List ℕ)). put at (flatten zs) lent) (sym f))
 
 -- where all that remained is written, all of the entries are
 pub remains-done : {es : List (List ℕ)} {lent₀ lent : List ℕ} {at₀ at : ℕ} → Remains es lent₀ at₀ [] lent at → Writes es lent₀ at₀ lent at
@@ -202,7 +213,8 @@ less-shift a b c h = pick (ltb (a - b) c) refl
     pick false q = sym (le-ltb a (b + c) (omega (arith, h, ltb-false (a - b) c q)))
 
 -- entries that fit, and then the rest
-pub writes-append : (xs ys : List (List ℕ)) {lent : List ℕ} {at : ℕ} {lent₁ : List ℕ} {r₁ : ℕ} {lent₂ : List ℕ} {r₂ : ℕ} → at ≤ length lent → Writes xs lent at lent₁ r₁ → (r₁ ≡ full → ⊥) → Writes ys lent₁ r₁ lent₂ r₂ → Writes (xs ++ ys) lent at lent₂ r₂
+pub writes-append : (xs ys : List (List ℕ)) {lent : List ℕ} {at : ℕ} {lent₁ : List ℕ} {r₁ : ℕ} {lent₂ : List ℕ} {r₂ : ℕ} → at ≤ length lent →
+    Writes xs lent at lent₁ r₁ → (r₁ ≡ full → ⊥) → Writes ys lent₁ r₁ lent₂ r₂ → Writes (xs ++ ys) lent at lent₂ r₂
 writes-append xs ys {lent} {at} {lent₁} {r₁} {lent₂} {r₂} h w q s =
     let room = length lent - at in
     let fits = writes-fits w q in
@@ -214,29 +226,38 @@ writes-append xs ys {lent} {at} {lent₁} {r₁} {lent₂} {r₂} h w q s =
     let n : length lent₁ - r₁ ≡ room - length (flatten xs) = omega (arith, l, u) in
     let zs = fitting (room - length (flatten xs)) ys in
     let f : flatten (fitting room (xs ++ ys)) ≡ flatten xs ++ flatten zs = ap flatten a ∙ flatten-append xs zs in
-    let t : length (flatten (xs ++ ys)) ≡ length (flatten xs) + length (flatten ys) = ap length (flatten-append xs ys) ∙ length-append (flatten xs) (flatten ys) in
+    let t : length (flatten (xs ++ ys)) ≡ length (flatten xs) + length (flatten ys) = ap length (flatten-append xs ys)
+    ∙ length-append (flatten xs) (flatten ys) in
     let g : flatten (fitting (length lent₁ - r₁) ys) ≡ flatten zs = ap (λ (k : ℕ). flatten (fitting k ys)) n in
-    let b : ltb (length lent₁ - r₁) (length (flatten ys)) ≡ ltb room (length (flatten (xs ++ ys))) = ap (λ (k : ℕ). ltb k (length (flatten ys))) n ∙ less-shift room (length (flatten xs)) (length (flatten ys)) fits ∙ ap (ltb room) (sym t) in
+    let b : ltb (length lent₁ - r₁) (length (flatten ys)) ≡ ltb room (length (flatten (xs ++ ys))) = ap (λ (k : ℕ). ltb k (length (flatten ys))) n
+    ∙ less-shift room (length (flatten xs)) (length (flatten ys)) fits ∙ ap (ltb room) (sym t) in
     let m : r₁ + length (flatten ys) ≡ at + length (flatten (xs ++ ys)) = omega (arith, u, t) in
     record {
-      words = s .words ∙ ap (λ (vs : List ℕ). put r₁ vs lent₁) g ∙ ap (λ (k : ℕ). put k (flatten zs) lent₁) u ∙ ap (put (at + length (flatten xs)) (flatten zs)) p ∙ put-put at (flatten xs) (flatten zs) lent whole ∙ ap (λ (vs : List ℕ). put at vs lent) (sym f);
-      used = s .used ∙ ap (λ (k : ℕ). cond (ltb (length lent₁ - r₁) (length (flatten ys))) full k) m ∙ ap (λ (c : Bool). cond c full (at + length (flatten (xs ++ ys)))) b;
+      words = s .words ∙ ap (λ (vs : List ℕ). put r₁ vs lent₁) g ∙ ap (λ (k : ℕ). put k (flatten zs) lent₁) u
+          ∙ ap (put (at + length (flatten xs)) (flatten zs)) p ∙ put-put at (flatten xs) (flatten zs) lent whole
+          ∙ ap (λ (vs : List ℕ). put at vs lent) (sym f);
+      used = s .used ∙ ap (λ (k : ℕ). cond (ltb (length lent₁ - r₁) (length (flatten ys))) full k) m
+          ∙ ap (λ (c : Bool). cond c full (at + length (flatten (xs ++ ys)))) b;
     }
 
 -- entries, and then the same with other digits at a place
-pub repeat-writes : (es : List (List ℕ)) (p d c : ℕ) {lent : List ℕ} {at : ℕ} {lent₁ : List ℕ} {r₁ : ℕ} {lent₂ : List ℕ} {r₂ : ℕ} → at ≤ length lent → Writes es lent at lent₁ r₁ → (r₁ ≡ full → ⊥) → Writes (repeated p d c es) lent₁ r₁ lent₂ r₂ → Writes (es ++ repeated p d c es) lent at lent₂ r₂
+pub repeat-writes : (es : List (List ℕ)) (p d c : ℕ) {lent : List ℕ} {at : ℕ} {lent₁ : List ℕ} {r₁ : ℕ} {lent₂ : List ℕ} {r₂ : ℕ} → at ≤ length lent →
+    Writes es lent at lent₁ r₁ → (r₁ ≡ full → ⊥) → Writes (repeated p d c es) lent₁ r₁ lent₂ r₂ → Writes (es ++ repeated p d c es) lent at lent₂ r₂
 repeat-writes es p d c h w q s = writes-append es (repeated p d c es) h w q s
 
 -- entries of which one does not fit: the rest changes nothing
-pub writes-full : (xs rest : List (List ℕ)) {lent : List ℕ} {at : ℕ} {lent′ : List ℕ} {r : ℕ} → at ≤ length lent → length lent < full → Writes xs lent at lent′ r → r ≡ full → Writes (xs ++ rest) lent at lent′ full
+pub writes-full : (xs rest : List (List ℕ)) {lent : List ℕ} {at : ℕ} {lent′ : List ℕ} {r : ℕ} → at ≤ length lent → length lent < full →
+    Writes xs lent at lent′ r → r ≡ full → Writes (xs ++ rest) lent at lent′ full
 writes-full xs rest {lent} {at} {lent′} {r} h l w q =
     let over = writes-over w h l q in
     let b = sym (fitting-before (length lent - at) xs rest over) in
-    let t : length (flatten (xs ++ rest)) ≡ length (flatten xs) + length (flatten rest) = ap length (flatten-append xs rest) ∙ length-append (flatten xs) (flatten rest) in
+    let t : length (flatten (xs ++ rest)) ≡ length (flatten xs) + length (flatten rest) = ap length (flatten-append xs rest)
+    ∙ length-append (flatten xs) (flatten rest) in
     writes-cut (xs ++ rest) lent at (omega (arith, over, t)) (w .words ∙ ap (λ (zs : List (List ℕ)). put at (flatten zs) lent) b)
 
 -- where the next entries are written and fit, the rest remains
-pub remains-next : {es rest : List (List ℕ)} {lent₀ lent : List ℕ} {at₀ at : ℕ} (xs : List (List ℕ)) → Remains es lent₀ at₀ (xs ++ rest) lent at → (lent′ : List ℕ) (r : ℕ) → Writes xs lent at lent′ r → (r ≡ full → ⊥) → Remains es lent₀ at₀ rest lent′ r
+pub remains-next : {es rest : List (List ℕ)} {lent₀ lent : List ℕ} {at₀ at : ℕ} (xs : List (List ℕ)) → Remains es lent₀ at₀ (xs ++ rest) lent at →
+    (lent′ : List ℕ) (r : ℕ) → Writes xs lent at lent′ r → (r ≡ full → ⊥) → Remains es lent₀ at₀ rest lent′ r
 remains-next {es} {rest} {lent₀} {lent} {at₀} {at} xs m lent′ r w q =
     let n = writes-room (m .within) w in
     record {
@@ -246,7 +267,8 @@ remains-next {es} {rest} {lent₀} {lent} {at₀} {at} xs m lent′ r w q =
     }
 
 -- where one of the next entries does not fit, all is written that fits
-pub remains-full : {es : List (List ℕ)} {lent₀ lent : List ℕ} {at₀ at : ℕ} (xs rest : List (List ℕ)) → Remains es lent₀ at₀ (xs ++ rest) lent at → length lent < full → (lent′ : List ℕ) (r : ℕ) → Writes xs lent at lent′ r → r ≡ full → Writes es lent₀ at₀ lent′ full
+pub remains-full : {es : List (List ℕ)} {lent₀ lent : List ℕ} {at₀ at : ℕ} (xs rest : List (List ℕ)) → Remains es lent₀ at₀ (xs ++ rest) lent at →
+    length lent < full → (lent′ : List ℕ) (r : ℕ) → Writes xs lent at lent′ r → r ≡ full → Writes es lent₀ at₀ lent′ full
 remains-full {es} {lent₀} {lent} {at₀} {at} xs rest m l lent′ r w q =
     m .closes lent′ full (writes-full xs rest (m .within) l w q)
 
@@ -260,7 +282,8 @@ put-there at xs lent h =
     ∙ take-append-seam xs (drop (at + length xs) lent)
 
 -- entries of one width that are written stand there
-pub writes-block : {es : List (List ℕ)} {lent : List ℕ} {at : ℕ} {lent′ : List ℕ} {r : ℕ} (width : ℕ) → at ≤ length lent → Writes es lent at lent′ r → (r ≡ full → ⊥) → ((e : List ℕ) → List·Memᴰ e es → length e ≡ width) → Block es width lent′ at r
+pub writes-block : {es : List (List ℕ)} {lent : List ℕ} {at : ℕ} {lent′ : List ℕ} {r : ℕ} (width : ℕ) → at ≤ length lent → Writes es lent at lent′ r →
+    (r ≡ full → ⊥) → ((e : List ℕ) → List·Memᴰ e es → length e ≡ width) → Block es width lent′ at r
 writes-block {es} {lent} {at} {lent′} {r} width h w q k =
     let n = writes-room h w in
     let whole : at + length (flatten es) ≤ length lent = omega (arith, h, writes-fits w q) in

@@ -1,6 +1,6 @@
 -- A call by its parts: the answer and the lent words are those of the entries that the walk writes, and all that `list` promises follows.
 -- All entries have one length, so the words used tell how many there are. Assumes nothing.
-use Prim.Native.Nat.{ℕ, zero, suc, _+_, _-_, _*_, _/_, _^_, _≤_, _<_}
+use Prim.Native.Nat.{ℕ, zero, suc, _+_, _-_, _*_, _/_, _≤_, _<_}
 use mathlib.Core.Bool.{Bool, true, false, cond}
 use mathlib.Core.List.{List, [], _∷_, flatten, List·Memᴰ, List·Memᴰ·not-nil}
 use mathlib.Core.Path.{_≡_, refl, sym, ap, _∙_}
@@ -11,7 +11,7 @@ use borrow.Author.Tests.{ltb-true, ltb-false}
 use lib.Arith.{digits-div}
 use lib.Dec.{ltb}
 use lib.ListN.{length, take, drop, set, replicate, length-replicate, getD-replicate, replicate-append-replicate, length-map}
-use lib.Seq.{drop-at, take-all, length-take-le, getD-take}
+use lib.Seq.{drop-at, take-all, length-take-le}
 use Rattle.table.specs.declared.Refusal.{Refusal}
 use Rattle.table.specs.Limits.{maxNodes}
 use Rattle.table.specs.Layout.{word, nodeCount, nodesOf, argumentsOf, leftTermsOf, leftLabelsOf, rightTermsOf, rightLabelsOf}
@@ -32,7 +32,6 @@ use Rattle.values.specs.declared.Variables.{Variables}
 use Rattle.values.specs.Code.Present.{leastNodes}
 use Rattle.nodes.specs.Code.Open.{Counts, OpenListed}
 use Rattle.nodes.specs.Code.Trail.{Trailed}
-use Rattle.nodes.specs.Code.Formed.{Formed}
 use Rattle.values.specs.Code.Begins.{Lists, BeginsShared}
 use Rattle.multiset_unification.specs.declared.Listing.the-variants.{Finished, Full, Refused}
 use Rattle.multiset_unification.specs.Problem.{halfAt, problemOf}
@@ -48,27 +47,29 @@ use Rattle.multiset_unification.proofs.TableLaws.{posed, none-held, held-posed,
 use Rattle.entries.specs.Code.Writing.{put, full, Writes, marked}
 use Rattle.entries.proofs.WritingLaws.{writes-room}
 use Rattle.entries.proofs.BlockLaws.{fitting-wide}
-use Rattle.branches.specs.Code.Known.{knownBytes, leftCount, rightCount, leftLabels, rightLabels, widthIn, leftIn, rightIn, AllBytes, Listable, SidesKnown, KnownOf, KeepsKnown, PutSides}
-use Rattle.branches.specs.Code.Walk.{below, Standing, Pairing, marksIn, branchEntries, Walking, Walked, allEntries, LooksAhead, Begun}
+use Rattle.branches.specs.Code.Known.{knownBytes, leftCount, rightCount, leftLabels, rightLabels, widthIn, leftIn, rightIn, AllBytes, Listable, KnownOf, KeepsKnown, PutSides}
+use Rattle.branches.specs.Code.Walk.{below, Standing, Pairing, marksIn, Walking, Walked, allEntries, LooksAhead, Begun}
 use Rattle.branches.proofs.BelowLaws.{below-listing, below-long}
 use Rattle.branches.proofs.SetLaws.{paired-first}
-use Rattle.branches.proofs.KnownLaws.{left-long, right-long, left-kept, right-kept, known-kept, formed-kept}
+use Rattle.branches.proofs.KnownLaws.{right-long, left-kept, right-kept, known-kept, formed-kept}
 use Rattle.branches.proofs.SidesLaws.{known-sides}
-use Rattle.walking.proofs.WalkLaws.{variables-long, below-branch}
+use Rattle.walking.proofs.WalkLaws.{below-branch}
 
 -- The entries of two sides with k and l labels, as the walk has them.
 abbrev pub sideEntries : List ℕ → List ℕ → List ℕ → List ℕ → ℕ → ℕ → List (List ℕ)
 sideEntries nodes arguments left right k l = below (nodesFrom nodes arguments) right k l left [] [] (replicate (length right) 1)
 
 -- of entries that have one length as many fit as that length goes into the lent words, if not all do
-fitting-room : (width lent : ℕ) (es : List (List ℕ)) → 0 < width → ((e : List ℕ) → List·Memᴰ e es → length e ≡ width) → lent < length (flatten es) → length (fitting lent es) ≡ lent / width
+fitting-room : (width lent : ℕ) (es : List (List ℕ)) → 0 < width → ((e : List ℕ) → List·Memᴰ e es → length e ≡ width) → lent < length (flatten es) →
+    length (fitting lent es) ≡ lent / width
 fitting-room width lent es h l m =
     let f = fitting-wide width lent (lent / width) es l (div-mul-le-self lent width) (lt-div-mul-add h) in
     let t = flatten-long width es l in
     let q : lent / width < length es = div-lt-iff-lt-mul h .1 (omega (arith, m, t)) in
     ap length f ∙ length-take-le (lent / width) es (omega (arith, q))
 
-module _ {es : List (List ℕ)} {lent lent′ : List ℕ} {r : ℕ} (x : Writes es lent 0 lent′ r) (b : length lent < full) (width : ℕ) (h : 0 < width) (l : (e : List ℕ) → List·Memᴰ e es → length e ≡ width) where
+module _ {es : List (List ℕ)} {lent lent′ : List ℕ} {r : ℕ} (x : Writes es lent 0 lent′ r) (b : length lent < full) (width : ℕ) (h : 0 < width)
+    (l : (e : List ℕ) → List·Memᴰ e es → length e ≡ width) where
   -- the lent words begin with the entries that fit
   written-words : lent′ ≡ lentAfter [] es lent
   unfolding put lentAfter
@@ -88,7 +89,11 @@ module _ {es : List (List ℕ)} {lent lent′ : List ℕ} {r : ℕ} (x : Writes 
 
   -- an entry did not fit
   pub written-full : r ≡ full → LeavesEntries es lent (told (Full (length lent′ / width))) lent′
-  written-full f = record { answer = rw (writes-room (omega arith) x .0, ← fitting-room width (length lent) es h l less) (sym (answered-full [] es (length lent) nothing nothing-held less)); words = written-words }
+  written-full f = record {
+    answer = rw (writes-room (omega arith) x .0, ← fitting-room width (length lent) es h l less)
+        (sym (answered-full [] es (length lent) nothing nothing-held less));
+    words = written-words;
+  }
     where
       pick : (t : Bool) → ltb (length lent) (length (flatten es)) ≡ t → cond t full (length (flatten es)) ≡ full → length lent < length (flatten es)
       pick true q n = ltb-true (length lent) (length (flatten es)) q
@@ -105,7 +110,8 @@ module _ {es : List (List ℕ)} {lent lent′ : List ℕ} {r : ℕ} (x : Writes 
         words = written-words;
       }
     where
-      pick : (t : Bool) → ltb (length lent) (length (flatten es)) ≡ t → (cond t full (length (flatten es)) ≡ full → ⊥) → (length (flatten es) ≤ length lent) × (cond t full (length (flatten es)) ≡ length (flatten es))
+      pick : (t : Bool) → ltb (length lent) (length (flatten es)) ≡ t → (cond t full (length (flatten es)) ≡ full → ⊥) →
+          (length (flatten es) ≤ length lent) × (cond t full (length (flatten es)) ≡ length (flatten es))
       pick true q n = absurd (n refl)
       pick false q n = (ltb-false (length lent) (length (flatten es)) q, refl)
 
@@ -147,7 +153,8 @@ written-none es lent e =
     })
 
 -- where entries have no words, there is one
-all-empty : (nodes arguments left right : List ℕ) (k l : ℕ) → length left + length right + length (variablesOf (nodesFrom nodes arguments)) ≡ 0 → sideEntries nodes arguments left right k l ≡ empty
+all-empty : (nodes arguments left right : List ℕ) (k l : ℕ) → length left + length right + length (variablesOf (nodesFrom nodes arguments)) ≡ 0 →
+    sideEntries nodes arguments left right k l ≡ empty
 unfolding below marked
 all-empty nodes arguments [] [] k l h =
     ap (_∷ []) (length-none (wordsOf (nodesFrom nodes arguments) []) (words-counted (nodesFrom nodes arguments) [] ∙ omega (arith, h)))
@@ -206,7 +213,8 @@ module _ {nodes arguments left right : List ℕ} {k l : ℕ} (g : Listable nodes
       Begun nodes arguments left right k l heads next known (length left + length right + v .count)
   begun {known = known} n t size c few o e p =
       let z : v .count - 0 ≡ v .count = omega arith in
-      let sides = known-sides (g .sections) size c few o e (ap (λ (j : ℕ). take j (v .nodes)) z ∙ s .lists .least) list-few (g .left-few) (g .right-few) (g .left-nodes) (g .right-nodes) (g .left-labels) (g .right-labels) p in
+      let sides = known-sides (g .sections) size c few o e (ap (λ (j : ℕ). take j (v .nodes)) z ∙ s .lists .least) list-few (g .left-few)
+      (g .right-few) (g .left-nodes) (g .right-nodes) (g .left-labels) (g .right-labels) p in
       record {
         sides = sides;
         formed = s .formed known (sides .knows .counts);
@@ -231,7 +239,8 @@ module _ {nodes arguments left right : List ℕ} {k l : ℕ} {heads next known :
   -- an entry of no words is the only one
   pub begun-empty : width ≡ 0 → (lent : List ℕ) → LeavesEntries (sideEntries nodes arguments left right k l) lent (told (Finished 1)) lent
   begun-empty e lent =
-      written-empty (sideEntries nodes arguments left right k l) lent (all-empty nodes arguments left right k l (omega (arith, e, g .width-is, g .sides .width-is)))
+      written-empty (sideEntries nodes arguments left right k l) lent
+      (all-empty nodes arguments left right k l (omega (arith, e, g .width-is, g .sides .width-is)))
 
   -- the entries of what is known are those of the sides
   known-entries : allEntries nodes arguments known [] ≡ sideEntries nodes arguments left right k l
@@ -266,7 +275,8 @@ module _ {nodes arguments left right : List ℕ} {k l : ℕ} {heads next known :
       first-ones : first-entry ≡ replicate (leftCount known′ + (rightCount known′ + word known′ 577)) 1
       first-ones =
           let z : width - 0 ≡ leftCount known′ + (rightCount known′ + word known′ 577) = omega (arith, same-width, knows .width) in
-          ap (λ (j : ℕ). take j (replicate 80 1)) z ∙ take-replicate (leftCount known′ + (rightCount known′ + word known′ 577)) 80 1 (omega (arith, z, width-room))
+          ap (λ (j : ℕ). take j (replicate 80 1)) z ∙ take-replicate (leftCount known′ + (rightCount known′ + word known′ 577)) 80 1
+          (omega (arith, z, width-room))
 
       -- no right term is marked as paired
       first-marks : marksIn known′ first-entry ≡ replicate (rightCount known′) 1
@@ -291,7 +301,9 @@ module _ {nodes arguments left right : List ℕ} {k l : ℕ} {heads next known :
             branching = record {
               size = part-long (replicate 80 1) width width-room ∙ sym same-width;
               depth = omega arith;
-              small = λ j h. let q : word first-entry (leftCount known′ + j) ≡ 1 = ap (λ (x : List ℕ). word x (leftCount known′ + j)) first-ones ∙ getD-replicate {A = ℕ} (leftCount known′ + (rightCount known′ + word known′ 577)) (leftCount known′ + j) 1 0 (omega (arith, h)) in omega (arith, q);
+              small = λ j h. let q : word first-entry (leftCount known′ + j) ≡ 1 = ap (λ (x : List ℕ). word x (leftCount known′ + j)) first-ones
+                  ∙ getD-replicate {A = ℕ} (leftCount known′ + (rightCount known′ + word known′ 577)) (leftCount known′ + j) 1 0 (omega (arith, h)) in
+                  omega (arith, q);
               set-of = rw first-marks (paired-first (rightCount known′));
             };
             positive = omega arith;
@@ -305,9 +317,18 @@ module _ {nodes arguments left right : List ℕ} {k l : ℕ} {heads next known :
       first-walked y =
           rw (sym (below-branch knows first-entry 0 (omega arith) []) ∙ same) at (y .writes [] first-pairing)
         where
-          same : below (nodesFrom nodes arguments) (rightIn known′) (leftLabels known′) (rightLabels known′) (leftIn known′) [] [] (marksIn known′ first-entry) ≡ sideEntries nodes arguments left right k l
+          same : below (nodesFrom nodes arguments) (rightIn known′) (leftLabels known′) (rightLabels known′) (leftIn known′) [] []
+              (marksIn known′ first-entry) ≡ sideEntries nodes arguments left right k l
           same =
-              rw (first-marks, left-kept (g .sides .knows) keeps, right-kept (g .sides .knows) keeps, keeps .same 579 (omega arith), keeps .same 580 (omega arith), keeps .same 581 (omega arith)) known-entries
+              rw (
+                first-marks,
+                left-kept (g .sides .knows) keeps,
+                right-kept (g .sides .knows) keeps,
+                keeps .same 579 (omega arith),
+                keeps .same 580
+                    (omega arith),
+                keeps .same 581 (omega arith),
+              ) known-entries
 
       -- each entry has so many words
       pub entries-wide : (x : List ℕ) → List·Memᴰ x (sideEntries nodes arguments left right k l) → length x ≡ width
@@ -317,7 +338,8 @@ module _ {nodes arguments left right : List ℕ} {k l : ℕ} {heads next known :
           omega (arith, y, r, g .width-is, g .sides .width-is)
 
 -- an accepted table can be listed by its sections
-pub listable : (t : List ℕ) → Accepted t → {k l : ℕ} → k ≡ length (leftLabelsOf t) → l ≡ length (rightLabelsOf t) → Listable (nodesOf t) (argumentsOf t) (leftTermsOf t) (rightTermsOf t) k l
+pub listable : (t : List ℕ) → Accepted t → {k l : ℕ} → k ≡ length (leftLabelsOf t) → l ≡ length (rightLabelsOf t) →
+    Listable (nodesOf t) (argumentsOf t) (leftTermsOf t) (rightTermsOf t) k l
 listable t g k l =
     record {
       sections = sections-of t g;

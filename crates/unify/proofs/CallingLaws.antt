@@ -66,7 +66,8 @@ module _ (t : List ℕ) (a b : ℕ) where
     unfolding called unifyConditions variableCount
     accepted-table lent = pick (leb (length (nodesIn t)) a || leb (length (nodesIn t)) b) refl (ltb lent (length (variablesOf (nodesIn t)))) refl
       where
-        pick : (x : Bool) → (leb (length (nodesIn t)) a || leb (length (nodesIn t)) b) ≡ x → (y : Bool) → ltb lent (length (variablesOf (nodesIn t))) ≡ y → unification t a b lent ≡ called (nodesIn t) a b lent
+        pick : (x : Bool) → (leb (length (nodesIn t)) a || leb (length (nodesIn t)) b) ≡ x → (y : Bool) →
+            ltb lent (length (variablesOf (nodesIn t))) ≡ y → unification t a b lent ≡ called (nodesIn t) a b lent
         pick true e y f = rw e (refused-exactly t a b lent 8 .1 (omega arith, first-after _ _ (conditions-numbered t) clear (here refl e)))
         pick false e true f =
             rw (e, f) (refused-exactly t a b lent 9 .1 (omega arith, first-after _ _ (conditions-numbered t) clear (later e (here refl f))))
@@ -83,7 +84,8 @@ module _ (t : List ℕ) (a b : ℕ) where
             ))
 
     -- and so are the lent words
-    accepted-words : (lent : List ℕ) → lentAfter t a b lent ≡ wordsAfter (called (nodesIn t) a b (length lent)) (wordsOf (nodesIn t) ((a, b) ∷ [])) lent
+    accepted-words : (lent : List ℕ) → lentAfter t a b lent ≡ wordsAfter (called (nodesIn t) a b (length lent)) (wordsOf (nodesIn t) ((a, b) ∷ []))
+        lent
     unfolding lentAfter
     accepted-words lent = rw (accepted-table (length lent))
 
@@ -94,7 +96,8 @@ module _ (nodes arguments : List ℕ) (a b n : ℕ) (e : n ≡ nodeCount nodes) 
       AnswersByNodes (nodesFrom nodes arguments) a b lent (Unification.Refused Refusal.NotANode) lent
   unfolding called wordsAfter
   answers-node lent g =
-      let h : (leb (length (nodesFrom nodes arguments)) a || leb (length (nodesFrom nodes arguments)) b) ≡ true = rw (nodes-long nodes arguments ∙ sym e) g in
+      let h : (leb (length (nodesFrom nodes arguments)) a || leb (length (nodesFrom nodes arguments)) b) ≡ true = rw
+      (nodes-long nodes arguments ∙ sym e) g in
       record { answer = rw h; words = rw h }
 
   -- both are
@@ -175,7 +178,8 @@ module _ (nodes arguments : List ℕ) (s : Sections nodes arguments) (a b : ℕ)
       one-words =
           same-unifiers ns (sections-well-formed nodes arguments s) ((a, b) ∷ g .pairs) ((a, b) ∷ []) (unified-stands .inside) one-inside
           pair-alone
-          (outcome-unified ns (sections-well-formed nodes arguments s) ((a, b) ∷ g .pairs) (unified-stands .inside) .0 (sym (x .answers (g .pairs) (g .stands)) ∙ ap extended e))
+          (outcome-unified ns (sections-well-formed nodes arguments s) ((a, b) ∷ g .pairs) (unified-stands .inside) .0
+          (sym (x .answers (g .pairs) (g .stands)) ∙ ap extended e))
 
       -- unified: the binding words are left
       pub answers-unified : (lent′ : List ℕ) → Leaves nodes arguments heads′ lent lent′ → AnswersByNodes ns a b lent Unification.Unified lent′
@@ -193,7 +197,8 @@ circles-ready n heads next b e d h = (d, rw e h, omega (arith, b, e))
 pub list-given : (nodes arguments : List ℕ) (v : Variables) (n : ℕ) → Lists nodes arguments v → v .count ≤ n →
     (take (v .count - 0) (v .nodes) ≡ leastNodes (nodesFrom nodes arguments)) × (length (take (v .count - 0) (v .nodes)) ≤ n)
 list-given nodes arguments v n l h =
-    let e : take (v .count - 0) (v .nodes) ≡ leastNodes (nodesFrom nodes arguments) = ap (λ (k : ℕ). take k (v .nodes)) (sub-zero (v .count)) ∙ l .least in
+    let e : take (v .count - 0) (v .nodes) ≡ leastNodes (nodesFrom nodes arguments) = ap (λ (k : ℕ). take k (v .nodes)) (sub-zero (v .count))
+    ∙ l .least in
     let d = ap length e ∙ least-long (nodesFrom nodes arguments) in
     let c = l .counted in
     (e, omega (arith, d, c))
@@ -213,12 +218,14 @@ promised : (t : List ℕ) (a b : ℕ) (lent : List ℕ) (r : Unification) (lent�
 promised t a b lent r lent′ e d = (e, (d, decided t a b lent (told r) lent′ e d))
 
 -- no lent word is changed where the table is refused
-refused-words : (t : List ℕ) (a b : ℕ) (lent : List ℕ) (r : Refusal) → told (Unification.Refused r) ≡ unification t a b (length lent) → lent ≡ lentAfter t a b lent
+refused-words : (t : List ℕ) (a b : ℕ) (lent : List ℕ) (r : Refusal) → told (Unification.Refused r) ≡ unification t a b (length lent) →
+    lent ≡ lentAfter t a b lent
 unfolding lentAfter wordsAfter
 refused-words t a b lent r e = rw (← e)
 
 -- so it is of a call with a refused table
-pub refused-promised : (t : List ℕ) (a b : ℕ) (lent : List ℕ) (c : Checked) (r : Refusal) → table.told c ≡ refusal t → c ≡ Checked.Refused r → Promised t a b lent (Unification.Refused r) lent
+pub refused-promised : (t : List ℕ) (a b : ℕ) (lent : List ℕ) (c : Checked) (r : Refusal) → table.told c ≡ refusal t → c ≡ Checked.Refused r →
+    Promised t a b lent (Unification.Refused r) lent
 refused-promised t a b lent c r e z =
     let d : told (Unification.Refused r) ≡ unification t a b (length lent) = sym (refused-table t a b (length lent) r (sym (ap table.told z) ∙ e)) in
     promised t a b lent (Unification.Refused r) lent d (refused-words t a b lent r d)

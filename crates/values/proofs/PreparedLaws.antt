@@ -94,10 +94,12 @@ module _ (P : ℕ → Type 0) (start : ℕ) (prepared : List ℕ) (count i : ℕ
       let f = g .few in
       record {
         few = omega (arith, f);
-        below = below-more (λ p. word prepared′ (start + p) < i + 1) count (λ p l. let e = kept p l in let b = g .below p l in omega (arith, e, b)) (omega (arith, put));
+        below = below-more (λ p. word prepared′ (start + p) < i + 1) count (λ p l. let e = kept p l in let b = g .below p l in omega (arith, e, b))
+            (omega (arith, put));
         has = below-more (λ p. P (word prepared′ (start + p))) count (λ p l. rw (kept p l) (g .has p l)) (rw put here);
         rising = λ p q l h. rising-at p q l h (ℕ-discrete q count);
-        whole = below-more (λ k. P k → (p : ℕ) × (p < count + 1) × (word prepared′ (start + p) ≡ k)) i (λ k l h. let w = g .whole k l h in let b = w .1 in (w .0, omega (arith, b), kept (w .0) (w .1) ∙ w .2)) (λ h. (count, omega arith, put));
+        whole = below-more (λ k. P k → (p : ℕ) × (p < count + 1) × (word prepared′ (start + p) ≡ k)) i
+            (λ k l h. let w = g .whole k l h in let b = w .1 in (w .0, omega (arith, b), kept (w .0) (w .1) ∙ w .2)) (λ h. (count, omega arith, put));
       }
     where
       rising-at : (p q : ℕ) → p < q → q < count + 1 → Dec (q ≡ count) → word prepared′ (start + p) < word prepared′ (start + q)
@@ -139,7 +141,8 @@ open-none nodes arguments counts s l =
     }
 
 module _ (nodes arguments counts₀ counts : List ℕ) (opens i count : ℕ) (s : Sections nodes arguments)
-    (o : OpenBefore nodes arguments counts₀ counts opens i) (h : i < nodeCount nodes) (l : 512 ≤ length counts₀) (d : CountedAt nodes arguments counts i count) where
+    (o : OpenBefore nodes arguments counts₀ counts opens i) (h : i < nodeCount nodes) (l : 512 ≤ length counts₀)
+    (d : CountedAt nodes arguments counts i count) where
   -- a node is below the limit, and so are the open ones before it
   pub open-place : (i < maxNodes) × (opens < maxNodes) × (512 ≤ length counts)
   open-place =
@@ -197,7 +200,8 @@ module _ (nodes arguments counts₀ counts : List ℕ) (opens i count : ℕ) (s 
   open-put n =
       record {
         size = long ∙ o .size;
-        counted = counts-kept nodes arguments counted-here listed (i + 1) (omega arith) (length-set counted-here (256 + opens) i) at-node counted-next;
+        counted = counts-kept nodes arguments counted-here listed (i + 1) (omega arith) (length-set counted-here (256 + opens) i) at-node
+            counted-next;
         gathered =
             gathered-put (IsOpen listed) 256 counted-here opens i
             (gathered-before listed (λ k m. at-node k (omega arith) ∙ other k (λ z. omega (arith, z, m)))) listed some
@@ -237,7 +241,13 @@ pub open-all : (nodes arguments counts₀ counts : List ℕ) (opens i n : ℕ) �
     (((k : ℕ) → 512 ≤ k → word counts k ≡ word counts₀ k) × (length counts ≡ length counts₀))))
 open-all nodes arguments counts₀ counts opens i n s l e m a b o = (
   right,
-  (few, (record { node = λ p h. rw (at p h) (node p (rw long at h)); applied = λ p h. rw (at p h) (applied p (rw long at h)); whole = whole }, (o .behind, o .size))),
+  (
+    few,
+    (
+      record { node = λ p h. rw (at p h) (node p (rw long at h)); applied = λ p h. rw (at p h) (applied p (rw long at h)); whole = whole },
+      (o .behind, o .size),
+    ),
+  ),
 )
   where
     right : Counts nodes arguments counts (nodeCount nodes)
@@ -260,14 +270,16 @@ open-all nodes arguments counts₀ counts opens i n s l e m a b o = (
         counted-application nodes arguments s (word counts (256 + p)) 0 (node p h)
         (looked-at right (word counts (256 + p)) 0 (node p h) (o .gathered .has p h))
 
-    whole : (k : ℕ) → k < nodeCount nodes → 0 < word counts k → (p : ℕ) × (p < length (take opens (drop 256 counts))) × (word (take opens (drop 256 counts)) p ≡ k)
+    whole : (k : ℕ) → k < nodeCount nodes → 0 < word counts k →
+        (p : ℕ) × (p < length (take opens (drop 256 counts))) × (word (take opens (drop 256 counts)) p ≡ k)
     whole k h q =
         let w = o .gathered .whole k (omega arith) q in
         (w .0, rw long (w .1), part-at 256 opens (w .0) counts (w .1) ∙ w .2)
 
 -- the key of a node depends on the names of its arguments
 key-same-up-to : (nodes arguments heads heads′ names names′ : List ℕ) (h : ℕ) →
-    ((j : ℕ) → j < countOf nodes h → valueName heads′ names′ (argumentOf nodes arguments h j) ≡ valueName heads names (argumentOf nodes arguments h j)) →
+    ((j : ℕ) → j < countOf nodes h → valueName heads′ names′ (argumentOf nodes arguments h j) ≡ valueName heads names
+    (argumentOf nodes arguments h j)) →
     (j : ℕ) → j ≤ countOf nodes h → keyUpTo nodes arguments heads′ names′ h j ≡ keyUpTo nodes arguments heads names h j
 unfolding keyUpTo
 key-same-up-to nodes arguments heads heads′ names names′ h s zero l = refl
@@ -276,7 +288,8 @@ key-same-up-to nodes arguments heads heads′ names names′ h s (suc j) l =
 
 -- so it is the same where these are
 key-same : (nodes arguments heads heads′ names names′ : List ℕ) (h : ℕ) →
-    ((j : ℕ) → j < countOf nodes h → valueName heads′ names′ (argumentOf nodes arguments h j) ≡ valueName heads names (argumentOf nodes arguments h j)) →
+    ((j : ℕ) → j < countOf nodes h → valueName heads′ names′ (argumentOf nodes arguments h j) ≡ valueName heads names
+    (argumentOf nodes arguments h j)) →
     keyOf nodes arguments heads′ names′ h ≡ keyOf nodes arguments heads names h
 unfolding keyOf
 key-same nodes arguments heads heads′ names names′ h s =
@@ -317,11 +330,17 @@ unfolding closedHeadTest
 head-false nodes counts heads i e m =
     let c = m .compound in
     false≢true
-    (sym e ∙ rw (closed-test nodes counts i (m .is-closed), ne-eqb (countOf nodes i) 0 (λ z. omega (arith, z, c)), eq-eqb (classOf heads i) i (m .own)))
+    (sym e ∙ rw (
+      closed-test nodes counts i (m .is-closed),
+      ne-eqb (countOf nodes i) 0 (λ z. omega (arith, z, c)),
+      eq-eqb (classOf heads i) i
+          (m .own),
+    ))
 
 -- what the words are after a closed application was noted: the key is below the place that is written first
 pub noted-read : (nodes arguments heads names prepared : List ℕ) (place i k : ℕ) → k ≡ keyOf nodes arguments heads names i → k < keys →
-    set (set (set prepared (512 + place) i) (256 + place) (word (set prepared (512 + place) i) k)) k (place + 1) ≡ closedNoted nodes arguments heads names prepared place i
+    set (set (set prepared (512 + place) i) (256 + place) (word (set prepared (512 + place) i) k)) k (place + 1) ≡ closedNoted nodes arguments heads
+    names prepared place i
 unfolding closedNoted
 noted-read nodes arguments heads names prepared place i k e h =
     ap (λ (x : ℕ). set (set (set prepared (512 + place) i) (256 + place) x) k (place + 1))
@@ -420,12 +439,14 @@ module _ (nodes arguments counts heads prepared₀ prepared : List ℕ) (count i
     noted-buckets =
         take-set-lt 256 (set (set prepared (512 + count) i) (256 + count) (word prepared k)) k (count + 1) small
         ∙ ap (λ (t : List ℕ). set t k (count + 1))
-        (take-set-le 256 (set prepared (512 + count) i) (256 + count) (word prepared k) (omega arith) ∙ take-set-le 256 prepared (512 + count) i (omega arith))
+        (take-set-le 256 (set prepared (512 + count) i) (256 + count) (word prepared k) (omega arith)
+        ∙ take-set-le 256 prepared (512 + count) i (omega arith))
 
     noted-earlier : take 256 (drop 256 noted) ≡ set (take 256 (drop 256 prepared)) count (word (take 256 prepared) k)
     noted-earlier =
         ap (take 256)
-        (drop-set-lt 256 (set (set prepared (512 + count) i) (256 + count) (word prepared k)) k (count + 1) small ∙ drop-set-add 256 (set prepared (512 + count) i) count (word prepared k))
+        (drop-set-lt 256 (set (set prepared (512 + count) i) (256 + count) (word prepared k)) k (count + 1) small
+        ∙ drop-set-add 256 (set prepared (512 + count) i) count (word prepared k))
         ∙ take-set-lt 256 (drop 256 (set prepared (512 + count) i)) count (word prepared k) few
         ∙ ap (λ (t : List ℕ). set t count (word prepared k)) far
         ∙ ap (set (take 256 (drop 256 prepared)) count) (sym (getD-take 256 prepared k 0 small))
@@ -452,7 +473,14 @@ module _ (nodes arguments counts heads prepared₀ prepared : List ℕ) (count i
     unfolding keyAt
     chained-put c names′ m t =
         rw (noted-buckets, noted-earlier)
-        (chained-add (Representative nodes before names′) (Representative nodes after names′) (keyAt nodes arguments heads before names′) (keyAt nodes arguments heads after names′) (take 256 prepared) (take 256 (drop 256 prepared)) count (λ q b. representative-same nodes before after names′ q (list-kept q b)) (λ q b. representative-same nodes after before names′ q (sym (list-kept q b))) (λ q b. key-at-same nodes arguments heads before after names′ q (list-kept q b)) (o .chained names′ m t) k (record { application = rw list-here (c .is-closed .applied); itself = rw list-here (t .itself i (omega (arith, m, h))) }) (ap (keyOf nodes arguments heads names′) list-here ∙ one-key names′ m t) small (length-take-le 256 prepared (omega (arith, size))) (let z : length (take 256 (drop 256 prepared)) ≡ 256 = part-long 256 256 prepared (omega (arith, size)) in omega (arith, z, few)))
+        (chained-add (Representative nodes before names′) (Representative nodes after names′) (keyAt nodes arguments heads before names′)
+        (keyAt nodes arguments heads after names′) (take 256 prepared) (take 256 (drop 256 prepared)) count
+        (λ q b. representative-same nodes before after names′ q (list-kept q b))
+        (λ q b. representative-same nodes after before names′ q (sym (list-kept q b)))
+        (λ q b. key-at-same nodes arguments heads before after names′ q (list-kept q b)) (o .chained names′ m t) k
+        (record { application = rw list-here (c .is-closed .applied); itself = rw list-here (t .itself i (omega (arith, m, h))) })
+        (ap (keyOf nodes arguments heads names′) list-here ∙ one-key names′ m t) small (length-take-le 256 prepared (omega (arith, size)))
+        (let z : length (take 256 (drop 256 prepared)) ≡ 256 = part-long 256 256 prepared (omega (arith, size)) in omega (arith, z, few)))
       where
         before : List ℕ
         before = take count (drop 512 prepared)

@@ -25,14 +25,16 @@ use Rattle.branches.specs.Code.Walk.{Standing, Binds}
 use Rattle.walking.proofs.WalkLaws.{variables-long}
 
 -- the open applications are a part of what is known
-pub opens-part : {nodes arguments known : List ℕ} → KnownOf nodes arguments known → (n : ℕ) → n ≡ word known 576 → OpenListed nodes known (take (256 + n - 256) (drop 256 known))
+pub opens-part : {nodes arguments known : List ℕ} → KnownOf nodes arguments known → (n : ℕ) → n ≡ word known 576 →
+    OpenListed nodes known (take (256 + n - 256) (drop 256 known))
 unfolding opensIn
 opens-part {known = known} k n e =
     let z : 256 + n - 256 ≡ word known 576 = omega (arith, e) in
     rw z (k .opens)
 
 -- and so are the least nodes of the variables
-pub list-part : {nodes arguments known : List ℕ} → KnownOf nodes arguments known → (n : ℕ) → n ≡ word known 577 → take (512 + n - 512) (drop 512 known) ≡ leastNodes (nodesFrom nodes arguments)
+pub list-part : {nodes arguments known : List ℕ} → KnownOf nodes arguments known → (n : ℕ) → n ≡ word known 577 →
+    take (512 + n - 512) (drop 512 known) ≡ leastNodes (nodesFrom nodes arguments)
 unfolding listIn
 list-part {known = known} k n e =
     let z : 512 + n - 512 ≡ word known 577 = omega (arith, e) in
@@ -44,7 +46,9 @@ module _ {nodes arguments known heads entry : List ℕ} (k : KnownOf nodes argum
   bound-none n m d e z =
       record {
         digits = refl;
-        words = λ ps g. drop-of-length-le entry {i = leftCount known + rightCount known} (omega (arith, d, e, z)) ∙ sym (none (wordsOf (nodesFrom nodes arguments) ps) (omega (arith, words-counted (nodesFrom nodes arguments) ps, variables-long k, k .width, long, d, e, z)));
+        words = λ ps g. drop-of-length-le entry {i = leftCount known + rightCount known} (omega (arith, d, e, z))
+            ∙ sym (none (wordsOf (nodesFrom nodes arguments) ps)
+            (omega (arith, words-counted (nodesFrom nodes arguments) ps, variables-long k, k .width, long, d, e, z)));
       }
     where
       none : (xs : List ℕ) → length xs ≡ 0 → xs ≡ []
@@ -69,9 +73,11 @@ module _ {nodes arguments known heads entry : List ℕ} (k : KnownOf nodes argum
           let ns = nodesFrom nodes arguments in
           let o = formed-unified nodes arguments known heads (k .sections) f (k .counts) (g .pairs) (g .stands) in
           let w = sections-well-formed nodes arguments (k .sections) in
-          let q = same-unifiers ns w (g .pairs) ps (g .stands .inside) (g .inside) (g .unifiers) (outcome-unified ns w (g .pairs) (g .stands .inside) .0 o) in
+          let q = same-unifiers ns w (g .pairs) ps (g .stands .inside) (g .inside) (g .unifiers)
+          (outcome-unified ns w (g .pairs) (g .stands .inside) .0 o) in
           let x = mid-len n (length entry) entry (omega (arith, e, long, k .width)) in
-          let y = drop-of-length-le (midOf n (length entry - n) entry) {i = length (variablesOf ns)} (omega (arith, x, long, e, k .width, variables-long k)) in
+          let y = drop-of-length-le (midOf n (length entry - n) entry) {i = length (variablesOf ns)}
+          (omega (arith, x, long, e, k .width, variables-long k)) in
           l (g .pairs) (g .stands) ∙ ap (λ (r : List ℕ). wordsOf ns (g .pairs) ++ r) y ∙ append-nil (wordsOf ns (g .pairs)) ∙ q
 
   -- so put_words has it: n and m are read from what is known

@@ -30,7 +30,8 @@ marked-some k [] h = omega arith
 marked-some k (z ∷ zs) h =
     pick (eqb z 0) refl k (λ e. h e 0 (omega arith)) (marked-some k zs (λ e j q. h e (suc j) (omega (arith, q))))
   where
-    pick : (b : Bool) → eqb z 0 ≡ b → (c : ℕ) → (c ≡ 0 → z ≡ 0) → 0 < length (marked k zs) → 0 < length (cond b (branch 0 1 (λ d. marked k zs)) (branch 1 c (λ d. marked k zs)))
+    pick : (b : Bool) → eqb z 0 ≡ b → (c : ℕ) → (c ≡ 0 → z ≡ 0) → 0 < length (marked k zs) →
+        0 < length (cond b (branch 0 1 (λ d. marked k zs)) (branch 1 c (λ d. marked k zs)))
     pick true e c f p = let l = length-map (marked k zs) (0 ∷_) in let a = length-append (map (0 ∷_) (marked k zs)) [] in omega (arith, l, a, p)
     pick false e zero f p = absurd (false≢true (sym e ∙ eq-eqb z 0 (f refl)))
     pick false e (suc c) f p =
@@ -55,13 +56,16 @@ labels-none k paired every h = pick (eqb k 0) refl h
     pick false e f = absurd (false≢true f)
 
 -- the marks stand behind the left digits
-marks-last : (known entry : List ℕ) → leftCount known ≤ length entry → drop (leftCount known) (take (leftCount known + rightCount known) entry) ≡ marksIn known entry
+marks-last : (known entry : List ℕ) → leftCount known ≤ length entry →
+    drop (leftCount known) (take (leftCount known + rightCount known) entry) ≡ marksIn known entry
 marks-last known entry h =
-    ap (drop (leftCount known)) (take-add (leftCount known) (rightCount known) entry) ∙ drop-at (take (leftCount known) entry) _ _ (length-take-le (leftCount known) entry h)
+    ap (drop (leftCount known)) (take-add (leftCount known) (rightCount known) entry)
+    ∙ drop-at (take (leftCount known) entry) _ _ (length-take-le (leftCount known) entry h)
 
 module _ {nodes arguments known heads entry out : List ℕ} {paired at : ℕ} (g : Ending nodes arguments known heads entry out paired at) where
   -- the entries are those of the whole string of left digits
-  string-entries : (least : ℕ) (ps : List (ℕ × ℕ)) → branchEntries nodes arguments known entry (leftCount known) least ps ≡ stringEntries (nodesFrom nodes arguments) (leftLabels known) (take (leftCount known) entry) ps (marksIn known entry)
+  string-entries : (least : ℕ) (ps : List (ℕ × ℕ)) → branchEntries nodes arguments known entry (leftCount known) least ps ≡ stringEntries
+      (nodesFrom nodes arguments) (leftLabels known) (take (leftCount known) entry) ps (marksIn known entry)
   unfolding branchEntries
   string-entries least ps = rw (eq-eqb (leftCount known) (leftCount known) refl)
 
@@ -89,7 +93,8 @@ module _ {nodes arguments known heads entry out : List ℕ} {paired at : ℕ} (g
       Walked nodes arguments known heads entry out (leftCount known) least at entry out at
   leaf-unpaired k every d e h = let n = labels-none k paired every h in leaf-none (sym d ∙ n .0) (λ z. n .1 (z ∙ sym e))
 
-  pub leaf-paired : (k every : ℕ) → k ≡ leftLabels known → every ≡ everyIn known → eqb k 0 && not (eqb paired every) ≡ false → leftLabels known ≡ 0 → paired ≡ everyIn known
+  pub leaf-paired : (k every : ℕ) → k ≡ leftLabels known → every ≡ everyIn known → eqb k 0 && not (eqb paired every) ≡ false → leftLabels known ≡ 0 →
+      paired ≡ everyIn known
   leaf-paired k every d e h z = labels-or-whole k paired every h (d ∙ z) ∙ e
 
   module _ (w : leftLabels known ≡ 0 → paired ≡ everyIn known) where
@@ -98,24 +103,39 @@ module _ {nodes arguments known heads entry out : List ℕ} {paired at : ℕ} (g
     noughts z j q = paired-whole (marksIn known entry) paired (g .branching .set-of) (whole-set (w z)) j q
 
     -- where the first entry does not fit, none does
-    pub leaf-full : length out - at < length entry → (least : ℕ) → Walked nodes arguments known heads entry out (leftCount known) least at entry out full
+    pub leaf-full : length out - at < length entry → (least : ℕ) →
+        Walked nodes arguments known heads entry out (leftCount known) least at entry out full
     unfolding below
     leaf-full h least =
         record {
-          writes = λ ps q. rw (string-entries least ps) (none-fits (stringEntries (nodesFrom nodes arguments) (leftLabels known) (take (leftCount known) entry) ps (marksIn known entry)) out at (some ps) (wide ps));
+          writes = λ ps q. rw (string-entries least ps) (none-fits (stringEntries (nodesFrom nodes arguments) (leftLabels known)
+              (take (leftCount known) entry) ps (marksIn known entry)) out at (some ps) (wide ps));
           keeps = keeps-itself;
         }
       where
-        some : (ps : List (ℕ × ℕ)) → 0 < length (stringEntries (nodesFrom nodes arguments) (leftLabels known) (take (leftCount known) entry) ps (marksIn known entry))
+        some : (ps : List (ℕ × ℕ)) → 0 < length (stringEntries (nodesFrom nodes arguments) (leftLabels known) (take (leftCount known) entry) ps
+            (marksIn known entry))
         some ps =
-            let l = length-map (marked (leftLabels known) (marksIn known entry)) (λ es. take (leftCount known) entry ++ es ++ wordsOf (nodesFrom nodes arguments) ps) in
+            let l = length-map (marked (leftLabels known) (marksIn known entry))
+            (λ es. take (leftCount known) entry ++ es ++ wordsOf (nodesFrom nodes arguments) ps) in
             let m = marked-some (leftLabels known) (marksIn known entry) noughts in
             omega (arith, l, m)
 
-        wide : (ps : List (ℕ × ℕ)) (e : List ℕ) → List·Memᴰ e (stringEntries (nodesFrom nodes arguments) (leftLabels known) (take (leftCount known) entry) ps (marksIn known entry)) → length out - at < length e
+        wide : (ps : List (ℕ × ℕ)) (e : List ℕ) → List·Memᴰ e
+            (stringEntries (nodesFrom nodes arguments) (leftLabels known) (take (leftCount known) entry) ps (marksIn known entry)) →
+            length out - at < length e
         wide ps e m =
             let l = below-long (nodesFrom nodes arguments) [] (leftLabels known) 0 [] (take (leftCount known) entry) ps (marksIn known entry) e m in
-            omega (arith, l, digits-long (g .knows) (g .branching), marks-long (g .knows) (g .branching), variables-long (g .knows), g .knows .width, g .branching .size, h)
+            omega (
+              arith,
+              l,
+              digits-long (g .knows) (g .branching),
+              marks-long (g .knows) (g .branching),
+              variables-long (g .knows),
+              g .knows .width,
+              g .branching .size,
+              h,
+            )
 
     -- the binding words are put
     module _ {entry₁ : List ℕ} (b : Binds nodes arguments known heads entry entry₁) (s : length entry₁ ≡ length entry) where
@@ -145,17 +165,25 @@ module _ {nodes arguments known heads entry out : List ℕ} {paired at : ℕ} (g
       leaf-least : Least (leftLabels known) entry₁ (leftCount known) (leftCount known + rightCount known)
       leaf-least =
           record {
-            small = λ j p q. let e : leftCount known + (j - leftCount known) ≡ j = omega (arith, p) in let t : j - leftCount known < rightCount known = omega (arith, p, q) in let x = same-word (j - leftCount known) t in let y = g .branching .small (j - leftCount known) t in (rw e at (rw (← x) at y));
-            noughts = λ z j p q. let e : leftCount known + (j - leftCount known) ≡ j = omega (arith, p) in let t : j - leftCount known < rightCount known = omega (arith, p, q) in let x = same-word (j - leftCount known) t in let y = noughts z (j - leftCount known) (omega (arith, t, marks-long (g .knows) (g .branching))) in let m = mark-word known entry (j - leftCount known) t in ap (word entry₁) (sym e) ∙ x ∙ sym m ∙ y;
+            small = λ j p q. let e : leftCount known + (j - leftCount known) ≡ j = omega (arith, p) in
+                let t : j - leftCount known < rightCount known = omega (arith, p, q) in let x = same-word (j - leftCount known) t in
+                let y = g .branching .small (j - leftCount known) t in (rw e at (rw (← x) at y));
+            noughts = λ z j p q. let e : leftCount known + (j - leftCount known) ≡ j = omega (arith, p) in
+                let t : j - leftCount known < rightCount known = omega (arith, p, q) in let x = same-word (j - leftCount known) t in
+                let y = noughts z (j - leftCount known) (omega (arith, t, marks-long (g .knows) (g .branching))) in
+                let m = mark-word known entry (j - leftCount known) t in ap (word entry₁) (sym e) ∙ x ∙ sym m ∙ y;
           }
 
       -- and those are written
-      leaf-written : {out′ : List ℕ} {r : ℕ} → Writes (rightEntries (leftLabels known) entry₁ (leftCount known) (leftCount known + rightCount known)) out at out′ r →
+      leaf-written : {out′ : List ℕ} {r : ℕ} → Writes (rightEntries (leftLabels known) entry₁ (leftCount known) (leftCount known + rightCount known))
+          out at out′ r →
           (least : ℕ) → Walked nodes arguments known heads entry out (leftCount known) least at entry₁ out′ r
       unfolding rightEntries
       leaf-written y least = record { writes = λ ps q. rw (string-entries least ps ∙ sym (right-entries ps q)) y; keeps = leaf-keeps }
         where
-          right-entries : (ps : List (ℕ × ℕ)) → Pairing nodes arguments known heads ps → rightEntries (leftLabels known) entry₁ (leftCount known) (leftCount known + rightCount known) ≡ stringEntries (nodesFrom nodes arguments) (leftLabels known) (take (leftCount known) entry) ps (marksIn known entry)
+          right-entries : (ps : List (ℕ × ℕ)) → Pairing nodes arguments known heads ps →
+              rightEntries (leftLabels known) entry₁ (leftCount known) (leftCount known + rightCount known) ≡ stringEntries
+              (nodesFrom nodes arguments) (leftLabels known) (take (leftCount known) entry) ps (marksIn known entry)
           right-entries ps q =
               let c : leftCount known + rightCount known - leftCount known ≡ rightCount known = omega arith in
               rw (c, same-digits, b .words ps (q .standing), same-marks) refl

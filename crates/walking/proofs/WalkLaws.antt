@@ -1,6 +1,6 @@
 -- One step of the walk: what a branch writes, by its digits, and what holds of the branch after one digit more.
 -- The definition mirrors the code, so that each way through the code is one equation of it. Assumes nothing.
-use Prim.Native.Nat.{ℕ, zero, suc, _+_, _-_, _^_, _≤_, _<_}
+use Prim.Native.Nat.{ℕ, suc, _+_, _-_, _^_, _≤_, _<_}
 use mathlib.Core.Bool.{Bool, true, false, cond, false≢true}
 use mathlib.Core.List.{List, [], _∷_, _++_, List·Memᴰ}
 use mathlib.Core.Logic.{_↔_}
@@ -8,13 +8,12 @@ use mathlib.Core.Path.{_≡_, refl, sym, ap, _∙_}
 use native.Mathlib.Nat.{pow-le-pow-right}
 use native.Mathlib.Numerals.{add-one}
 use native.Mathlib.Omega.{arith}
-use borrow.Author.Tests.{eqb-true, eqb-false, eq-eqb, ne-eqb}
+use borrow.Author.Tests.{eqb-true, eqb-false, ne-eqb}
 use lib.Dec.{eqb}
 use lib.ListN.{length, take, drop, set, length-set, length-drop, length-append}
 use lib.Seq.{length-take-le, drop-cons}
-use Rattle.table.specs.Limits.{maxTerms}
-use Rattle.table.specs.Layout.{word, nodeCount}
-use Rattle.unification.specs.Node.{Node, nodesFrom}
+use Rattle.table.specs.Layout.{word}
+use Rattle.unification.specs.Node.{nodesFrom}
 use Rattle.unification.specs.Outcome.{unified}
 use Rattle.unification.specs.Computed.Unifying.{outcome}
 use Rattle.unification.specs.Computed.Variables.{variablesOf}
@@ -22,17 +21,17 @@ use Rattle.unification.specs.Code.Given.{WellFormed, Inside}
 use Rattle.unification.proofs.SectionLaws.{is-node, sections-well-formed}
 use Rattle.unification.proofs.JoinedLaws.{inside-more}
 use Rattle.values.proofs.LeastLaws.{least-long}
-use Rattle.nodes.specs.Code.Formed.{Formed, Stands}
-use Rattle.nodes.specs.Code.Trail.{links, gone, Trailed, Since, ComesFrom}
+use Rattle.nodes.specs.Code.Formed.{Formed}
+use Rattle.nodes.specs.Code.Trail.{links, gone, Since, ComesFrom}
 use Rattle.classes.proofs.TrailLaws.{merges-trailed, merges-since, merges-back}
 use Rattle.entries.specs.Code.Writing.{full, Writes, Remains, Block, repeated}
-use Rattle.entries.proofs.WritingLaws.{remains-whole, remains-next, remains-full, remains-done, writes-none, writes-room, writes-block, repeat-writes}
+use Rattle.entries.proofs.WritingLaws.{remains-whole, remains-next, remains-full, writes-none, writes-room, writes-block, repeat-writes}
 use Rattle.branches.specs.Code.Known.{leftCount, rightCount, leftLabels, rightLabels, widthIn, leftIn, rightIn, listIn, KnownOf}
 use Rattle.branches.specs.Code.Ahead.{has, bitAt, completesFrom, MayPair, PairedSet}
 use Rattle.branches.specs.Code.Branch.{JoinsPair, IsOpen, may, struck, taken, lost}
-use Rattle.branches.specs.Code.Walk.{over, ifUnified, onDigit, below, stringEntries, Standing, Pairing, marksIn, Branching, KeepsBranch, digitEntries, digitsFrom, branchEntries, Walking, Walked, Stepped, SteppedFrom, Ending, Turning}
-use Rattle.branches.proofs.OverLaws.{over-none, digit-empty, digit-label, digit-taken, digit-pair, over-next, over-end, over-within}
-use Rattle.branches.proofs.BelowLaws.{below-long, not-unified, same-more, same-unified}
+use Rattle.branches.specs.Code.Walk.{over, ifUnified, below, stringEntries, Pairing, marksIn, KeepsBranch, digitEntries, digitsFrom, branchEntries, Walking, Walked, Stepped, SteppedFrom, Ending, Turning}
+use Rattle.branches.proofs.OverLaws.{over-none, digit-empty, digit-label, digit-pair, over-next, over-end, over-within}
+use Rattle.branches.proofs.BelowLaws.{below-long, same-more, same-unified}
 use Rattle.branches.proofs.BlockLaws.{labels-repeated}
 use Rattle.branches.proofs.SetLaws.{paired-more, unpaired-not}
 use Rattle.branches.proofs.KnownLaws.{left-long, right-long, left-word, right-word}
@@ -40,7 +39,8 @@ use Rattle.branches.proofs.CompleteLaws.{never-more, never-unified, below-canno
 use Rattle.branches.proofs.BranchLaws.{keeps-itself, keeps-again, branch-room, marks-long, digits-long, branching-kept, digits-next, branching-label, set-marks, pair-digits, pair-marks, free-mark, branching-pair, pair-back, label-back}
 
 -- there is a word for each variable
-pub variables-long : {nodes arguments known : List ℕ} → KnownOf nodes arguments known → length (variablesOf (nodesFrom nodes arguments)) ≡ word known 577
+pub variables-long : {nodes arguments known : List ℕ} → KnownOf nodes arguments known →
+    length (variablesOf (nodesFrom nodes arguments)) ≡ word known 577
 unfolding listIn
 variables-long {nodes} {arguments} {known} k =
     let d = length-drop 512 known in
@@ -48,18 +48,23 @@ variables-long {nodes} {arguments} {known} k =
     sym (least-long (nodesFrom nodes arguments)) ∙ sym (ap length (k .list)) ∙ l
 
 -- what is below the branch after the first j left terms, by the terms that are left and as it stands in an entry
-pub below-branch : {nodes arguments known : List ℕ} → KnownOf nodes arguments known → (entry : List ℕ) (j : ℕ) → j ≤ leftCount known → (ps : List (ℕ × ℕ)) → below (nodesFrom nodes arguments) (rightIn known) (leftLabels known) (rightLabels known) (drop j (leftIn known)) (take j entry) ps (marksIn known entry) ≡ branchEntries nodes arguments known entry j 1 ps
+pub below-branch : {nodes arguments known : List ℕ} → KnownOf nodes arguments known → (entry : List ℕ) (j : ℕ) → j ≤ leftCount known →
+    (ps : List (ℕ × ℕ)) → below (nodesFrom nodes arguments) (rightIn known) (leftLabels known) (rightLabels known) (drop j (leftIn known))
+    (take j entry) ps (marksIn known entry) ≡ branchEntries nodes arguments known entry j 1 ps
 unfolding branchEntries below
 below-branch {nodes} {arguments} {known} k entry j h ps = pick (eqb j (leftCount known)) refl
   where
     goal : List ℕ → List (List ℕ)
     goal ls = below (nodesFrom nodes arguments) (rightIn known) (leftLabels known) (rightLabels known) ls (take j entry) ps (marksIn known entry)
 
-    none : (ls : List ℕ) → length ls ≡ 0 → goal ls ≡ stringEntries (nodesFrom nodes arguments) (leftLabels known) (take j entry) ps (marksIn known entry)
+    none : (ls : List ℕ) → length ls ≡ 0 → goal ls ≡ stringEntries (nodesFrom nodes arguments) (leftLabels known) (take j entry) ps
+        (marksIn known entry)
     none [] e = refl
     none (x ∷ ls) e = absurd (omega (arith, e))
 
-    pick : (b : Bool) → eqb j (leftCount known) ≡ b → goal (drop j (leftIn known)) ≡ cond b (stringEntries (nodesFrom nodes arguments) (leftLabels known) (take j entry) ps (marksIn known entry)) (digitsFrom nodes arguments known entry j ps 1)
+    pick : (b : Bool) → eqb j (leftCount known) ≡ b → goal (drop j (leftIn known)) ≡ cond b
+        (stringEntries (nodesFrom nodes arguments) (leftLabels known) (take j entry) ps (marksIn known entry))
+        (digitsFrom nodes arguments known entry j ps 1)
     pick true e =
         let x = length-drop j (leftIn known) in
         let y = left-long k in
@@ -68,12 +73,14 @@ below-branch {nodes} {arguments} {known} k entry j h ps = pick (eqb j (leftCount
     pick false e =
         let z = eqb-false j (leftCount known) e in
         let y = left-long k in
-        let s : drop j (leftIn known) ≡ word (leftIn known) j ∷ drop (j + 1) (leftIn known) = drop-cons (leftIn known) j 0 (omega (arith, z, h, y)) ∙ ap (λ (q : ℕ). word (leftIn known) j ∷ drop q (leftIn known)) (sym (add-one j)) in
+        let s : drop j (leftIn known) ≡ word (leftIn known) j ∷ drop (j + 1) (leftIn known) = drop-cons (leftIn known) j 0 (omega (arith, z, h, y))
+        ∙ ap (λ (q : ℕ). word (leftIn known) j ∷ drop q (leftIn known)) (sym (add-one j)) in
         let c : length (rightIn known) + rightLabels known ≡ suc (rightCount known + rightLabels known) - 1 = omega (arith, right-long k) in
         ap goal s ∙ ap (λ (q : ℕ). over 1 q (λ d. digitEntries nodes arguments known entry j ps d)) c
 
 -- where left terms are still to go, the entries below a branch are those of the digits of the next one
-branch-digits : (nodes arguments known entry : List ℕ) (i least : ℕ) (ps : List (ℕ × ℕ)) → i < leftCount known → branchEntries nodes arguments known entry i least ps ≡ digitsFrom nodes arguments known entry i ps least
+branch-digits : (nodes arguments known entry : List ℕ) (i least : ℕ) (ps : List (ℕ × ℕ)) → i < leftCount known →
+    branchEntries nodes arguments known entry i least ps ≡ digitsFrom nodes arguments known entry i ps least
 unfolding branchEntries
 branch-digits nodes arguments known entry i least ps h = rw (ne-eqb i (leftCount known) (λ e. omega (arith, e, h)))
 
@@ -167,34 +174,44 @@ module _ {nodes arguments known can heads next entry out : List ℕ} {i least pa
 
       -- What is below the pair.
       abbrev pairBelow : List (ℕ × ℕ) → List (List ℕ)
-      pairBelow ps = below (nodesFrom nodes arguments) (rightIn known) (leftLabels known) (rightLabels known) (drop (i + 1) (leftIn known)) (take i entry ++ least ∷ []) ((a, b) ∷ ps) (set (marksIn known entry) (least - 1) 0)
+      pairBelow ps = below (nodesFrom nodes arguments) (rightIn known) (leftLabels known) (rightLabels known) (drop (i + 1) (leftIn known))
+          (take i entry ++ least ∷ []) ((a, b) ∷ ps) (set (marksIn known entry) (least - 1) 0)
 
       -- a digit has no entry where its right term is free, its pair is unified, and nothing is below
-      pair-empty : (ps : List (ℕ × ℕ)) → ((word (marksIn known entry) (least - 1) ≡ 0 → ⊥) → outcome (nodesFrom nodes arguments) ((a, b) ∷ ps) ≡ unified → pairBelow ps ≡ []) → digitEntries nodes arguments known entry i ps least ≡ []
+      pair-empty : (ps : List (ℕ × ℕ)) → ((word (marksIn known entry) (least - 1) ≡ 0 → ⊥) → outcome (nodesFrom nodes arguments) ((a, b) ∷ ps) ≡
+          unified → pairBelow ps ≡ []) → digitEntries nodes arguments known entry i ps least ≡ []
       pair-empty ps f =
-          digit-empty (nodesFrom nodes arguments) (rightIn known) (below (nodesFrom nodes arguments) (rightIn known) (leftLabels known) (rightLabels known) (drop (i + 1) (leftIn known))) (take i entry) ps (marksIn known entry) (word (leftIn known) i) least
+          digit-empty (nodesFrom nodes arguments) (rightIn known)
+          (below (nodesFrom nodes arguments) (rightIn known) (leftLabels known) (rightLabels known) (drop (i + 1) (leftIn known))) (take i entry) ps
+          (marksIn known entry) (word (leftIn known) i) least
           (λ q z u. rw (a-is, b-is) (f z (rw (a-is, b-is) at u)))
           (λ q. absurd (omega (arith, q, right-there)))
 
       -- left terms that may not take the right term have no entry with it
-      pub closed-stepped : {r : Bool} → IsOpen known can i least paired r → r ≡ false → Stepped nodes arguments known heads entry out i least at entry out at
+      pub closed-stepped : {r : Bool} → IsOpen known can i least paired r → r ≡ false →
+          Stepped nodes arguments known heads entry out i least at entry out at
       closed-stepped (may x y z) e = absurd (false≢true (sym e))
       closed-stepped (struck x) e =
-          stepped-none least (λ ps q. pair-empty ps (λ z u. absurd (never-unified (nodesFrom nodes arguments) formed-nodes ps a b (inside-next ps (q .standing .inside)) (q .partners .never i (least - 1) h (omega (arith, p, l)) x) u)))
+          stepped-none least (λ ps q. pair-empty ps (λ z u. absurd (never-unified (nodesFrom nodes arguments) formed-nodes ps a b
+          (inside-next ps (q .standing .inside)) (q .partners .never i (least - 1) h (omega (arith, p, l)) x) u)))
       closed-stepped (taken x) e =
-          stepped-none least (λ ps q. pair-empty ps (λ z u. absurd (false≢true (sym (unpaired-not (marksIn known entry) paired (least - 1) (g .branching .set-of) (omega (arith, p, l, marks-long (g .knows) (g .branching))) z) ∙ x))))
+          stepped-none least (λ ps q. pair-empty ps (λ z u. absurd (false≢true (sym (unpaired-not (marksIn known entry) paired (least - 1)
+          (g .branching .set-of) (omega (arith, p, l, marks-long (g .knows) (g .branching))) z) ∙ x))))
       closed-stepped (lost x y) e =
           stepped-none least (λ ps q. pair-empty ps (λ z u. nothing ps q z))
         where
           set-of : (word (marksIn known entry) (least - 1) ≡ 0 → ⊥) → PairedSet (set (marksIn known entry) (least - 1) 0) (paired + 2 ^ (least - 1))
-          set-of z = paired-more (marksIn known entry) paired (least - 1) (g .branching .set-of) (omega (arith, p, l, marks-long (g .knows) (g .branching))) z
+          set-of z = paired-more (marksIn known entry) paired (least - 1) (g .branching .set-of)
+              (omega (arith, p, l, marks-long (g .knows) (g .branching))) z
 
           long : length (set (marksIn known entry) (least - 1) 0) ≡ rightCount known
           long = length-set (marksIn known entry) (least - 1) 0 ∙ marks-long (g .knows) (g .branching)
 
-          nothing : (ps : List (ℕ × ℕ)) → Pairing nodes arguments known heads ps → (word (marksIn known entry) (least - 1) ≡ 0 → ⊥) → pairBelow ps ≡ []
+          nothing : (ps : List (ℕ × ℕ)) → Pairing nodes arguments known heads ps → (word (marksIn known entry) (least - 1) ≡ 0 → ⊥) →
+              pairBelow ps ≡ []
           nothing ps q z =
-              below-cannot nodes arguments known (g .knows) (i + 1) (omega (arith, h)) (paired + 2 ^ (least - 1)) (take i entry ++ least ∷ []) ((a, b) ∷ ps)
+              below-cannot nodes arguments known (g .knows) (i + 1) (omega (arith, h)) (paired + 2 ^ (least - 1)) (take i entry ++ least ∷ [])
+              ((a, b) ∷ ps)
               (set (marksIn known entry) (least - 1) 0) long (set-of z) (inside-next ps (q .standing .inside)) (partners-next ps (q .partners))
               (bit-lost (paired + 2 ^ (least - 1)) (rw long at (set-of z .within)) y)
 
@@ -208,11 +225,14 @@ module _ {nodes arguments known can heads next entry out : List ℕ} {i least pa
       -- the pair is joined, or it is not
       module _ {r : Bool} {heads′ next′ : List ℕ} (x : JoinsPair nodes arguments known heads next a b r heads′ next′) where
         -- it is, exactly if the pairs have a unifier with it
-        joined-unified : (ps : List (ℕ × ℕ)) → Pairing nodes arguments known heads ps → r ≡ true ↔ (outcome (nodesFrom nodes arguments) ((a, b) ∷ ps) ≡ unified)
+        joined-unified : (ps : List (ℕ × ℕ)) → Pairing nodes arguments known heads ps →
+            r ≡ true ↔ (outcome (nodesFrom nodes arguments) ((a, b) ∷ ps) ≡ unified)
         joined-unified ps q =
             let s = q .standing in
             let y = x .answers (s .pairs) (s .stands) in
-            let z = same-unified (nodesFrom nodes arguments) formed-nodes ((a, b) ∷ s .pairs) ((a, b) ∷ ps) (inside-next (s .pairs) (s .stands .inside)) (inside-next ps (s .inside)) (same-more (nodesFrom nodes arguments) (a, b) (s .pairs) ps (s .unifiers)) in
+            let z = same-unified (nodesFrom nodes arguments) formed-nodes ((a, b) ∷ s .pairs) ((a, b) ∷ ps)
+            (inside-next (s .pairs) (s .stands .inside)) (inside-next ps (s .inside))
+            (same-more (nodesFrom nodes arguments) (a, b) (s .pairs) ps (s .unifiers)) in
             ((λ e. z .0 (y .0 e)), (λ e. y .1 (z .1 e)))
 
         -- where it is not, there is no entry, and the classes are as before
@@ -260,19 +280,24 @@ module _ {nodes arguments known can heads next entry out : List ℕ} {i least pa
                 }
 
             -- and the digit has the entries below it
-            joined-entries : (ps : List (ℕ × ℕ)) → Pairing nodes arguments known heads ps → digitEntries nodes arguments known entry i ps least ≡ branchEntries nodes arguments known entry₁ (i + 1) 1 ((a, b) ∷ ps)
+            joined-entries : (ps : List (ℕ × ℕ)) → Pairing nodes arguments known heads ps →
+                digitEntries nodes arguments known entry i ps least ≡ branchEntries nodes arguments known entry₁ (i + 1) 1 ((a, b) ∷ ps)
             unfolding ifUnified
             joined-entries ps q =
                 let x₁ : ifUnified (outcome (nodesFrom nodes arguments) ((word (leftIn known) i, word (rightIn known) (least - 1)) ∷ ps)) (below (nodesFrom nodes arguments) (rightIn known) (leftLabels known) (rightLabels known) (drop (i + 1) (leftIn known)) (take i entry ++ least ∷ []) ((word (leftIn known) i, word (rightIn known) (least - 1)) ∷ ps) (set (marksIn known entry) (least - 1) 0)) ≡ pairBelow ps = rw (a-is, b-is, joined-unified ps q .0 e) refl in
                 let x₂ : pairBelow ps ≡ branchEntries nodes arguments known entry₁ (i + 1) 1 ((a, b) ∷ ps) =
-                rw (← pair-digits (g .knows) (g .branching) h least p l f, ← pair-marks (g .knows) (g .branching) h least p l f, ← z) (below-branch (g .knows) entry₁ (i + 1) (omega (arith, h)) ((a, b) ∷ ps)) in
-                digit-pair (nodesFrom nodes arguments) (rightIn known) (below (nodesFrom nodes arguments) (rightIn known) (leftLabels known) (rightLabels known) (drop (i + 1) (leftIn known))) (take i entry) ps (marksIn known entry) (word (leftIn known) i) least right-there
+                rw (← pair-digits (g .knows) (g .branching) h least p l f, ← pair-marks (g .knows) (g .branching) h least p l f, ← z)
+                (below-branch (g .knows) entry₁ (i + 1) (omega (arith, h)) ((a, b) ∷ ps)) in
+                digit-pair (nodesFrom nodes arguments) (rightIn known)
+                (below (nodesFrom nodes arguments) (rightIn known) (leftLabels known) (rightLabels known) (drop (i + 1) (leftIn known)))
+                (take i entry) ps (marksIn known entry) (word (leftIn known) i) least right-there
                 (λ w. let o = free-mark (g .knows) (g .branching) h least p l f in omega (arith, w, o))
                 ∙ x₁ ∙ x₂
 
             -- so that they are written; the mark is put back
             pub joined-stepped : {entry′ out′ : List ℕ} {w : ℕ} → Walked nodes arguments known heads′ entry₁ out (i + 1) 1 at entry′ out′ w →
-                {entry″ : List ℕ} → entry″ ≡ set entry′ (leftCount known + least - 1) 1 → Stepped nodes arguments known heads entry out i least at entry″ out′ w
+                {entry″ : List ℕ} → entry″ ≡ set entry′ (leftCount known + least - 1) 1 →
+                Stepped nodes arguments known heads entry out i least at entry″ out′ w
             joined-stepped y u =
                 record {
                   writes = λ ps q. rw (joined-entries ps q) (y .writes ((a, b) ∷ ps) (joined-pairing ps q));
@@ -281,7 +306,16 @@ module _ {nodes arguments known can heads next entry out : List ℕ} {i least pa
 
             -- the place of the mark is in the entry
             pub mark-inside : {n : ℕ} → n ≡ length entry₁ → leftCount known + least ≤ n
-            mark-inside y = omega (arith, y, ap length z, length-set (set entry i least) (leftCount known + least - 1) 0, length-set entry i least, branch-room (g .knows) (g .branching), p, l)
+            mark-inside y = omega (
+              arith,
+              y,
+              ap length z,
+              length-set (set entry i least) (leftCount known + least - 1) 0,
+              length-set entry i least,
+              branch-room (g .knows) (g .branching),
+              p,
+              l,
+            )
 
           -- after the walk the classes are the same, and the joins can be undone
           module _ {heads″ next″ : List ℕ} (s : (heads″ ≡ heads′) × (next″ ≡ next′)) where
@@ -298,12 +332,15 @@ module _ {nodes arguments known can heads next entry out : List ℕ} {i least pa
     module _ (l : rightCount known < least) where
       -- What is below a label.
       abbrev labelBelow : List (ℕ × ℕ) → ℕ → List (List ℕ)
-      labelBelow ps d = below (nodesFrom nodes arguments) (rightIn known) (leftLabels known) (rightLabels known) (drop (i + 1) (leftIn known)) (take i entry ++ d ∷ []) ps (marksIn known entry)
+      labelBelow ps d = below (nodesFrom nodes arguments) (rightIn known) (leftLabels known) (rightLabels known) (drop (i + 1) (leftIn known))
+          (take i entry ++ d ∷ []) ps (marksIn known entry)
 
       -- a digit from it on has what is below its label
       label-entries : (ps : List (ℕ × ℕ)) (d : ℕ) → least ≤ d → digitEntries nodes arguments known entry i ps d ≡ labelBelow ps d
       label-entries ps d q =
-          digit-label (nodesFrom nodes arguments) (rightIn known) (below (nodesFrom nodes arguments) (rightIn known) (leftLabels known) (rightLabels known) (drop (i + 1) (leftIn known))) (take i entry) ps (marksIn known entry) (word (leftIn known) i) d (omega (arith, right-long (g .knows), l, q))
+          digit-label (nodesFrom nodes arguments) (rightIn known)
+          (below (nodesFrom nodes arguments) (rightIn known) (leftLabels known) (rightLabels known) (drop (i + 1) (leftIn known))) (take i entry) ps
+          (marksIn known entry) (word (leftIn known) i) d (omega (arith, right-long (g .knows), l, q))
 
       -- where no digit from it on has an entry, nothing is to be done
       from-none : ((ps : List (ℕ × ℕ)) → Pairing nodes arguments known heads ps → digitsFrom nodes arguments known entry i ps least ≡ []) →
@@ -312,7 +349,8 @@ module _ {nodes arguments known can heads next entry out : List ℕ} {i least pa
 
       -- there is no such label
       pub none-stepped : rightCount known + rightLabels known < least → SteppedFrom nodes arguments known heads entry out i least at entry out at
-      none-stepped q = from-none (λ ps y. over-end (λ e. digitEntries nodes arguments known entry i ps e) least (suc (rightCount known + rightLabels known)) (omega (arith, q)))
+      none-stepped q = from-none (λ ps y. over-end (λ e. digitEntries nodes arguments known entry i ps e) least
+          (suc (rightCount known + rightLabels known)) (omega (arith, q)))
 
       -- the left terms after it cannot be placed
       pub lost-stepped : bitAt can i paired ≡ false → SteppedFrom nodes arguments known heads entry out i least at entry out at
@@ -345,28 +383,47 @@ module _ {nodes arguments known can heads next entry out : List ℕ} {i least pa
         -- what is below the label, as it stands in the entry
         label-below : (ps : List (ℕ × ℕ)) → labelBelow ps least ≡ branchEntries nodes arguments known entry₁ (i + 1) 1 ps
         label-below ps =
-            rw (← digits-next (g .knows) (g .branching) h least, ← set-marks known entry i least h, ← z) (below-branch (g .knows) entry₁ (i + 1) (omega (arith, h)) ps)
+            rw (← digits-next (g .knows) (g .branching) h least, ← set-marks known entry i least h, ← z)
+            (below-branch (g .knows) entry₁ (i + 1) (omega (arith, h)) ps)
 
         module _ (t : least ≤ rightCount known + rightLabels known) where
           -- the entries of all labels are those of the first, and these repeated
-          labels-entries : (ps : List (ℕ × ℕ)) → digitsFrom nodes arguments known entry i ps least ≡ labelBelow ps least ++ repeated i (least + 1) (rightCount known + rightLabels known - least) (labelBelow ps least)
+          labels-entries : (ps : List (ℕ × ℕ)) → digitsFrom nodes arguments known entry i ps least ≡ labelBelow ps least ++ repeated i (least + 1)
+              (rightCount known + rightLabels known - least) (labelBelow ps least)
           labels-entries ps =
               let c : suc (rightCount known + rightLabels known) - (least + 1) ≡ rightCount known + rightLabels known - least = omega (arith, t) in
               over-next (λ e. digitEntries nodes arguments known entry i ps e) least (suc (rightCount known + rightLabels known)) (omega (arith, t))
-              ∙ ap (λ (es : List (List ℕ)). es ++ over (least + 1) (suc (rightCount known + rightLabels known) - (least + 1)) (λ e. digitEntries nodes arguments known entry i ps e)) (label-entries ps least (omega arith))
+              ∙ ap (λ (es : List (List ℕ)). es ++ over (least + 1) (suc (rightCount known + rightLabels known) - (least + 1))
+              (λ e. digitEntries nodes arguments known entry i ps e)) (label-entries ps least (omega arith))
               ∙ ap (labelBelow ps least ++_)
-              (over-within (least + 1) (suc (rightCount known + rightLabels known) - (least + 1)) (λ e. digitEntries nodes arguments known entry i ps e) (labelBelow ps) (λ d u v. label-entries ps d (omega (arith, u)))
+              (over-within (least + 1) (suc (rightCount known + rightLabels known) - (least + 1))
+              (λ e. digitEntries nodes arguments known entry i ps e) (labelBelow ps) (λ d u v. label-entries ps d (omega (arith, u)))
               ∙ ap (λ (n : ℕ). over (least + 1) n (labelBelow ps)) c
-              ∙ labels-repeated (nodesFrom nodes arguments) (rightIn known) (leftLabels known) (rightLabels known) (drop (i + 1) (leftIn known)) (take i entry) ps (marksIn known entry) least (least + 1) (rightCount known + rightLabels known - least)
-              ∙ ap (λ (n : ℕ). repeated n (least + 1) (rightCount known + rightLabels known - least) (labelBelow ps least)) (digits-long (g .knows) (g .branching)))
+              ∙ labels-repeated (nodesFrom nodes arguments) (rightIn known) (leftLabels known) (rightLabels known) (drop (i + 1) (leftIn known))
+              (take i entry) ps (marksIn known entry) least (least + 1) (rightCount known + rightLabels known - least)
+              ∙ ap (λ (n : ℕ). repeated n (least + 1) (rightCount known + rightLabels known - least) (labelBelow ps least))
+              (digits-long (g .knows) (g .branching)))
 
           -- each has as many words
           label-wide : (ps : List (ℕ × ℕ)) (e : List ℕ) → List·Memᴰ e (labelBelow ps least) → length e ≡ widthIn known
           label-wide ps e m =
-              let w = below-long (nodesFrom nodes arguments) (rightIn known) (leftLabels known) (rightLabels known) (drop (i + 1) (leftIn known)) (take i entry ++ least ∷ []) ps (marksIn known entry) e m in
+              let w = below-long (nodesFrom nodes arguments) (rightIn known) (leftLabels known) (rightLabels known) (drop (i + 1) (leftIn known))
+              (take i entry ++ least ∷ []) ps (marksIn known entry) e m in
               let u = length-append (take i entry) (least ∷ []) in
               let v = length-drop (i + 1) (leftIn known) in
-              omega (arith, w, u, v, digits-long (g .knows) (g .branching), left-long (g .knows), marks-long (g .knows) (g .branching), variables-long (g .knows), g .knows .width, h)
+              omega (
+                arith,
+                w,
+                u,
+                v,
+                digits-long (g .knows) (g .branching),
+                left-long (g .knows),
+                marks-long (g .knows) (g .branching),
+                variables-long
+                    (g .knows),
+                g .knows .width,
+                h,
+              )
 
           module _ {entry′ out′ : List ℕ} {w : ℕ} (y : Walked nodes arguments known heads entry₁ out (i + 1) 1 at entry′ out′ w) where
             -- the entries of the first label are written
@@ -380,7 +437,10 @@ module _ {nodes arguments known can heads next entry out : List ℕ} {i least pa
             pub label-full : length out < full → w ≡ full → SteppedFrom nodes arguments known heads entry out i least at entry′ out′ full
             label-full b e =
                 record {
-                  writes = λ ps q. rw (labels-entries ps) (remains-full (labelBelow ps least) (repeated i (least + 1) (rightCount known + rightLabels known - least) (labelBelow ps least)) (remains-whole (labelBelow ps least ++ repeated i (least + 1) (rightCount known + rightLabels known - least) (labelBelow ps least)) out at (g .room)) b out′ w (first-written ps q) e);
+                  writes = λ ps q. rw (labels-entries ps) (remains-full (labelBelow ps least)
+                      (repeated i (least + 1) (rightCount known + rightLabels known - least) (labelBelow ps least))
+                      (remains-whole (labelBelow ps least ++ repeated i (least + 1) (rightCount known + rightLabels known - least)
+                      (labelBelow ps least)) out at (g .room)) b out′ w (first-written ps q) e);
                   keeps = kept;
                 }
 
@@ -400,7 +460,9 @@ module _ {nodes arguments known can heads next entry out : List ℕ} {i least pa
               labels-stepped {out″} {v} {width} {last} a b f₀ =
                   let f : (es : List (List ℕ)) → Block es (widthIn known) out′ at w → Writes (repeated i (least + 1) (rightCount known + rightLabels known - least) es) out′ w out″ v = rw (← a, ← b) f₀ in
                   record {
-                    writes = λ ps q. rw (labels-entries ps) (repeat-writes (labelBelow ps least) i (least + 1) (rightCount known + rightLabels known - least) (g .room) (first-written ps q) n (f (labelBelow ps least) (writes-block (widthIn known) (g .room) (first-written ps q) n (label-wide ps))));
+                    writes = λ ps q. rw (labels-entries ps) (repeat-writes (labelBelow ps least) i (least + 1)
+                        (rightCount known + rightLabels known - least) (g .room) (first-written ps q) n
+                        (f (labelBelow ps least) (writes-block (widthIn known) (g .room) (first-written ps q) n (label-wide ps))));
                     keeps = kept;
                   }
 
@@ -412,7 +474,8 @@ module _ {nodes arguments known can heads next entry out : List ℕ} {i least pa
           size = refl;
           within = g .room;
           keeps = keeps-itself;
-          remains = λ ps q. rw (branch-digits nodes arguments known entry i least ps h) (remains-whole (digitsFrom nodes arguments known entry i ps least) out at (g .room));
+          remains = λ ps q. rw (branch-digits nodes arguments known entry i least ps h)
+              (remains-whole (digitsFrom nodes arguments known entry i ps least) out at (g .room));
         }
 
     -- the digits of the next left term have been gone through up to d
@@ -422,7 +485,8 @@ module _ {nodes arguments known can heads next entry out : List ℕ} {i least pa
       digit-kept ps e = rw (t .keeps .digits, t .keeps .marks) refl
 
       -- what is known of the branch still stands
-      pub turning-walking : {heads′ next′ : List ℕ} → heads′ ≡ heads → next′ ≡ next → Walking nodes arguments known can heads′ next′ entry′ out′ i d paired at′
+      pub turning-walking : {heads′ next′ : List ℕ} → heads′ ≡ heads → next′ ≡ next →
+          Walking nodes arguments known can heads′ next′ entry′ out′ i d paired at′
       turning-walking x y =
           rw (x, y)
           record {
@@ -440,14 +504,17 @@ module _ {nodes arguments known can heads next entry out : List ℕ} {i least pa
 
       module _ {heads′ : List ℕ} (x : heads′ ≡ heads) where
         -- digits from d on, with the digit first
-        module _ (u : d ≤ rightCount known) {entry″ out″ : List ℕ} {w : ℕ} (y : Stepped nodes arguments known heads′ entry′ out′ i d at′ entry″ out″ w) where
+        module _ (u : d ≤ rightCount known) {entry″ out″ : List ℕ} {w : ℕ}
+            (y : Stepped nodes arguments known heads′ entry′ out′ i d at′ entry″ out″ w) where
           next-remains : (ps : List (ℕ × ℕ)) → Pairing nodes arguments known heads ps →
               Remains (branchEntries nodes arguments known entry i least ps) out at
               (digitEntries nodes arguments known entry i ps d ++ digitsFrom nodes arguments known entry i ps (d + 1)) out′ at′
           next-remains ps q =
-              rw (over-next (λ e. digitEntries nodes arguments known entry i ps e) d (suc (rightCount known + rightLabels known)) (omega (arith, u))) at (t .remains ps q)
+              rw (over-next (λ e. digitEntries nodes arguments known entry i ps e) d (suc (rightCount known + rightLabels known)) (omega (arith, u)))
+              at (t .remains ps q)
 
-          stepped : (ps : List (ℕ × ℕ)) → Pairing nodes arguments known heads ps → Writes (digitEntries nodes arguments known entry i ps d) out′ at′ out″ w
+          stepped : (ps : List (ℕ × ℕ)) → Pairing nodes arguments known heads ps →
+              Writes (digitEntries nodes arguments known entry i ps d) out′ at′ out″ w
           stepped ps q = rw (digit-kept ps d) at (y .writes ps (rw x q))
 
           -- after one digit more
@@ -467,7 +534,8 @@ module _ {nodes arguments known can heads next entry out : List ℕ} {i least pa
           pub turning-full : length out < full → w ≡ full → Walked nodes arguments known heads entry out i least at entry″ out″ full
           turning-full b e =
               record {
-                writes = λ ps q. remains-full (digitEntries nodes arguments known entry i ps d) (digitsFrom nodes arguments known entry i ps (d + 1)) (next-remains ps q) (omega (arith, b, t .size)) out″ w (stepped ps q) e;
+                writes = λ ps q. remains-full (digitEntries nodes arguments known entry i ps d) (digitsFrom nodes arguments known entry i ps (d + 1))
+                    (next-remains ps q) (omega (arith, b, t .size)) out″ w (stepped ps q) e;
                 keeps = keeps-again (t .keeps) (y .keeps);
               }
 
@@ -480,5 +548,7 @@ module _ {nodes arguments known can heads next entry out : List ℕ} {i least pa
               keeps = keeps-again (t .keeps) (y .keeps);
             }
           where
-            same : (ps : List (ℕ × ℕ)) → Writes (digitsFrom nodes arguments known entry′ i ps d) out′ at′ out″ w → Writes (digitsFrom nodes arguments known entry i ps d) out′ at′ out″ w
-            same ps z = rw (over-within d (suc (rightCount known + rightLabels known) - d) (λ e. digitEntries nodes arguments known entry′ i ps e) (λ e. digitEntries nodes arguments known entry i ps e) (λ e q r. digit-kept ps e)) at z
+            same : (ps : List (ℕ × ℕ)) → Writes (digitsFrom nodes arguments known entry′ i ps d) out′ at′ out″ w →
+                Writes (digitsFrom nodes arguments known entry i ps d) out′ at′ out″ w
+            same ps z = rw (over-within d (suc (rightCount known + rightLabels known) - d) (λ e. digitEntries nodes arguments known entry′ i ps e)
+                (λ e. digitEntries nodes arguments known entry i ps e) (λ e q r. digit-kept ps e)) at z

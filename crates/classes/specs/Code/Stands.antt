@@ -3,12 +3,9 @@ use Prim.Native.Nat.{ℕ}
 use mathlib.Core.List.{List, _∷_}
 use mathlib.Core.Path.{_≡_}
 use Rattle.table.specs.Layout.{nodeCount}
-use Rattle.terms.specs.Substitution.{Substitution}
-use Rattle.unification.specs.Node.{Node, nodesFrom}
-use Rattle.unification.specs.Unifier.{Unifies}
+use Rattle.unification.specs.Node.{nodesFrom}
 use Rattle.unification.specs.Outcome.{Outcome, unified, clash, occurs}
 use Rattle.unification.specs.Computed.Unifying.{outcome}
-use Rattle.unification.specs.Code.Given.{Inside}
 use Rattle.classes.specs.declared.Extended.{Extended}
 use Rattle.classes.specs.declared.Extended.the-variants.{Unified, Clash, Occurs}
 use Rattle.nodes.specs.Code.Open.{KeepsClosed}
@@ -30,13 +27,3 @@ pub record Extends (nodes arguments counts heads next : List ℕ) (a b : ℕ) (r
   pub merges : Merges (nodeCount nodes) heads next heads′ next′
   pub failed : (r ≡ Unified → ⊥) → (heads′ ≡ heads) × (next′ ≡ next)
   pub kept : r ≡ Unified → KeepsClosed nodes counts heads heads′
-
--- The classes stand for pairs that every substitution unifies.
-pub record StandsAlways (nodes arguments heads : List ℕ) : Type 0 where
-  pub pairs : List (ℕ × ℕ)
-  pub stands : Stands nodes arguments heads pairs
-  pub same : (σ : Substitution) → Unifies (nodesFrom nodes arguments) pairs σ
-
--- No list of pairs with the pair of a and b has a unifier.
-abbrev pub Never : List Node → ℕ → ℕ → Type 0
-Never ns a b = (ps : List (ℕ × ℕ)) → Inside ns ps → outcome ns ((a, b) ∷ ps) ≡ unified → ⊥

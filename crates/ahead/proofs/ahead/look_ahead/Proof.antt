@@ -16,8 +16,14 @@ same-length : tie.Need-same-length
 same-length c = search needs
 
 returns : tie.Need-returns
-returns c =
-    ((refl, refl), (keeps-all _, looks-unfit (c .before .before .before .before .before .before .before .before .before .pre .0) (c .before .fits2 .ensures (not-true _ (c .if1 .taken)))))
+returns c = (
+  (refl, refl),
+  (
+    keeps-all _,
+    looks-unfit (c .before .before .before .before .before .before .before .before .before .pre .0)
+        (c .before .fits2 .ensures (not-true _ (c .if1 .taken))),
+  ),
+)
 
 slice-read-if2 : tie.Need-slice-read-if2
 slice-read-if2 c =
@@ -68,8 +74,14 @@ returns-3 : tie.Need-returns-3
 returns-3 c =
     let back = c .before .before .before .before .before .before .before .before .before .before in
     let p = back .before .before .before .before .before .before .before .before .before .before .before .before .before .pre in
-    let s = c .before .before .before .before .before .before .before .before .strike .ensures in
-    ((refl, refl), (s .0, looks-as (sym (not-true _ (c .if3 .taken))) refl (looks-planned (p .0) (s .0) (s .1) (c .before .before .before .plan .ensures))))
+    let s = c .before .before .before .before .before .before .before .before .strike .ensures in (
+      (refl, refl),
+      (
+        s .0,
+        looks-as (sym (not-true _ (c .if3 .taken))) refl
+            (looks-planned (p .0) (s .0) (s .1) (c .before .before .before .plan .ensures)),
+      ),
+    )
 
 same-length-6 : tie.Need-same-length-6
 same-length-6 c = search needs
@@ -85,8 +97,14 @@ returns-4 c =
     let back = c .before .before .before .before .before .before .before .before .before .before in
     let far = back .before .before .before .before .before .before .before .before .before .before in
     let p = far .before .before .before .before .pre in
-    let s = c .before .before .before .before .before .before .before .before .before .strike .ensures in
-    ((refl, refl), (s .0, looks-as (sym (not-false _ (c .before .if3 .left))) refl (looks-planned (p .0) (s .0) (s .1) (c .before .before .before .before .plan .ensures))))
+    let s = c .before .before .before .before .before .before .before .before .before .strike .ensures in (
+      (refl, refl),
+      (
+        s .0,
+        looks-as (sym (not-false _ (c .before .if3 .left))) refl
+            (looks-planned (p .0) (s .0) (s .1) (c .before .before .before .before .plan .ensures)),
+      ),
+    )
 
 first-tried-requires : tie.Need-first-tried-requires
 first-tried-requires c κs =
@@ -111,7 +129,10 @@ plan-requires-2 c κs =
     let start = far .before .before .before .before .before .before .before .before .before .before in
     let p = start .before .before .before .before .before .before .before .before .before .pre in
     planning-again (p .0)
-    (far .before .before .before .before .strike .ensures .0) (c .before .before .before .before .before .before .before .before .before .try-pairs .ensures .0) (far .before .before .before .before .before .before .before .if2 .left) (back .before .before .before .before .before .before .before .before .before .plan .ensures)
+    (far .before .before .before .before .strike .ensures .0)
+    (c .before .before .before .before .before .before .before .before .before .try-pairs .ensures .0)
+    (far .before .before .before .before .before .before .before .if2 .left)
+    (back .before .before .before .before .before .before .before .before .before .plan .ensures)
 
 same-length-9 : tie.Need-same-length-9
 same-length-9 c = search needs
@@ -154,8 +175,14 @@ returns-6 c =
     let start = far .before .before .before .before .before .before .before .before .before .before in
     let p = start .before .before .before .before .before .before .before .pre in
     let s = far .before .before .strike .ensures in
-    let t = c .before .before .before .before .before .before .before .try-pairs .ensures in
-    (t .1 .1 .1, (keeps-twice (s .0) (t .0), looks-as (sym (not-false _ (back .before .before .before .before .if3 .left))) (t .1 .1 .0 (c .if5 .left)) (looks-planned (p .0) (s .0) (s .1) (back .before .before .before .before .before .before .before .plan .ensures))))
+    let t = c .before .before .before .before .before .before .before .try-pairs .ensures in (
+      t .1 .1 .1,
+      (
+        keeps-twice (s .0) (t .0),
+        looks-as (sym (not-false _ (back .before .before .before .before .if3 .left)))
+            (t .1 .1 .0 (c .if5 .left)) (looks-planned (p .0) (s .0) (s .1) (back .before .before .before .before .before .before .before .plan .ensures)),
+      ),
+    )
 
 pub look-ahead-spec : {M : Type 1} → statement M
 look-ahead-spec =

@@ -32,8 +32,12 @@ differ-requires c κs =
 
 returns-2 : tie.Need-returns-2
 returns-2 c =
-    let s = c .before .before .before .before .before .before .before .before .before .before .before .before .before in
-    ((λ z. never-differ _ _ _ (s .pre .0 .0 .sections) _ (s .pre .0 .1) (s .args .a .0) (s .args .b .0) (s .pre .1 .0) (s .pre .1 .1) _ _ (c .before .before .before .before .before .before .before .node-in .ensures .0) (c .before .before .before .before .before .node-in2 .ensures .0) _ (c .before .differ .ensures) (c .if2 .taken)), omega arith)
+    let s = c .before .before .before .before .before .before .before .before .before .before .before .before .before in (
+      (λ z. never-differ _ _ _ (s .pre .0 .0 .sections) _ (s .pre .0 .1) (s .args .a .0) (s .args .b .0) (s .pre .1 .0) (s .pre .1 .1) _ _
+          (c .before .before .before .before .before .before .before .node-in .ensures .0) (c .before .before .before .before .before .node-in2 .ensures .0)
+          _ (c .before .differ .ensures) (c .if2 .taken)),
+      omega arith,
+    )
 
 both-closed-requires : tie.Need-both-closed-requires
 both-closed-requires c κs =
@@ -47,8 +51,13 @@ both-closed-requires c κs =
 returns-3 : tie.Need-returns-3
 returns-3 c =
     let back = c .before .before .before .before .before .before .before .before .before .before in
-    let s = back .before .before .before .before .before in
-    ((λ z. never-closed _ _ _ (s .pre .0 .0 .sections) _ (s .pre .0 .1) (s .args .a .0) (s .args .b .0) (s .pre .1 .0) (s .pre .1 .1) (s .pre .0 .0 .counts) _ _ (c .before .before .before .before .before .before .before .before .before .node-in .ensures .0) (c .before .before .before .before .before .before .before .node-in2 .ensures .0) (c .before .before .before .before .if1 .left) _ (c .before .both-closed .ensures) (c .if3 .taken)), omega arith)
+    let s = back .before .before .before .before .before in (
+      (λ z. never-closed _ _ _ (s .pre .0 .0 .sections) _ (s .pre .0 .1) (s .args .a .0) (s .args .b .0) (s .pre .1 .0) (s .pre .1 .1)
+          (s .pre .0 .0 .counts) _ _ (c .before .before .before .before .before .before .before .before .before .node-in .ensures .0)
+          (c .before .before .before .before .before .before .before .node-in2 .ensures .0) (c .before .before .before .before .if1 .left) _
+          (c .before .both-closed .ensures) (c .if3 .taken)),
+      omega arith,
+    )
 
 returns-4 : tie.Need-returns-4
 returns-4 c = ((λ z. absurd (omega (arith, z))), omega arith)

@@ -71,8 +71,13 @@ loop-again c =
     let n = c .before .before .before .before .before .before .at .ensures .0 in
     let s = l .2 .size in
     let j = c .before .before .strike-row .ensures .1 in
-    let k = known-kept (p .0) (l .2) in
-    (omega arith, omega (arith, l .1, j), keeps-twice (l .2) (keeps-row _ _ _), rows-more _ _ _ (omega (arith, s, n, p .0 .size, p .0 .left-few)) (k .right-few) (c .before .before .strike-row .ensures .0) (omega (arith, n, p .0 .left-few)) (l .3))
+    let k = known-kept (p .0) (l .2) in (
+      omega arith,
+      omega (arith, l .1, j),
+      keeps-twice (l .2) (keeps-row _ _ _),
+      rows-more _ _ _ (omega (arith, s, n, p .0 .size, p .0 .left-few))
+          (k .right-few) (c .before .before .strike-row .ensures .0) (omega (arith, n, p .0 .left-few)) (l .3),
+    )
 
 same-length : tie.Need-same-length Inv-loop μ-loop
 same-length c = c .before .loop .inv .2 .size

@@ -79,8 +79,14 @@ loop-less c = search needs
 loop-again : tie.Need-loop-again Inv-loop μ-loop
 loop-again c =
     let l = c .before .before .before .before .loop .inv in
-    let g = c .before .seen .ensures .1 in
-    (omega arith, bit-next _ _ (l .1), row-turn (l .2) (l .1) (c .added .ensures) (λ z. never-named (c .before .before .before .before .before .node-in .ensures .0) (c .before .before .node-in2 .ensures .0) (c .before .seen .ensures .0 (eqb-true _ _ (not-false _ z)))), omega (arith, l .3, g))
+    let g = c .before .seen .ensures .1 in (
+      omega arith,
+      bit-next _ _ (l .1),
+      row-turn (l .2) (l .1) (c .added .ensures)
+          (λ z. never-named (c .before .before .before .before .before .node-in .ensures .0) (c .before .before .node-in2 .ensures .0)
+          (c .before .seen .ensures .0 (eqb-true _ _ (not-false _ z)))),
+      omega (arith, l .3, g),
+    )
 
 returns : tie.Need-returns Inv-loop μ-loop
 returns c =

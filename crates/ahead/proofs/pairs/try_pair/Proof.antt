@@ -28,15 +28,15 @@ same-length c = search needs
 returns : tie.Need-returns
 returns c = ((λ z. absurd (false≢true (sym z))), (refl, refl))
 
-joins-always-requires : tie.Need-joins-always-requires
-joins-always-requires c κs =
+meets-variable-requires : tie.Need-meets-variable-requires
+meets-variable-requires c κs =
     let back = c .before .before .before .before .before .before .before .before .before .before in
     let s = back .before .before .before .before in
     let x = s .pre .1 .0 .0 .partition .below (s .args .a .0) (s .pre .1 .1 .0) in
     let y = s .pre .1 .0 .0 .partition .below (s .args .b .0) (s .pre .1 .1 .1) in
     let d = c .before .before .before .before .before .before .node-in .ensures .0 in
     let e = c .before .before .before .node-in2 .ensures .0 in
-    (omega (arith, x, d), omega (arith, y, e), s .pre .0 .counts .enough)
+    (omega (arith, x, d), omega (arith, y, e))
 
 same-length-2 : tie.Need-same-length-2
 same-length-2 c = search needs
@@ -84,8 +84,11 @@ returns-3 c =
     let back = c .before .before .before .before .before .before .before .before .before .before in
     let far = back .before .before .before .before .before .before .before .before .before .before in
     let s = far .before .before .before .before .before .before in
-    let x = c .before .before .before .before .before .before .extend .ensures in
-    ((λ z. clash-never _ _ _ (s .pre .0 .sections) _ (s .pre .1 .0 .0) (s .args .a .0) (s .args .b .0) (s .pre .1 .1 .0) (s .pre .1 .1 .1) _ _ _ _ (c .enum-told .given .1) x), clash-back (c .enum-told .given .1) x)
+    let x = c .before .before .before .before .before .before .extend .ensures in (
+      (λ z. clash-never _ _ _ (s .pre .0 .sections) _ (s .pre .1 .0 .0) (s .args .a .0) (s .args .b .0) (s .pre .1 .1 .0) (s .pre .1 .1 .1) _ _ _ _
+          (c .enum-told .given .1) x),
+      clash-back (c .enum-told .given .1) x,
+    )
 
 same-length-5 : tie.Need-same-length-5
 same-length-5 c = search needs
@@ -98,8 +101,11 @@ returns-4 c =
     let back = c .before .before .before .before .before .before .before .before .before .before in
     let far = back .before .before .before .before .before .before .before .before .before .before in
     let s = far .before .before .before .before .before .before in
-    let x = c .before .before .before .before .before .before .extend .ensures in
-    ((λ z. occurs-never _ _ _ (s .pre .0 .sections) _ (s .pre .1 .0 .0) (s .args .a .0) (s .args .b .0) (s .pre .1 .1 .0) (s .pre .1 .1 .1) _ _ _ _ (c .enum-told2 .given .1) x), occurs-back (c .enum-told2 .given .1) x)
+    let x = c .before .before .before .before .before .before .extend .ensures in (
+      (λ z. occurs-never _ _ _ (s .pre .0 .sections) _ (s .pre .1 .0 .0) (s .args .a .0) (s .args .b .0) (s .pre .1 .1 .0) (s .pre .1 .1 .1) _ _ _ _
+          (c .enum-told2 .given .1) x),
+      occurs-back (c .enum-told2 .given .1) x,
+    )
 
 same-length-7 : tie.Need-same-length-7
 same-length-7 c = search needs
@@ -112,8 +118,11 @@ returns-5 c =
     let back = c .before .before .before .before .before .before .before .before .before .before in
     let far = back .before .before .before .before .before .before .before .before .before .before in
     let s = far .before .before .before .before .before .before .before .before .before .before .before .before .before in
-    let x = back .before .before .before .extend in
-    ((λ z. absurd (false≢true (sym z))), merges-back (x .kept .1 .1 .1 .0 ∙ s .pre .1 .0 .0 .partition .size) (x .ensures .merges) (c .before .before .before .before .undo .ensures))
+    let x = back .before .before .before .extend in (
+      (λ z. absurd (false≢true (sym z))),
+      merges-back (x .kept .1 .1 .1 .0 ∙ s .pre .1 .0 .0 .partition .size) (x .ensures .merges)
+          (c .before .before .before .before .undo .ensures),
+    )
 
 pub try-pair-spec : {M : Type 1} → statement M
 try-pair-spec =
@@ -125,7 +134,7 @@ try-pair-spec =
     node-in-requires-2
     same-length
     returns
-    joins-always-requires
+    meets-variable-requires
     same-length-2
     returns-2
     slice-read-mark

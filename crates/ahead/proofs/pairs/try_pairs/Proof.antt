@@ -44,8 +44,13 @@ try-row-requires c κs =
     let p = back .before .before .before .before .pre in
     let l = c .before .before .before .before .before .before .loop .inv in
     let n = c .before .before .before .before .before .before .before .at .ensures .0 in
-    let e = l .0 .same 578 (omega arith) in
-    (known-kept (p .0) (l .0), (rw (l .3, l .4) (formed-kept (p .0) (l .0) (p .1 .0 .0), p .1 .0 .1), (rows-as (l .3) (rows-end (l .1) (omega (arith, e))), omega (arith, n, e))))
+    let e = l .0 .same 578 (omega arith) in (
+      known-kept (p .0) (l .0),
+      (
+        rw (l .3, l .4) (formed-kept (p .0) (l .0) (p .1 .0 .0), p .1 .0 .1),
+        (rows-as (l .3) (rows-end (l .1) (omega (arith, e))), omega (arith, n, e)),
+      ),
+    )
 
 cast-known : tie.Need-cast-known Inv-loop μ-loop
 cast-known c =
@@ -82,8 +87,15 @@ loop-again c =
     let n = back .before .before .at .ensures .0 in
     let s = l .0 .size in
     let t = c .before .before .before .before .try-row .ensures in
-    let k = known-kept (p .0) (l .0) in
-    (keeps-twice (l .0) (keeps-row _ _ _), rows-again _ _ _ (omega (arith, s, n, p .0 .size, p .0 .left-few)) (k .right-few) (row-as (l .3) (t .0)) (p .0 .left-few) (l .1), (λ z. row-same _ _ _ _ _ _ _ (c .before .before .before .before .before .before .before .before .at2 .ensures .0) refl (l .2) z), t .1 .0 ∙ l .3, t .1 .1 ∙ l .4)
+    let k = known-kept (p .0) (l .0) in (
+      keeps-twice (l .0) (keeps-row _ _ _),
+      rows-again _ _ _ (omega (arith, s, n, p .0 .size, p .0 .left-few)) (k .right-few) (row-as (l .3) (t .0))
+          (p .0 .left-few) (l .1),
+      (λ z. row-same _ _ _ _ _ _ _ (c .before .before .before .before .before .before .before .before .at2 .ensures .0) refl
+          (l .2) z),
+      t .1 .0 ∙ l .3,
+      t .1 .1 ∙ l .4,
+    )
 
 same-length : tie.Need-same-length Inv-loop μ-loop
 same-length c = ap length (c .before .loop .inv .3)

@@ -59,8 +59,13 @@ loop-less c = search needs
 loop-again : tie.Need-loop-again Inv-loop μ-loop
 loop-again c =
     let l = c .before .before .before .before .before .before .loop .inv in
-    let s = c .before .before .before .before .before .before .before .before .before .before in
-    (omega arith, rows-turn (s .pre .0 .0) (l .1) (c .before .before .before .before .before .loop-test .taken) (l .0) refl (s .pre .1 .0) (c .before .before .before .at2 .ensures .0) (s .pre .1 .1) (c .before .before .fill-row .ensures), λ p h. let q = c .before .before .before .before .before .loop-test .taken in c .before .before .fill-row .ensures .kept p (omega (arith, h, q, l .0)) ∙ l .2 p h)
+    let s = c .before .before .before .before .before .before .before .before .before .before in (
+      omega arith,
+      rows-turn (s .pre .0 .0) (l .1) (c .before .before .before .before .before .loop-test .taken) (l .0) refl (s .pre .1 .0)
+          (c .before .before .before .at2 .ensures .0) (s .pre .1 .1) (c .before .before .fill-row .ensures),
+      λ p h. let q = c .before .before .before
+          .before .before .loop-test .taken in c .before .before .fill-row .ensures .kept p (omega (arith, h, q, l .0)) ∙ l .2 p h,
+    )
 
 same-length : tie.Need-same-length Inv-loop μ-loop
 same-length c = search needs

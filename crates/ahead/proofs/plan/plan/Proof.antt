@@ -40,8 +40,10 @@ fill-rows-requires : tie.Need-fill-rows-requires
 fill-rows-requires c κs =
     let s = c .before .before .before .before .before .before .before .before .before .before .before .before in
     let e = c .before .before .before .before .before .before .at .ensures .0 in
-    let n = c .before .before .before .before .at2 .ensures .0 in
-    ((s .pre .0, last-completable (s .pre .0) (s .pre .1) (omega (arith, n)) e refl (c .before .before .before .end-row .ensures)), (ap (λ (x : ℕ). x / 64 + 1) e, refl))
+    let n = c .before .before .before .before .at2 .ensures .0 in (
+      (s .pre .0, last-completable (s .pre .0) (s .pre .1) (omega (arith, n)) e refl (c .before .before .before .end-row .ensures)),
+      (ap (λ (x : ℕ). x / 64 + 1) e, refl),
+    )
 
 at-requires-3 : tie.Need-at-requires-3
 at-requires-3 c κs = search needs

@@ -31,7 +31,8 @@ four c =
     before-3 _ _ _ _ _ _ _ _ _ _ refl third (c .with-sets5 .ensures) refl refl
 
 -- and the next two
-six : (c : tie.After-with-sets7) → UpTo (c .before .before .before .before .before .before .before .before .before .before .before) 6 (c .with-sets7 .result)
+six : (c : tie.After-with-sets7) → UpTo (c .before .before .before .before .before .before .before .before .before .before .before) 6
+    (c .with-sets7 .result)
 six c =
     let fifth = before-4 _ _ _ _ _ _ _ _ _ _ refl (four (c .before .before .before)) (c .before .with-sets6 .ensures) refl refl in
     before-5 _ _ _ _ _ _ _ _ _ _ refl fifth (c .with-sets7 .ensures) refl refl

@@ -26,7 +26,8 @@ cast-node-in c = search needs
 
 node-in-requires-2 : tie.Need-node-in-requires-2 Inv-loop μ-loop
 node-in-requires-2 c κs =
-    let b = c .before .before .before .before .before .before .before .before .pre .1 .0 .below (c .before .before .before .loop .p) (c .before .before .loop-test .taken) in
+    let b = c .before .before .before .before .before .before .before .before .pre .1 .0 .below (c .before .before .before .loop .p)
+    (c .before .before .loop-test .taken) in
     omega (arith, b, c .before .node-in .ensures .0)
 
 arity-requires : tie.Need-arity-requires Inv-loop μ-loop
@@ -47,7 +48,12 @@ loop-less : tie.Need-loop-less Inv-loop μ-loop
 loop-less c = search needs
 
 loop-again : tie.Need-loop-again Inv-loop μ-loop
-loop-again c = (search needs, bare-next _ _ _ (c .before .before .before .before .before .before .loop .p) _ _ _ (c .before .before .before .before .node-in .ensures .0) (c .before .before .node-in2 .ensures .0) (c .before .arity .ensures .0) (c .if1 .left) (c .before .before .before .before .before .before .loop .inv .1))
+loop-again c = (
+  search needs,
+  bare-next _ _ _ (c .before .before .before .before .before .before .loop .p) _ _ _
+      (c .before .before .before .before .node-in .ensures .0) (c .before .before .node-in2 .ensures .0) (c .before .arity .ensures .0) (c .if1 .left)
+      (c .before .before .before .before .before .before .loop .inv .1),
+)
 
 returns-2 : tie.Need-returns-2 Inv-loop μ-loop
 returns-2 c = λ e. bare-all _ _ _ (c .before .loop .p) (c .loop-test .left) (c .before .loop .inv .1)

@@ -13,14 +13,26 @@ use Rattle.binding.proofs.words.bind.Tie as tie
 all-plain-requires : tie.Need-all-plain-requires
 all-plain-requires c κs =
     let s = c .before .before .before .before .before .before .before in
-    let q = s .pre .1 .0 .0 .partition in
-    (s .pre .0 .0, (nodes-headed (s .args .nodes .now) _ _ q (least-nodes _ _ _ (s .pre .1 .1 .0)), heads-below (nodeCount (s .args .nodes .now)) (nodeCount (s .args .nodes .now)) _ (omega arith) q))
+    let q = s .pre .1 .0 .0 .partition in (
+      s .pre .0 .0,
+      (
+        nodes-headed (s .args .nodes .now) _ _ q (least-nodes _ _ _ (s .pre .1 .1 .0)),
+        heads-below (nodeCount (s .args .nodes .now))
+            (nodeCount (s .args .nodes .now)) _ (omega arith) q,
+      ),
+    )
 
 bind-plain-requires : tie.Need-bind-plain-requires
 bind-plain-requires c κs =
     let s = c .before .before .before .before .before .before .before .before .before .before in
-    let q = s .pre .1 .0 .0 .partition in
-    ((nodes-headed (s .args .nodes .now) _ _ q (least-nodes _ _ _ (s .pre .1 .1 .0)), heads-below (nodeCount (s .args .nodes .now)) (nodeCount (s .args .nodes .now)) _ (omega arith) q), s .pre .1 .1 .1)
+    let q = s .pre .1 .0 .0 .partition in (
+      (
+        nodes-headed (s .args .nodes .now) _ _ q (least-nodes _ _ _ (s .pre .1 .1 .0)),
+        heads-below (nodeCount (s .args .nodes .now))
+            (nodeCount (s .args .nodes .now)) _ (omega arith) q,
+      ),
+      s .pre .1 .1 .1,
+    )
 
 same-length : tie.Need-same-length
 same-length c = search needs
@@ -28,7 +40,8 @@ same-length c = search needs
 returns : tie.Need-returns
 returns c =
     let p = c .before .before .before .before .before .before .before .before .before .before .before .before .before .pre in
-    let t = plain-test _ _ _ _ (c .before .before .before .before .before .before .before .before .before .before .before .before .before .args .opens .now) _ (p .1 .0 .1) (c .before .before .before .before .before .all-plain .ensures) (c .before .before .before .before .if1 .taken) in
+    let t = plain-test _ _ _ _ (c .before .before .before .before .before .before .before .before .before .before .before .before .before .args .opens
+    .now) _ (p .1 .0 .1) (c .before .before .before .before .before .all-plain .ensures) (c .before .before .before .before .if1 .taken) in
     plain-leaves _ _ _ _ _ _ _ (p .0 .0) (p .0 .1) (p .1 .0 .0) (p .1 .1 .0) t (c .before .before .bind-plain .ensures)
 
 node-count-requires : tie.Need-node-count-requires

@@ -89,19 +89,27 @@ slice-aggregate-name-open c = search needs
 
 name-open-requires : tie.Need-name-open-requires
 name-open-requires c κs =
-    let p = c .before .before .before .before .before .before .before .before .before .before .before .before .before .before .before .before .before .before .before .before .before .before .before .pre in
+    let p = c .before .before .before .before .before .before .before .before .before .before .before .before .before .before .before .before .before
+    .before .before .before .before .before .before .pre in
     let t = c .before .before .before .before .before .before .before .before .before .put-in-order in
     let n = c .before .before .before .before .before .before .before .before .before .before .before .before .node-count in
     let l : length (t .last .1 .1 .1 .1 .1 .1 .0) ≡ n .result = t .kept .1 .1 .1 .1 .1 .1 .0 ∙ first-long (n .result) (n .ensures .1) in
-    let o = ordered-part _ _ _ _ (t .last .1 .1 .1 .1 .1 .1 .0) (drop (n .result - 0) (replicate maxNodes 0)) (t .result) (omega (arith, l, t .ensures .0, n .ensures .0)) (t .ensures .1) in
-    let parts = closed-parts _ _ _ _ (c .before .before .before .before .before .before .before .before .before .before .before .before .before .before .before .before .before .before .before .before .before .before .before .args .prepared .now) (c .before .before .before .before .before .before .before .before .before .before .before .before .before .before .before .before .before .before .before .before .before .before .before .args .closed) (p .1 .1 .1 .0 .0) (p .1 .1 .1 .0 .1) in
+    let o = ordered-part _ _ _ _ (t .last .1 .1 .1 .1 .1 .1 .0) (drop (n .result - 0) (replicate maxNodes 0)) (t .result)
+    (omega (arith, l, t .ensures .0, n .ensures .0)) (t .ensures .1) in
+    let parts = closed-parts _ _ _ _ (c .before .before .before .before .before .before .before .before .before .before .before .before .before
+    .before .before .before .before .before .before .before .before .before .before .args .prepared .now)
+    (c .before .before .before .before .before .before .before .before .before .before .before .before .before .before .before .before .before .before
+    .before .before .before .before .before .args .closed) (p .1 .1 .1 .0 .0) (p .1 .1 .1 .0 .1) in
     (p .0, (p .1 .0 .0, (o, (parts, ((p .1 .1 .1 .1 .1 .0, p .1 .1 .1 .1 .1 .1), search needs)))))
 
 find-words-requires : tie.Need-find-words-requires
 find-words-requires c κs =
-    let p = c .before .before .before .before .before .before .before .before .before .before .before .before .before .before .before .before .before .before .before .before .before .before .before .before .before .before .before .before .before .before .pre in
-    let o = c .before .before .before .before .before .before .name-open in
-    (heads-named _ _ _ _ (o .ensures .0) (p .0 .0) (p .1 .0 .0 .partition) (o .kept .1 .1 .1 .1 .1 .1 .1 .1 .1 .0 ∙ p .1 .1 .1 .1 .1 .0), (open-applied _ _ _ (p .1 .0 .1), (least-nodes _ _ _ (p .1 .1 .1 .1 .0 .0), p .1 .1 .1 .1 .1 .2, p .1 .1 .1 .1 .0 .1)))
+    let p = c .before .before .before .before .before .before .before .before .before .before .before .before .before .before .before .before .before
+    .before .before .before .before .before .before .before .before .before .before .before .before .before .pre in
+    let o = c .before .before .before .before .before .before .name-open in (
+      heads-named _ _ _ _ (o .ensures .0) (p .0 .0) (p .1 .0 .0 .partition) (o .kept .1 .1 .1 .1 .1 .1 .1 .1 .1 .0 ∙ p .1 .1 .1 .1 .1 .0),
+      (open-applied _ _ _ (p .1 .0 .1), (least-nodes _ _ _ (p .1 .1 .1 .1 .0 .0), p .1 .1 .1 .1 .1 .2, p .1 .1 .1 .1 .0 .1)),
+    )
 
 same-length : tie.Need-same-length
 same-length c = search needs
@@ -114,10 +122,13 @@ same-length-3 c = search needs
 
 returns : tie.Need-returns
 returns c =
-    let p = c .before .before .before .before .before .before .before .before .before .before .before .before .before .before .before .before .before .before .before .before .before .before .before .before .before .before .before .before .before .before .before .before .before .before .before .pre in
+    let p = c .before .before .before .before .before .before .before .before .before .before .before .before .before .before .before .before .before
+    .before .before .before .before .before .before .before .before .before .before .before .before .before .before .before .before .before .before
+    .pre in
     let o = c .before .before .before .before .before .before .before .before .before .before .before .name-open in
     let m = heads-named _ _ _ _ (o .ensures .0) (p .0 .0) (p .1 .0 .0 .partition) (o .kept .1 .1 .1 .1 .1 .1 .1 .1 .1 .0 ∙ p .1 .1 .1 .1 .1 .0) in
-    found-leaves _ _ _ _ _ _ _ _ _ (c .before .before .before .before .find-words .ensures) m (o .ensures .1) (p .0 .1) (p .1 .0 .1) (p .1 .0 .0) (p .1 .1 .1 .1 .0 .0)
+    found-leaves _ _ _ _ _ _ _ _ _ (c .before .before .before .before .find-words .ensures) m (o .ensures .1) (p .0 .1) (p .1 .0 .1) (p .1 .0 .0)
+    (p .1 .1 .1 .1 .0 .0)
 
 pub bind-listed-spec : {M : Type 1} → statement M
 bind-listed-spec =

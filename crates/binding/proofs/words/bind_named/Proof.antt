@@ -18,7 +18,8 @@ slice-aggregate-bind-listed c = search needs
 
 bind-listed-requires : tie.Need-bind-listed-requires
 bind-listed-requires c κs =
-    let p = c .before .before .before .before .before .before .before .before .before .before .before .before .before .before .before .before .before .pre in
+    let p = c .before .before .before .before .before .before .before .before .before .before .before .before .before .before .before .before .before
+    .pre in
     let d = c .before .before .before .before .before .list-closed .ensures in
     (p .0, (p .1 .0, ((d .size ∙ table-new .0, d .few), ((d .listed, d .chained), (p .1 .1 .0, p .1 .1 .1)))))
 

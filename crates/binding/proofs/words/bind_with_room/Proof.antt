@@ -14,12 +14,16 @@ name-themselves-requires c κs = search needs
 some-leads-requires : tie.Need-some-leads-requires
 some-leads-requires c κs =
     let s = c .before .before .before .before .before .before .before .before .before .before .before .before .before in
-    let p = s .pre in
-    (nodes-headed (s .args .nodes .now) _ _ (p .1 .0 .0 .partition) (record { node = p .1 .0 .1 .node }), heads-below _ _ _ (p .0 .1 .enough) (p .1 .0 .0 .partition))
+    let p = s .pre in (
+      nodes-headed (s .args .nodes .now) _ _ (p .1 .0 .0 .partition) (record { node = p .1 .0 .1 .node }),
+      heads-below _ _ _ (p .0 .1 .enough)
+          (p .1 .0 .0 .partition),
+    )
 
 bind-named-requires : tie.Need-bind-named-requires
 bind-named-requires c κs =
-    let p = c .before .before .before .before .before .before .before .before .before .before .before .before .before .before .before .before .before .before .pre in
+    let p = c .before .before .before .before .before .before .before .before .before .before .before .before .before .before .before .before .before
+    .before .pre in
     let t = c .before .before .before .before .before .before .before .name-themselves in
     (p .0, (p .1 .0, (p .1 .1 .0, (t .kept .0 ∙ p .1 .1 .1 .0, t .ensures, p .1 .1 .1 .1))))
 
@@ -37,9 +41,11 @@ returns c = search needs
 
 find-words-requires : tie.Need-find-words-requires
 find-words-requires c κs =
-    let p = c .before .before .before .before .before .before .before .before .before .before .before .before .before .before .before .before .before .before .pre in
+    let p = c .before .before .before .before .before .before .before .before .before .before .before .before .before .before .before .before .before
+    .before .pre in
     let t = c .before .before .before .before .before .before .before .name-themselves in
-    let z = none-leads _ _ _ _ (p .1 .0 .1) (p .1 .0 .0 .partition) (c .before .before .before .before .some-leads .ensures (c .before .before .before .if1 .left)) in
+    let z = none-leads _ _ _ _ (p .1 .0 .1) (p .1 .0 .0 .partition)
+    (c .before .before .before .before .some-leads .ensures (c .before .before .before .if1 .left)) in
     let m = themselves-named _ _ (p .0 .0) _ _ (p .0 .1) (p .1 .0 .0) (t .last .0) (t .kept .0 ∙ p .1 .1 .1 .0) (t .ensures) z in
     (m .0, (open-applied _ _ _ (p .1 .0 .1), (least-nodes _ _ _ (p .1 .1 .0 .0), p .1 .1 .1 .1, p .1 .1 .0 .1)))
 
@@ -54,11 +60,15 @@ same-length-6 c = search needs
 
 returns-2 : tie.Need-returns-2
 returns-2 c =
-    let p = c .before .before .before .before .before .before .before .before .before .before .before .before .before .before .before .before .before .before .before .before .before .before .before .pre in
+    let p = c .before .before .before .before .before .before .before .before .before .before .before .before .before .before .before .before .before
+    .before .before .before .before .before .before .pre in
     let t = c .before .before .before .before .before .before .before .before .before .before .before .before .name-themselves in
-    let z = none-leads _ _ _ _ (p .1 .0 .1) (p .1 .0 .0 .partition) (c .before .before .before .before .before .before .before .before .before .some-leads .ensures (c .before .before .before .before .before .before .before .before .if1 .left)) in
+    let z = none-leads _ _ _ _ (p .1 .0 .1) (p .1 .0 .0 .partition)
+    (c .before .before .before .before .before .before .before .before .before .some-leads .ensures
+    (c .before .before .before .before .before .before .before .before .if1 .left)) in
     let m = themselves-named _ _ (p .0 .0) _ _ (p .0 .1) (p .1 .0 .0) (t .last .0) (t .kept .0 ∙ p .1 .1 .1 .0) (t .ensures) z in
-    found-leaves _ _ _ _ _ _ _ _ _ (c .before .before .before .before .find-words .ensures) (m .0) (m .1) (p .0 .1) (p .1 .0 .1) (p .1 .0 .0) (p .1 .1 .0 .0)
+    found-leaves _ _ _ _ _ _ _ _ _ (c .before .before .before .before .find-words .ensures) (m .0) (m .1) (p .0 .1) (p .1 .0 .1) (p .1 .0 .0)
+    (p .1 .1 .0 .0)
 
 pub bind-with-room-spec : {M : Type 1} → statement M
 bind-with-room-spec =

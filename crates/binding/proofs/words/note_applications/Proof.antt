@@ -42,8 +42,11 @@ loop-less c = search needs
 loop-again : tie.Need-loop-again Inv-loop μ-loop
 loop-again c =
     let s = c .before .before .before .before .before .before .before .before .before .before .before .before .before .before in
-    let l = c .before .before .before .before .before .before .before .loop in
-    (search needs, rw (c .before .before .note-application .ensures, c .before .before .before .before .before .node-in .ensures .0) (noted-next _ _ _ _ (s .pre .0) _ (s .pre .1 .0) _ (l .p) (c .before .before .before .before .before .before .loop-test .taken) (l .inv .1)))
+    let l = c .before .before .before .before .before .before .before .loop in (
+      search needs,
+      rw (c .before .before .note-application .ensures, c .before .before .before .before .before .node-in .ensures .0)
+          (noted-next _ _ _ _ (s .pre .0) _ (s .pre .1 .0) _ (l .p) (c .before .before .before .before .before .before .loop-test .taken) (l .inv .1)),
+    )
 
 same-length : tie.Need-same-length Inv-loop μ-loop
 same-length c = search needs

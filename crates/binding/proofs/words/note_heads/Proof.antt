@@ -36,7 +36,11 @@ shared-slice-read-h c =
     omega (arith, b)
 
 cast-h-2 : tie.Need-cast-h-2 Inv-loop μ-loop
-cast-h-2 c = omega (arith, c .shared-slice-known2 .given (getD (c .before .before .before .before .args .list .now) (c .before .before .before .loop .k - 1) 0))
+cast-h-2 c = omega (
+  arith,
+  c .shared-slice-known2 .given (getD (c .before .before .before .before .args .list .now)
+      (c .before .before .before .loop .k - 1) 0),
+)
 
 slice-write-by : tie.Need-slice-write-by Inv-loop μ-loop
 slice-write-by c =
@@ -51,8 +55,11 @@ loop-again : tie.Need-loop-again Inv-loop μ-loop
 loop-again c =
     let s = c .before .before .before .before in
     let l = c .before .before .before .loop in
-    let b = c .shared-slice-known2 .given (getD (s .args .list .now) (l .k - 1) 0) in
-    (search needs, heads-down (s .args .heads .now) (s .args .list .now) (l .by) (l .k) _ _ (c .before .before .loop-test .taken) (l .inv .0) refl refl (omega (arith, b)) (l .inv .1))
+    let b = c .shared-slice-known2 .given (getD (s .args .list .now) (l .k - 1) 0) in (
+      search needs,
+      heads-down (s .args .heads .now) (s .args .list .now) (l .by) (l .k) _ _ (c .before .before .loop-test .taken) (l .inv .0) refl
+          refl (omega (arith, b)) (l .inv .1),
+    )
 
 same-length : tie.Need-same-length Inv-loop μ-loop
 same-length c = search needs

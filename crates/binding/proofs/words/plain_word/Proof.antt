@@ -33,10 +33,13 @@ node-in-requires-3 : tie.Need-node-in-requires-3
 node-in-requires-3 c κs = search needs
 
 returns : tie.Need-returns
-returns c = word-noted _ _ _ _ _ _ _ (c .before .before .before .before .before .before .node-in .ensures .0) (c .before .before .before .before .node-in2 .ensures .0) (sym (c .before .before .before .is-variable .ensures) ∙ c .before .before .if1 .taken) (c .node-in3 .ensures .0)
+returns c = word-noted _ _ _ _ _ _ _ (c .before .before .before .before .before .before .node-in .ensures .0)
+    (c .before .before .before .before .node-in2 .ensures .0) (sym (c .before .before .before .is-variable .ensures) ∙ c .before .before .if1 .taken)
+    (c .node-in3 .ensures .0)
 
 returns-2 : tie.Need-returns-2
-returns-2 c = word-head _ _ _ _ _ _ (c .before .before .before .before .node-in .ensures .0) (c .before .before .node-in2 .ensures .0) (sym (c .before .is-variable .ensures) ∙ c .if1 .left)
+returns-2 c = word-head _ _ _ _ _ _ (c .before .before .before .before .node-in .ensures .0) (c .before .before .node-in2 .ensures .0)
+    (sym (c .before .is-variable .ensures) ∙ c .if1 .left)
 
 pub plain-word-spec : {M : Type 1} → statement M
 plain-word-spec =

@@ -38,7 +38,8 @@ shared-slice-read-if1 : tie.Need-shared-slice-read-if1 Inv-loop μ-loop
 shared-slice-read-if1 c =
     let s = c .before .before .before .before .before .before .before .before .before .before in
     let o = c .before .before .before .before .node-in in
-    let b = s .pre .0 .below (c .before .before .before .before .before .before .loop .p) (c .before .before .before .before .before .loop-test .taken) in
+    let b = s .pre .0 .below (c .before .before .before .before .before .before .loop .p)
+    (c .before .before .before .before .before .loop-test .taken) in
     let h = s .pre .1 .below (o .result .0) (omega (arith, b, o .ensures .0)) in
     omega (arith, h, c .before .before .node-in2 .ensures .0)
 
@@ -52,7 +53,12 @@ loop-less : tie.Need-loop-less Inv-loop μ-loop
 loop-less c = search needs
 
 loop-again : tie.Need-loop-again Inv-loop μ-loop
-loop-again c = (search needs, leads-next _ _ _ (c .before .before .before .before .before .before .before .loop .p) _ _ (c .before .before .before .before .before .node-in .ensures .0) (c .before .before .before .node-in2 .ensures .0) (c .if1 .left) (c .before .before .before .before .before .before .before .loop .inv .1))
+loop-again c = (
+  search needs,
+  leads-next _ _ _ (c .before .before .before .before .before .before .before .loop .p) _ _
+      (c .before .before .before .before .before .node-in .ensures .0) (c .before .before .before .node-in2 .ensures .0) (c .if1 .left)
+      (c .before .before .before .before .before .before .before .loop .inv .1),
+)
 
 returns-2 : tie.Need-returns-2 Inv-loop μ-loop
 returns-2 c = λ e. leads-all _ _ _ (c .before .loop .p) (c .loop-test .left) (c .before .loop .inv .1)

@@ -38,8 +38,12 @@ loop-less c = search needs
 
 loop-again : tie.Need-loop-again Inv-loop μ-loop
 loop-again c =
-    let l = c .before .before .loop in
-    (search needs, simp length-set (l .inv .1), rw (l .inv .2) (read-next _ _ _ _ _ (c .before .loop-test .taken) (search needs) (c .binding-word .ensures)))
+    let l = c .before .before .loop in (
+      search needs,
+      simp length-set (l .inv .1),
+      rw (l .inv .2)
+          (read-next _ _ _ _ _ (c .before .loop-test .taken) (search needs) (c .binding-word .ensures)),
+    )
 
 same-length : tie.Need-same-length Inv-loop μ-loop
 same-length c = search needs

@@ -47,7 +47,8 @@ can-complete-requires c κs =
 returns-3 : tie.Need-returns-3
 returns-3 c =
     let s = c .before .before .before .before .before .before .before in
-    open-bit _ _ (s .args .i) (s .args .d) (s .args .paired) _ (c .before .before .before .before .at .ensures .0) (c .before .before .before .if1 .left) (c .before .before .if2 .left) _ (c .before .with-pair .ensures) _ (c .can-complete .ensures)
+    open-bit _ _ (s .args .i) (s .args .d) (s .args .paired) _ (c .before .before .before .before .at .ensures .0)
+    (c .before .before .before .if1 .left) (c .before .before .if2 .left) _ (c .before .with-pair .ensures) _ (c .can-complete .ensures)
 
 pub is-open-spec : {M : Type 1} → statement M
 is-open-spec =

@@ -41,22 +41,44 @@ slice-read-if1-2 c =
     let s = c .before .before .before .before .before .before .before .before .before .before .before in
     let n = s .pre .0 .left-nodes (s .args .i) (s .pre .1 .1 .0) in
     let m = s .pre .0 .right-nodes (s .args .d - 1) (omega (arith, s .pre .1 .1 .1)) in
-    omega (arith, n, m, c .before .before .before .before .before .node-in .ensures, c .before .before .before .before .node-in2 .ensures, s .pre .1 .0 .0 .partition .size)
+    omega (
+      arith,
+      n,
+      m,
+      c .before .before .before .before .before .node-in .ensures,
+      c .before .before .before .before .node-in2 .ensures,
+      s .pre .1
+          .0 .0 .partition .size,
+    )
 
 returns : tie.Need-returns
 returns c =
     let s = c .before .before .before .before .before .before .before .before .before .before .before .before in
     let x = c .before .before .before .before .before .before .node-in .ensures .0 in
     let y = c .before .before .before .before .before .node-in2 .ensures .0 in
-    joined-already (s .args .next .now) (s .pre .0) (s .pre .1 .0 .0) _ _ (s .pre .0 .left-nodes (s .args .i) (s .pre .1 .1 .0)) (s .pre .0 .right-nodes (s .args .d - 1) (omega (arith, s .pre .1 .1 .1)))
+    joined-already (s .args .next .now) (s .pre .0) (s .pre .1 .0 .0) _ _ (s .pre .0 .left-nodes (s .args .i) (s .pre .1 .1 .0))
+    (s .pre .0 .right-nodes (s .args .d - 1) (omega (arith, s .pre .1 .1 .1)))
     (ap (classOf (s .args .heads .now)) (sym x) ∙ c .if1 .taken ∙ ap (classOf (s .args .heads .now)) y)
 
 extend-requires : tie.Need-extend-requires
 extend-requires c κs =
     let s = c .before .before .before .before .before .before .before .before .before .before .before .before .before .before in
     let n = s .pre .0 .left-nodes (s .args .i) (s .pre .1 .1 .0) in
-    let m = s .pre .0 .right-nodes (s .args .d - 1) (omega (arith, s .pre .1 .1 .1)) in
-    ((s .pre .0 .sections, s .pre .0 .counts), (s .pre .1 .0, (omega (arith, n, c .before .before .before .before .before .before .before .before .node-in .ensures), omega (arith, m, c .before .before .before .before .before .before .before .node-in2 .ensures))))
+    let m = s .pre .0 .right-nodes (s .args .d - 1) (omega (arith, s .pre .1 .1 .1)) in (
+      (s .pre .0 .sections, s .pre .0 .counts),
+      (
+        s .pre .1 .0,
+        (
+          omega (
+            arith,
+            n,
+            c .before .before .before .before .before .before .before .before
+                .node-in .ensures,
+          ),
+          omega (arith, m, c .before .before .before .before .before .before .before .node-in2 .ensures),
+        ),
+      ),
+    )
 
 enum-told : tie.Need-enum-told
 enum-told c = search needs
@@ -75,7 +97,12 @@ same-length-2 c = search needs
 
 returns-2 : tie.Need-returns-2
 returns-2 c =
-    rw (sym (c .before .before .before .before .before .before .before .before .before .before .before .before .before .before .before .node-in .ensures .0), sym (c .before .before .before .before .before .before .before .before .before .before .before .before .before .before .node-in2 .ensures .0)) (joined-unified (c .before .before .before .before .before .before .extend .ensures) (c .enum-told .given .1))
+    rw (
+      sym (c .before .before .before .before .before .before .before .before .before .before .before .before .before .before .before .node-in
+          .ensures .0),
+      sym (c .before .before .before .before .before .before .before .before .before .before .before .before .before .before .node-in2
+          .ensures .0),
+    ) (joined-unified (c .before .before .before .before .before .before .extend .ensures) (c .enum-told .given .1))
 
 same-length-3 : tie.Need-same-length-3
 same-length-3 c = search needs
@@ -85,7 +112,12 @@ same-length-4 c = search needs
 
 returns-3 : tie.Need-returns-3
 returns-3 c =
-    rw (sym (c .before .before .before .before .before .before .before .before .before .before .before .before .before .before .before .node-in .ensures .0), sym (c .before .before .before .before .before .before .before .before .before .before .before .before .before .before .node-in2 .ensures .0)) (joined-clash (c .before .before .before .before .before .before .extend .ensures) (c .enum-told2 .given .1))
+    rw (
+      sym (c .before .before .before .before .before .before .before .before .before .before .before .before .before .before .before .node-in
+          .ensures .0),
+      sym (c .before .before .before .before .before .before .before .before .before .before .before .before .before .before .node-in2
+          .ensures .0),
+    ) (joined-clash (c .before .before .before .before .before .before .extend .ensures) (c .enum-told2 .given .1))
 
 same-length-5 : tie.Need-same-length-5
 same-length-5 c = search needs
@@ -95,7 +127,12 @@ same-length-6 c = search needs
 
 returns-4 : tie.Need-returns-4
 returns-4 c =
-    rw (sym (c .before .before .before .before .before .before .before .before .before .before .before .before .before .before .before .node-in .ensures .0), sym (c .before .before .before .before .before .before .before .before .before .before .before .before .before .before .node-in2 .ensures .0)) (joined-occurs (c .before .before .before .before .before .before .extend .ensures) (c .enum-told3 .given .1))
+    rw (
+      sym (c .before .before .before .before .before .before .before .before .before .before .before .before .before .before .before .node-in
+          .ensures .0),
+      sym (c .before .before .before .before .before .before .before .before .before .before .before .before .before .before .node-in2
+          .ensures .0),
+    ) (joined-occurs (c .before .before .before .before .before .before .extend .ensures) (c .enum-told3 .given .1))
 
 pub join-pair-spec : {M : Type 1} → statement M
 join-pair-spec =

@@ -33,7 +33,8 @@ returns : tie.Need-returns
 returns c =
     let s = c .before .before .before .before .before .before .before in
     ap (λ (es : List ℕ). set es (c .before .before .before .before .at .result + s .args .d - 1) 0) (c .before .before .put-digit .ensures)
-    ∙ ap (λ (p : ℕ). set (set (s .args .entry .now) (s .args .i) (s .args .d)) (p + s .args .d - 1) 0) (c .before .before .before .before .at .ensures .0)
+    ∙ ap (λ (p : ℕ). set (set (s .args .entry .now) (s .args .i) (s .args .d)) (p + s .args .d - 1) 0)
+    (c .before .before .before .before .at .ensures .0)
 
 pub put-pair-spec : {M : Type 1} → statement M
 put-pair-spec =

@@ -66,7 +66,8 @@ returns : tie.Need-returns
 unfolding counted
 returns c =
     let a = c .before .before .args in
-    ap (λ (x : ℕ). set (set (set (set (set (set (set (a .known .now) 577 (a .v)) 578 (a .n)) 579 (a .m)) 580 (a .k)) 581 (a .l)) 582 (a .n + a .m + a .v)) 583 x) (c .every .ensures .0)
+    ap (λ (x : ℕ). set (set (set (set (set (set (set (a .known .now) 577 (a .v)) 578 (a .n)) 579 (a .m)) 580 (a .k)) 581 (a .l)) 582
+    (a .n + a .m + a .v)) 583 x) (c .every .ensures .0)
 
 pub put-counts-spec : {M : Type 1} → statement M
 put-counts-spec =

@@ -22,7 +22,9 @@ same-length c = search needs
 
 returns : tie.Need-returns
 returns c =
-    sides-put (c .before .before .before .before .before .before .before .before .before .before .before .before .before .before .put-bytes .ensures) (c .before .before .before .before .before .before .before .before .before .before .put-counts .ensures) (c .before .before .before .before .before .before .put-terms .ensures) (c .before .before .put-terms2 .ensures)
+    sides-put (c .before .before .before .before .before .before .before .before .before .before .before .before .before .before .put-bytes .ensures)
+    (c .before .before .before .before .before .before .before .before .before .before .put-counts .ensures)
+    (c .before .before .before .before .before .before .put-terms .ensures) (c .before .before .put-terms2 .ensures)
 
 pub put-sides-spec : {M : Type 1} → statement M
 put-sides-spec =

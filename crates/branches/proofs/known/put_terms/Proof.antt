@@ -49,8 +49,12 @@ loop-less c = search needs
 loop-again : tie.Need-loop-again Inv-loop μ-loop
 loop-again c =
     let a = c .before .before .before .args in
-    let l = c .before .before .loop in
-    (search needs, search needs, rw (l .inv .2) (paste-next (a .known .now) (a .terms .now) (a .p) (l .i) (search needs) (c .before .loop-test .taken)))
+    let l = c .before .before .loop in (
+      search needs,
+      search needs,
+      rw (l .inv .2) (paste-next (a .known .now) (a .terms .now) (a .p) (l .i) (search needs)
+          (c .before .loop-test .taken)),
+    )
 
 same-length : tie.Need-same-length Inv-loop μ-loop
 same-length c = search needs

@@ -35,7 +35,8 @@ shared-slice-read-if1 c =
 returns : tie.Need-returns Inv-loop μ-loop
 returns c =
     let s = c .before .before .before .before .before .before .before .before .before .args in
-    searched-leaf (s .nodes .now) (s .arguments .now) (word (s .counts .now)) (s .heads .now) (s .a .0) _ (c .before .before .before .node-in .ensures .0)
+    searched-leaf (s .nodes .now) (s .arguments .now) (word (s .counts .now)) (s .heads .now) (s .a .0) _
+    (c .before .before .before .node-in .ensures .0)
     (c .if1 .taken)
 
 loop-holds : tie.Need-loop-holds Inv-loop μ-loop
@@ -44,7 +45,12 @@ loop-holds c =
     (search needs, followed-start (head-inside (s .1 .0) (s .1 .1) (c .before .before .before .node-in .ensures .0)))
 
 cast-t16 : tie.Need-cast-t16 Inv-loop μ-loop
-cast-t16 c = omega (arith, c .before .loop .inv .1 .node, nodes-few (c .before .before .before .before .before .before .before .before .before .before .before .pre .0 .0))
+cast-t16 c = omega (
+  arith,
+  c .before .loop .inv .1 .node,
+  nodes-few
+      (c .before .before .before .before .before .before .before .before .before .before .before .pre .0 .0),
+)
 
 only-open-requires : tie.Need-only-open-requires Inv-loop μ-loop
 only-open-requires c κs =
@@ -54,14 +60,24 @@ only-open-requires c κs =
 returns-2 : tie.Need-returns-2 Inv-loop μ-loop
 returns-2 c =
     let o = c .before .only-open .ensures (λ z. omega (arith, z, c .if2 .taken)) in
-    followed-end (c .before .before .before .loop .inv .1) o (c .if2 .taken) (c .before .before .before .before .before .before .before .node-in .ensures .0)
+    followed-end (c .before .before .before .loop .inv .1) o (c .if2 .taken)
+    (c .before .before .before .before .before .before .before .node-in .ensures .0)
 
 search-requires : tie.Need-search-requires Inv-loop μ-loop
 search-requires c κs =
     let s = c .before .before .before .before .before .before .before .before .before .before .before .before .before .before in
     let h = c .before .before .before .before .before .before .before .before .node-in in
-    let some : 0 < word (s .args .counts .now) (h .result .0) = omega (arith, c .before .before .before .before .before .if1 .left) in
-    (s .pre .0, (s .pre .1 .0, (head-inside (s .pre .1 .0) (s .pre .1 .1) (h .ensures .0), head-own (s .pre .1 .0) (s .pre .1 .1) (h .ensures .0), some)))
+    let some : 0 < word (s .args .counts .now) (h .result .0) = omega (arith, c .before .before .before .before .before .if1 .left) in (
+      s .pre .0,
+      (
+        s .pre .1 .0,
+        (
+          head-inside (s .pre .1 .0) (s .pre .1 .1) (h .ensures .0),
+          head-own (s .pre .1 .0) (s .pre .1 .1) (h .ensures .0),
+          some,
+        ),
+      ),
+    )
 
 returns-3 : tie.Need-returns-3 Inv-loop μ-loop
 returns-3 c =
@@ -91,8 +107,17 @@ search-requires-2 : tie.Need-search-requires-2 Inv-loop μ-loop
 search-requires-2 c κs =
     let s = c .before .before .before .before .before .before .before .before .before .before .before in
     let h = c .before .before .before .before .before .node-in in
-    let some : 0 < word (s .args .counts .now) (h .result .0) = omega (arith, c .before .before .if1 .left) in
-    (s .pre .0, (s .pre .1 .0, (head-inside (s .pre .1 .0) (s .pre .1 .1) (h .ensures .0), head-own (s .pre .1 .0) (s .pre .1 .1) (h .ensures .0), some)))
+    let some : 0 < word (s .args .counts .now) (h .result .0) = omega (arith, c .before .before .if1 .left) in (
+      s .pre .0,
+      (
+        s .pre .1 .0,
+        (
+          head-inside (s .pre .1 .0) (s .pre .1 .1) (h .ensures .0),
+          head-own (s .pre .1 .0) (s .pre .1 .1) (h .ensures .0),
+          some,
+        ),
+      ),
+    )
 
 returns-5 : tie.Need-returns-5 Inv-loop μ-loop
 returns-5 c =

@@ -60,8 +60,11 @@ loop-again : tie.Need-loop-again Inv-loop μ-loop
 loop-again c =
     let s = c .before .before .before .before .before .before .before .before .before .before .before .pre in
     let l = c .before .before .before .before .loop .inv .1 in
-    let g = c .before .before .argument-head .ensures in
-    (search needs, onward-next (nodes-few (s .0 .0)) (s .1 .1) l (c .before .before .before .loop-test .taken) (g .0) (g .1) (c .before .found-with .ensures) (c .if1 .left))
+    let g = c .before .before .argument-head .ensures in (
+      search needs,
+      onward-next (nodes-few (s .0 .0)) (s .1 .1) l (c .before .before .before .loop-test .taken) (g .0) (g .1)
+          (c .before .found-with .ensures) (c .if1 .left),
+    )
 
 returns-2 : tie.Need-returns-2 Inv-loop μ-loop
 returns-2 c =

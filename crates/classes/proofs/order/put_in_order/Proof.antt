@@ -42,17 +42,22 @@ is-due-requires c κs =
     let l = c .before .before .before .before .before .loop .inv .1 in
     let g = c .before .before .before .node-in in
     let h = c .before .node-in2 in
-    let n = sweep-node (s .0 .0) (s .0 .1) (s .1 .0 .partition) (s .1 .1 .0) l (c .before .before .before .before .loop-test .taken) (g .result .0) (g .ensures .0) (h .result .0) (h .ensures .0) in
+    let n = sweep-node (s .0 .0) (s .0 .1) (s .1 .0 .partition) (s .1 .1 .0) l (c .before .before .before .before .loop-test .taken) (g .result .0)
+    (g .ensures .0) (h .result .0) (h .ensures .0) in
     (omega (arith, n, s .0 .1 .enough), omega (arith, n, l .ordering .marks-size))
 
 visit-requires : tie.Need-visit-requires Inv-loop μ-loop
 visit-requires c κs =
-    let s = c .before .before .before .before .before .before .before .before .before .before .before .before .before .before .before .before .before in
+    let s = c .before .before .before .before .before .before .before .before .before .before .before .before .before .before .before .before .before
+    in
     let l = c .before .before .before .before .before .before .before .before .before .loop in
     let g = c .before .before .before .before .before .before .before .node-in in
     let h = c .before .before .before .before .before .node-in2 in
-    let a = due-some (word (s .args .counts .now)) (l .marks) (h .result .0) _ (c .before .before .before .is-due .ensures) (c .before .before .if1 .taken) in
-    sweep-next (s .pre .0 .0) (s .pre .0 .1) (s .pre .1 .0 .partition) (s .pre .1 .1 .0) (l .inv .1) (c .before .before .before .before .before .before .before .before .loop-test .taken) (g .result .0) (g .ensures .0) (h .result .0) (h .ensures .0) a
+    let a = due-some (word (s .args .counts .now)) (l .marks) (h .result .0) _ (c .before .before .before .is-due .ensures)
+    (c .before .before .if1 .taken) in
+    sweep-next (s .pre .0 .0) (s .pre .0 .1) (s .pre .1 .0 .partition) (s .pre .1 .1 .0) (l .inv .1)
+    (c .before .before .before .before .before .before .before .before .loop-test .taken) (g .result .0) (g .ensures .0) (h .result .0)
+    (h .ensures .0) a
 
 enum-known-c : tie.Need-enum-known-c Inv-loop μ-loop
 enum-known-c c = search needs
@@ -63,19 +68,25 @@ enum-told c = search needs
 same-length : tie.Need-same-length Inv-loop μ-loop
 same-length c =
     let k = c .before .before .before .before .before .before .visit .kept .1 .1 .1 .1 .0 in
-    let o = c .before .before .before .before .before .before .before .before .before .before .before .before .before .before .before .before .loop .inv .1 .ordering in
-    k ∙ o .marks-size ∙ sym (c .before .before .before .before .before .before .before .before .before .before .before .before .before .before .before .before .before .before .before .before .before .before .before .before .pre .1 .1 .1 .marks-size)
+    let o = c .before .before .before .before .before .before .before .before .before .before .before .before .before .before .before .before .loop
+    .inv .1 .ordering in
+    k ∙ o .marks-size ∙ sym (c .before .before .before .before .before .before .before .before .before .before .before .before .before .before .before
+    .before .before .before .before .before .before .before .before .before .pre .1 .1 .1 .marks-size)
 
 same-length-2 : tie.Need-same-length-2 Inv-loop μ-loop
 same-length-2 c =
     let k = c .before .before .before .before .before .before .visit .kept .1 .1 .1 .1 .1 .0 in
-    let o = c .before .before .before .before .before .before .before .before .before .before .before .before .before .before .before .before .loop .inv .1 .ordering in
-    k ∙ o .order-size ∙ sym (c .before .before .before .before .before .before .before .before .before .before .before .before .before .before .before .before .before .before .before .before .before .before .before .before .pre .1 .1 .1 .order-size)
+    let o = c .before .before .before .before .before .before .before .before .before .before .before .before .before .before .before .before .loop
+    .inv .1 .ordering in
+    k ∙ o .order-size ∙ sym (c .before .before .before .before .before .before .before .before .before .before .before .before .before .before .before
+    .before .before .before .before .before .before .before .before .before .pre .1 .1 .1 .order-size)
 
 returns : tie.Need-returns Inv-loop μ-loop
 returns c =
-    let s = c .before .before .before .before .before .before .before .before .before .before .before .before .before .before .before .before .before .before .before .before .before .before .before .before .pre in
-    absurd (ordered-unlooped _ _ (s .0 .0) _ (s .0 .1) _ (s .1 .0 .partition) _ (s .1 .0 .ordered) (c .before .before .before .before .before .before .visit .ensures .cycle (c .enum-told .given .1)))
+    let s = c .before .before .before .before .before .before .before .before .before .before .before .before .before .before .before .before .before
+    .before .before .before .before .before .before .before .pre in
+    absurd (ordered-unlooped _ _ (s .0 .0) _ (s .0 .1) _ (s .1 .0 .partition) _ (s .1 .0 .ordered)
+    (c .before .before .before .before .before .before .visit .ensures .cycle (c .enum-told .given .1)))
 
 add-i : tie.Need-add-i Inv-loop μ-loop
 add-i c = search needs
@@ -92,16 +103,21 @@ loop-again c =
     let h = c .before .before .before .node-in2 in (
       search needs,
       ⊎-elim
-          (λ w. swept (s .pre .0 .0) (s .pre .0 .1) (s .pre .1 .0 .partition) (s .pre .1 .1 .0) (l .inv .1) b (g .result .0) (g .ensures .0) (h .result .0) (h .ensures .0) _ _ _ (w .3 .ensures .counted _ (w .9 .given .1)) (w .11) (w .12) (w .13))
-          (λ w. swept-over (s .pre .0 .0) (s .pre .0 .1) (s .pre .1 .0 .partition) (s .pre .1 .1 .0) (l .inv .1) b (g .result .0) (g .ensures .0) (h .result .0) (h .ensures .0) (not-due (word (s .args .counts .now)) (l .marks) (h .result .0) _ (c .before .is-due .ensures) (w .0 .left)) (w .1) (w .2) (w .3))
+          (λ w. swept (s .pre .0 .0) (s .pre .0 .1) (s .pre .1 .0 .partition) (s .pre .1 .1 .0) (l .inv .1) b (g .result .0) (g .ensures .0)
+          (h .result .0) (h .ensures .0) _ _ _ (w .3 .ensures .counted _ (w .9 .given .1)) (w .11) (w .12) (w .13))
+          (λ w. swept-over (s .pre .0 .0) (s .pre .0 .1) (s .pre .1 .0 .partition) (s .pre .1 .1 .0) (l .inv .1) b (g .result .0) (g .ensures .0)
+          (h .result .0) (h .ensures .0) (not-due (word (s .args .counts .now)) (l .marks) (h .result .0) _ (c .before .is-due .ensures) (w .0 .left))
+          (w .1) (w .2) (w .3))
           (c .if1 .came),
     )
 
 same-length-3 : tie.Need-same-length-3 Inv-loop μ-loop
-same-length-3 c = c .before .loop .inv .1 .ordering .marks-size ∙ sym (c .before .before .before .before .before .before .before .before .before .pre .1 .1 .1 .marks-size)
+same-length-3 c = c .before .loop .inv .1 .ordering .marks-size
+    ∙ sym (c .before .before .before .before .before .before .before .before .before .pre .1 .1 .1 .marks-size)
 
 same-length-4 : tie.Need-same-length-4 Inv-loop μ-loop
-same-length-4 c = c .before .loop .inv .1 .ordering .order-size ∙ sym (c .before .before .before .before .before .before .before .before .before .pre .1 .1 .1 .order-size)
+same-length-4 c = c .before .loop .inv .1 .ordering .order-size
+    ∙ sym (c .before .before .before .before .before .before .before .before .before .pre .1 .1 .1 .order-size)
 
 returns-2 : tie.Need-returns-2 Inv-loop μ-loop
 returns-2 c =

@@ -31,7 +31,8 @@ visit-requires : tie.Need-visit-requires
 visit-requires c κs =
     let s = c .before .before .before .before .before .before .before .pre in
     let n = c .before .before .node-count in
-    visit-first (s .0 .0) (s .0 .1) (s .1 .0) (starting (n .result) (first-long (n .result) (n .ensures .1) ∙ n .ensures .0) (n .ensures .0) (n .ensures .1)) (s .1 .1 .0) (s .1 .1 .2)
+    visit-first (s .0 .0) (s .0 .1) (s .1 .0) (starting (n .result) (first-long (n .result) (n .ensures .1) ∙ n .ensures .0) (n .ensures .0)
+    (n .ensures .1)) (s .1 .1 .0) (s .1 .1 .2)
 
 enum-told : tie.Need-enum-told
 enum-told c = search needs

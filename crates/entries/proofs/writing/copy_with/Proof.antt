@@ -17,7 +17,8 @@ returns : tie.Need-returns
 returns c =
     let s = c .before .before .before .before .before .before .before .before .before in
     let w = c .before .before .before .before .before .before .copy-within .ensures in
-    λ es b. moved-digit (s .args .at) (s .args .count) b (s .pre .3) w (s .args .p) (s .args .d) (c .before .before .put-digits .ensures es (moved-block (s .args .at) (s .args .count) b (s .pre .3) w))
+    λ es b. moved-digit (s .args .at) (s .args .count) b (s .pre .3) w (s .args .p) (s .args .d)
+    (c .before .before .put-digits .ensures es (moved-block (s .args .at) (s .args .count) b (s .pre .3) w))
 
 pub copy-with-spec : {M : Type 1} → statement M
 copy-with-spec = tie.close (tie.spec copy-within-requires put-digits-requires same-length returns)

@@ -47,8 +47,12 @@ loop-less c = search needs
 loop-again : tie.Need-loop-again Inv-loop μ-loop
 loop-again c =
     let a = c .before .before .before in
-    let l = c .before .before .loop in
-    (search needs, search needs, moved-next (a .args .out .now) (a .args .from) (a .args .count) (a .args .at) (l .i) (a .pre .0) (a .pre .1) (c .before .loop-test .taken) (l .inv .2))
+    let l = c .before .before .loop in (
+      search needs,
+      search needs,
+      moved-next (a .args .out .now) (a .args .from) (a .args .count) (a .args .at) (l .i) (a .pre .0) (a .pre .1)
+          (c .before .loop-test .taken) (l .inv .2),
+    )
 
 same-length : tie.Need-same-length Inv-loop μ-loop
 same-length c = search needs
@@ -57,8 +61,10 @@ returns : tie.Need-returns Inv-loop μ-loop
 returns c =
     let a = c .before .before in
     let l = c .before .loop in
-    let n = length-take-le (a .args .count) (drop (a .args .from) (a .args .out .now)) (omega (arith, a .pre .0, a .pre .1, length-drop (a .args .from) (a .args .out .now))) in
-    copied-all (take (a .args .count) (drop (a .args .from) (a .args .out .now))) (a .args .out .now) (a .args .at) (l .i) (omega (arith, n, l .inv .0, c .loop-test .left)) (l .inv .2)
+    let n = length-take-le (a .args .count) (drop (a .args .from) (a .args .out .now))
+    (omega (arith, a .pre .0, a .pre .1, length-drop (a .args .from) (a .args .out .now))) in
+    copied-all (take (a .args .count) (drop (a .args .from) (a .args .out .now))) (a .args .out .now) (a .args .at) (l .i)
+    (omega (arith, n, l .inv .0, c .loop-test .left)) (l .inv .2)
 
 pub copy-within-spec : {M : Type 1} → statement M
 copy-within-spec =

@@ -12,7 +12,8 @@ use Rattle.entries.proofs.writing.put_digits.Statement.{statement}
 use Rattle.entries.proofs.writing.put_digits.Tie as tie
 
 abbrev Inv-loop : tie.InvT-loop
-Inv-loop out₀ at count width p d i₀ out i = (length out ≡ length out₀) × ((es : List (List ℕ)) → Block es width out₀ at (at + count) → Digits es p d out₀ at out i)
+Inv-loop out₀ at count width p d i₀ out i = (length out ≡ length out₀) ×
+    ((es : List (List ℕ)) → Block es width out₀ at (at + count) → Digits es p d out₀ at out i)
 
 abbrev μ-loop : tie.MeasureT-loop
 μ-loop out₀ at count width p d i₀ out i = count - i

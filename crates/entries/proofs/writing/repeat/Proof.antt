@@ -13,7 +13,8 @@ use Rattle.entries.proofs.writing.repeat.Statement.{statement}
 use Rattle.entries.proofs.writing.repeat.Tie as tie
 
 abbrev Inv-loop : tie.InvT-loop
-Inv-loop out₀ width from to p first last count used₀ d₀ out used d = (first < d) × (d ≤ last + 1) × (to ≤ used) × (used ≤ length out) × (length out ≡ length out₀) × ((es : List (List ℕ)) → Block es width out₀ from to → Repeating es width p first last from to out₀ d out used)
+Inv-loop out₀ width from to p first last count used₀ d₀ out used d = (first < d) × (d ≤ last + 1) × (to ≤ used) × (used ≤ length out) ×
+    (length out ≡ length out₀) × ((es : List (List ℕ)) → Block es width out₀ from to → Repeating es width p first last from to out₀ d out used)
 
 abbrev μ-loop : tie.MeasureT-loop
 μ-loop out₀ width from to p first last count used₀ d₀ out used d = last + 1 - d
@@ -62,7 +63,8 @@ returns-2 c =
     let l = c .before .before .before .before .before .before .loop in
     let t = c .before .before .before .before .if2 .taken in
     let b : length (l .out) < full = search needs in
-    λ es q. let g = l .inv .5 es q in repeats-full g (c .before .before .before .before .before .loop-test .taken) b (s .pre .0) t (c .before .before .copy-with .ensures _ (repeats-cut g (s .pre .0) t))
+    λ es q. let g = l .inv .5 es q in repeats-full g (c .before .before .before .before .before .loop-test .taken) b (s .pre .0) t
+    (c .before .before .copy-with .ensures _ (repeats-cut g (s .pre .0) t))
 
 copy-with-requires-2 : tie.Need-copy-with-requires-2 Inv-loop μ-loop
 copy-with-requires-2 c κs = search needs
@@ -80,8 +82,16 @@ loop-again : tie.Need-loop-again Inv-loop μ-loop
 loop-again c =
     let l = c .before .before .before .before .before .before .loop in
     let t = c .before .before .before .before .if2 .left in
-    let b : length (l .out) < full = search needs in
-    (search needs, search needs, search needs, search needs, search needs, λ es q. let g = l .inv .5 es q in repeats-next g (c .before .before .before .before .before .loop-test .taken) b (l .inv .2) (omega (arith, t)) (c .before .before .copy-with2 .ensures es (repeats-whole g)))
+    let b : length (l .out) < full = search needs in (
+      search needs,
+      search needs,
+      search needs,
+      search needs,
+      search needs,
+      λ es q. let g = l .inv .5 es q in
+          repeats-next g (c .before .before .before .before .before .loop-test .taken) b (l .inv .2) (omega (arith, t))
+          (c .before .before .copy-with2 .ensures es (repeats-whole g)),
+    )
 
 same-length-2 : tie.Need-same-length-2 Inv-loop μ-loop
 same-length-2 c = search needs

@@ -37,8 +37,13 @@ unify-with-room-requires c κs =
     let n = c .before .before .before .before .before .before .before .before .node-count in
     let i = c .before .before .before .before .index in
     let l = s .pre .limit in
-    let long = first-long (i .result) (omega (arith, l, i .ensures .0, n .ensures)) ∙ i .ensures .0 ∙ n .ensures in
-    (s .pre, (nodes-given (s .args .nodes .now) (s .args .arguments .now) _ _ _ (n .ensures) (c .before .before .before .before .before .if1 .left), (long, refl, search needs)))
+    let long = first-long (i .result) (omega (arith, l, i .ensures .0, n .ensures)) ∙ i .ensures .0 ∙ n .ensures in (
+      s .pre,
+      (
+        nodes-given (s .args .nodes .now) (s .args .arguments .now) _ _ _ (n .ensures) (c .before .before .before .before .before .if1 .left),
+        (long, refl, search needs),
+      ),
+    )
 
 same-length : tie.Need-same-length
 same-length c = search needs

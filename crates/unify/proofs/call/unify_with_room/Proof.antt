@@ -38,10 +38,21 @@ add-opens-end c = search needs
 
 extend-requires : tie.Need-extend-requires
 extend-requires c κs =
-    let s = c .before .before .before .before .before .before .before .before .before .before .before .before .before .before .before .before .before .before .before .before .before .before .before .before .before in
+    let s = c .before .before .before .before .before .before .before .before .before .before .before .before .before .before .before .before .before
+    .before .before .before .before .before .before .before .before in
     let k = c .before .before .before .before .before .before .count-open .ensures .0 in
-    let g = c .before .before .before .before .before .before .before .before .before .before .before .before .before .before .before .before .before .begin-shared in
-    ((s .pre .0, k), ((g .ensures .formed _ k, rw (g .kept .1 .1 .0 ∙ s .pre .1 .1 .0) at (c .before .before .before .before .before .before .before .before .before .before .make-circles .ensures)), s .pre .1 .0))
+    let g = c .before .before .before .before .before .before .before .before .before .before .before .before .before .before .before .before .before
+    .begin-shared in (
+      (s .pre .0, k),
+      (
+        (
+          g .ensures .formed _ k,
+          rw (g .kept .1 .1 .0 ∙ s .pre .1 .1 .0) at
+              (c .before .before .before .before .before .before .before .before .before .before .make-circles .ensures),
+        ),
+        s .pre .1 .0,
+      ),
+    )
 
 enum-told : tie.Need-enum-told
 enum-told c = search needs
@@ -63,7 +74,14 @@ part-bind-end c =
     let o = c .before .before .before .before .before .before .before .before .before .before .before .before .before .before .count-open in
     let r = o .ensures .1 .0 in
     let l = o .ensures .1 .1 .1 .1 in
-    omega (arith, r, l, c .before .before .before .before .before .before .before .before .before .before .before .before .before .before .before .before .before .before .before .before .before .before .before .before .before .before .before .before .before .before .before .before .before .pre .1 .1 .2)
+    omega (
+      arith,
+      r,
+      l,
+      c .before .before .before .before .before .before .before .before .before .before .before .before .before .before .before
+          .before .before .before .before .before .before .before .before .before .before .before .before .before .before .before .before .before .before
+          .pre .1 .1 .2,
+    )
 
 sub-bind-2 : tie.Need-sub-bind-2
 sub-bind-2 c = search needs
@@ -73,19 +91,32 @@ part-bind-start-2 c = search needs
 
 part-bind-end-2 : tie.Need-part-bind-end-2
 part-bind-end-2 c =
-    let l = list-long (c .before .before .before .before .before .before .before .before .before .before .before .before .before .before .before .before .before .before .before .before .before .before .before .before) in
-    let w = c .before .before .before .before .before .before .before .before .before .before .before .before .before .before .before .before .before .before .before .before .before .before .before .before .before .before .before .begin-shared .ensures .lists .within in
+    let l = list-long (c .before .before .before .before .before .before .before .before .before .before .before .before .before .before .before
+    .before .before .before .before .before .before .before .before .before) in
+    let w = c .before .before .before .before .before .before .before .before .before .before .before .before .before .before .before .before .before
+    .before .before .before .before .before .before .before .before .before .before .begin-shared .ensures .lists .within in
     omega (arith, l, w)
 
 bind-requires : tie.Need-bind-requires
 bind-requires c κs =
-    let s = c .before .before .before .before .before .before .before .before .before .before .before .before .before .before .before .before .before .before .before .before .before .before .before .before .before .before .before .before .before .before .before .before .before .before .before .before .before .before in
-    let o = c .before .before .before .before .before .before .before .before .before .before .before .before .before .before .before .before .before .before .before .count-open in
-    let g = c .before .before .before .before .before .before .before .before .before .before .before .before .before .before .before .before .before .before .before .before .before .before .before .before .before .before .before .before .before .before .begin-shared in
+    let s = c .before .before .before .before .before .before .before .before .before .before .before .before .before .before .before .before .before
+    .before .before .before .before .before .before .before .before .before .before .before .before .before .before .before .before .before .before
+    .before .before .before in
+    let o = c .before .before .before .before .before .before .before .before .before .before .before .before .before .before .before .before .before
+    .before .before .count-open in
+    let g = c .before .before .before .before .before .before .before .before .before .before .before .before .before .before .before .before .before
+    .before .before .before .before .before .before .before .before .before .before .before .before .before .begin-shared in
     let x = c .before .before .before .before .before .before .before .before .before .before .before .before .extend .ensures in
     let e = c .before .before .before .before .before .before .enum-told3 .given .1 in
-    let opens = opens-given _ (o .last .1 .1 .0) (o .result) (o .ensures .1 .1 .0) in
-    ((s .pre .0, o .ensures .0), ((x .formed e (g .ensures .pairs) (g .ensures .stands), opens), list-given _ _ (g .result) _ (g .ensures .lists) (c .before .before .before .before .before .before .before .before .before .before .before .before .before .before .before .before .before .before .before .before .before .before .before .before .before .before .if1 .left)))
+    let opens = opens-given _ (o .last .1 .1 .0) (o .result) (o .ensures .1 .1 .0) in (
+      (s .pre .0, o .ensures .0),
+      (
+        (x .formed e (g .ensures .pairs) (g .ensures .stands), opens),
+        list-given _ _ (g .result) _ (g .ensures .lists)
+            (c .before .before .before .before .before .before .before .before .before .before .before .before .before .before .before .before .before .before
+            .before .before .before .before .before .before .before .before .if1 .left),
+      ),
+    )
 
 same-length-2 : tie.Need-same-length-2
 same-length-2 c = search needs
@@ -98,10 +129,14 @@ same-length-4 c = search needs
 
 returns-2 : tie.Need-returns-2
 returns-2 c =
-    let s = c .before .before .before .before .before .before .before .before .before .before .before .before .before .before .before .before .before .before .before .before .before .before .before .before .before .before .before .before .before .before .before .before in
-    let g = c .before .before .before .before .before .before .before .before .before .before .before .before .before .before .before .before .before .before .before .before .before .before .before .before .begin-shared in
+    let s = c .before .before .before .before .before .before .before .before .before .before .before .before .before .before .before .before .before
+    .before .before .before .before .before .before .before .before .before .before .before .before .before .before .before in
+    let g = c .before .before .before .before .before .before .before .before .before .before .before .before .before .before .before .before .before
+    .before .before .before .before .before .before .before .begin-shared in
     let x = c .before .before .before .before .before .before .extend in
-    answers-clash _ _ (s .pre .0) _ _ (s .pre .1 .0) _ _ _ (g .ensures) (c .before .before .before .before .before .before .before .before .before .before .before .before .before .before .before .before .before .before .before .before .if1 .left) _ _ _ _ _ (x .ensures) (c .enum-told .given .1)
+    answers-clash _ _ (s .pre .0) _ _ (s .pre .1 .0) _ _ _ (g .ensures)
+    (c .before .before .before .before .before .before .before .before .before .before .before .before .before .before .before .before .before .before
+    .before .before .if1 .left) _ _ _ _ _ (x .ensures) (c .enum-told .given .1)
 
 same-length-5 : tie.Need-same-length-5
 same-length-5 c = search needs
@@ -114,13 +149,20 @@ same-length-7 c = search needs
 
 returns-3 : tie.Need-returns-3
 returns-3 c =
-    let s = c .before .before .before .before .before .before .before .before .before .before .before .before .before .before .before .before .before .before .before .before .before .before .before .before .before .before .before .before .before .before .before .before in
-    let g = c .before .before .before .before .before .before .before .before .before .before .before .before .before .before .before .before .before .before .before .before .before .before .before .before .begin-shared in
+    let s = c .before .before .before .before .before .before .before .before .before .before .before .before .before .before .before .before .before
+    .before .before .before .before .before .before .before .before .before .before .before .before .before .before .before in
+    let g = c .before .before .before .before .before .before .before .before .before .before .before .before .before .before .before .before .before
+    .before .before .before .before .before .before .before .begin-shared in
     let x = c .before .before .before .before .before .before .extend in
-    answers-occurs _ _ (s .pre .0) _ _ (s .pre .1 .0) _ _ _ (g .ensures) (c .before .before .before .before .before .before .before .before .before .before .before .before .before .before .before .before .before .before .before .before .if1 .left) _ _ _ _ _ (x .ensures) (c .enum-told2 .given .1)
+    answers-occurs _ _ (s .pre .0) _ _ (s .pre .1 .0) _ _ _ (g .ensures)
+    (c .before .before .before .before .before .before .before .before .before .before .before .before .before .before .before .before .before .before
+    .before .before .if1 .left) _ _ _ _ _ (x .ensures) (c .enum-told2 .given .1)
 
 same-length-8 : tie.Need-same-length-8
-same-length-8 c = c .before .before .before .before .before .before .before .before .before .before .before .before .before .before .before .extend .kept .1 .1 .1 .0 ∙ c .before .before .before .before .before .before .before .before .before .before .before .before .before .before .before .before .before .before .before .before .before .before .before .before .before .before .before .before .before .before .before .before .before .begin-shared .kept .1 .1 .0
+same-length-8 c = c .before .before .before .before .before .before .before .before .before .before .before .before .before .before .before .extend
+    .kept .1 .1 .1 .0 ∙ c .before .before .before .before .before .before .before .before .before .before .before .before .before .before .before
+    .before .before .before .before .before .before .before .before .before .before .before .before .before .before .before .before .before .before
+    .begin-shared .kept .1 .1 .0
 
 same-length-9 : tie.Need-same-length-9
 same-length-9 c = search needs
@@ -133,11 +175,17 @@ same-length-11 c = search needs
 
 returns-4 : tie.Need-returns-4
 returns-4 c =
-    let s = c .before .before .before .before .before .before .before .before .before .before .before .before .before .before .before .before .before .before .before .before .before .before .before .before .before .before .before .before .before .before .before .before .before .before .before .before .before .before .before .before .before in
-    let g = c .before .before .before .before .before .before .before .before .before .before .before .before .before .before .before .before .before .before .before .before .before .before .before .before .before .before .before .before .before .before .before .before .before .begin-shared in
+    let s = c .before .before .before .before .before .before .before .before .before .before .before .before .before .before .before .before .before
+    .before .before .before .before .before .before .before .before .before .before .before .before .before .before .before .before .before .before
+    .before .before .before .before .before .before in
+    let g = c .before .before .before .before .before .before .before .before .before .before .before .before .before .before .before .before .before
+    .before .before .before .before .before .before .before .before .before .before .before .before .before .before .before .before .begin-shared in
     let x = c .before .before .before .before .before .before .before .before .before .before .before .before .before .before .before .extend in
     let e = c .before .before .before .before .before .before .before .before .before .enum-told3 .given .1 in
-    answers-unified _ _ (s .pre .0) _ _ (s .pre .1 .0) _ _ _ (g .ensures) (c .before .before .before .before .before .before .before .before .before .before .before .before .before .before .before .before .before .before .before .before .before .before .before .before .before .before .before .before .before .if1 .left) _ _ _ _ _ (x .ensures) e _ (c .before .before .bind .ensures)
+    answers-unified _ _ (s .pre .0) _ _ (s .pre .1 .0) _ _ _ (g .ensures)
+    (c .before .before .before .before .before .before .before .before .before .before .before .before .before .before .before .before .before .before
+    .before .before .before .before .before .before .before .before .before .before .before .if1 .left) _ _ _ _ _ (x .ensures) e _
+    (c .before .before .bind .ensures)
 
 pub unify-with-room-spec : {M : Type 1} → statement M
 unify-with-room-spec =

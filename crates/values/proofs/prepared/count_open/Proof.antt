@@ -36,7 +36,8 @@ note-count-requires : tie.Need-note-count-requires Inv-loop μ-loop
 note-count-requires c κs =
     let s = c .before .before .before .before .before .before .before .before .before in
     let l = c .before .before .before .before .loop in
-    open-place _ _ _ _ (l .opens) (l .i) _ (s .pre .0) (l .inv .3) (omega (arith, l .inv .0, c .before .before .before .loop-test .taken)) (s .pre .1) (c .before .open-count .ensures)
+    open-place _ _ _ _ (l .opens) (l .i) _ (s .pre .0) (l .inv .3) (omega (arith, l .inv .0, c .before .before .before .loop-test .taken)) (s .pre .1)
+    (c .before .open-count .ensures)
 
 add-i : tie.Need-add-i Inv-loop μ-loop
 add-i c = search needs
@@ -48,8 +49,13 @@ loop-again : tie.Need-loop-again Inv-loop μ-loop
 loop-again c =
     let s = c .before .before .before .before .before .before .before .before .before .before .before .before in
     let l = c .before .before .before .before .before .before .before .loop in
-    let h = c .before .before .before .before .before .before .loop-test .taken in
-    (l .inv .0, l .inv .1, search needs, open-next _ _ _ _ (l .opens) (l .i) _ (s .pre .0) (l .inv .3) (omega (arith, l .inv .0, h)) (s .pre .1) (c .before .before .before .before .open-count .ensures) _ _ (c .before .before .note-count .ensures))
+    let h = c .before .before .before .before .before .before .loop-test .taken in (
+      l .inv .0,
+      l .inv .1,
+      search needs,
+      open-next _ _ _ _ (l .opens) (l .i) _ (s .pre .0) (l .inv .3) (omega (arith, l .inv .0, h)) (s .pre .1)
+          (c .before .before .before .before .open-count .ensures) _ _ (c .before .before .note-count .ensures),
+    )
 
 same-length : tie.Need-same-length Inv-loop μ-loop
 same-length c = c .before .loop .inv .3 .size

@@ -1,12 +1,11 @@
+-- The proof of the cycle of calls {walk, walk_labels, walk_pair}. Each way round hands the branch on with one left term less to go, so the
+-- measure falls. Each way through the code is a law of the definition that mirrors it. Assumes nothing.
 use Prim.Native.Nat.{ℕ, suc, _≤_, _<_, _+_, _*_, _-_}
 use mathlib.Core.Path.{_≡_, refl, sym, ap, _∙_}
-use mathlib.Core.Bool.{Bool, true, false}
-use mathlib.Core.Logic.{⊎-elim}
-use mathlib.Core.List.{List, [], _∷_, _++_, map}
 use native.Mathlib.Omega.{arith}
 use borrow.Author.Needs.{needs}
-use borrow.Author.Tests.{eq-eqb, ne-eqb, lt-ltb, le-ltb, le-leb, lt-leb, not-true, not-false}
-use lib.ListN.{length, getD, set, take, drop, length-set}
+use borrow.Author.Tests.{not-true, not-false}
+use lib.ListN.{length}
 use Rattle.table.specs.Layout.{word}
 use Rattle.entries.specs.Code.Writing.{full}
 use Rattle.branches.specs.Code.Known.{rightCount, rightLabels}
@@ -67,6 +66,51 @@ abbrev walk-pair-below : ℕ → In 8 walk-pair-kinds.ps
 walk-pair-below t =
     and 8 walk-pair-kinds.ps (falls 8 walk-pair-kinds.ps _<_ μ-walk-pair t) walk-pair.Pre
 
+-- what is known of the functions that the three call
+abbrev walk-claims : ℕ → walk-lts.Claims
+walk-claims t = (
+  at-reads.Asked,
+  at-reads.Learnt,
+  write-leaf-reads.Asked,
+  write-leaf-reads.Learnt,
+  walk-pair-below t,
+  walk-pair.Post,
+  walk-labels-below t,
+  walk-labels.Post,
+)
+
+abbrev walk-labels-claims : ℕ → walk-labels-lts.Claims
+walk-labels-claims t = (
+  at-reads.Asked,
+  at-reads.Learnt,
+  can-complete-reads.Asked,
+  can-complete-reads.Learnt,
+  put-digit-reads.Asked,
+  put-digit-reads.Learnt,
+  walk-below t,
+  walk.Post,
+  repeat-reads.Asked,
+  repeat-reads.Learnt,
+)
+
+abbrev walk-pair-claims : ℕ → walk-pair-lts.Claims
+walk-pair-claims t = (
+  is-open-reads.Asked,
+  is-open-reads.Learnt,
+  join-pair-reads.Asked,
+  join-pair-reads.Learnt,
+  put-pair-reads.Asked,
+  put-pair-reads.Learnt,
+  with-pair-reads.Asked,
+  with-pair-reads.Learnt,
+  walk-below t,
+  walk.Post,
+  put-back-reads.Asked,
+  put-back-reads.Learnt,
+  undo-reads.Asked,
+  undo-reads.Learnt,
+)
+
 abbrev walk-Inv-loop : walk-lts.InvT-loop
 walk-Inv-loop nodes arguments known can heads₀ next₀ entry₀ out₀ at i paired m used₀ d₀ heads next entry out used d =
     (m ≡ rightCount known) × (heads ≡ heads₀) × (next ≡ next₀) × Turning nodes arguments known heads₀ entry₀ out₀ i d₀ at d entry out used
@@ -75,431 +119,220 @@ abbrev walk-μ-loop : walk-lts.MeasureT-loop
 walk-μ-loop nodes arguments known can heads₀ next₀ entry₀ out₀ at i paired m used₀ d₀ heads next entry out used d =
     suc m - d
 
--- src/walk.rt:209:13
-walk-at-requires : (t : ℕ) → walk-lts.Need-at-requires (
-  at-reads.Asked,
-  at-reads.Learnt,
-  write-leaf-reads.Asked,
-  write-leaf-reads.Learnt,
-  walk-pair-below t,
-  walk-pair.Post,
-  walk-labels-below t,
-  walk-labels.Post,
-) (walk-at t) walk.Post walk-Inv-loop walk-μ-loop
+walk-at-requires : (t : ℕ) → walk-lts.Need-at-requires (walk-claims t) (walk-at t) walk.Post walk-Inv-loop walk-μ-loop
 walk-at-requires t c κs = search needs
 
--- src/walk.rt:210:9
-walk-write-leaf-requires : (t : ℕ) → walk-lts.Need-write-leaf-requires (
-  at-reads.Asked,
-  at-reads.Learnt,
-  write-leaf-reads.Asked,
-  write-leaf-reads.Learnt,
-  walk-pair-below t,
-  walk-pair.Post,
-  walk-labels-below t,
-  walk-labels.Post,
-) (walk-at t) walk.Post walk-Inv-loop walk-μ-loop
+walk-write-leaf-requires : (t : ℕ) → walk-lts.Need-write-leaf-requires (walk-claims t) (walk-at t) walk.Post walk-Inv-loop walk-μ-loop
 walk-write-leaf-requires t c κs =
     let s = c .before .before .before .before .before .before .before .before .before .before .before .before .before in
     let g = s .pre .1 in
     all-placed g (c .before .before .before .if1 .taken ∙ c .before .before .before .before .at .ensures .0)
 
--- src/walk.rt:210:9
-walk-same-length : (t : ℕ) → walk-lts.Need-same-length (
-  at-reads.Asked,
-  at-reads.Learnt,
-  write-leaf-reads.Asked,
-  write-leaf-reads.Learnt,
-  walk-pair-below t,
-  walk-pair.Post,
-  walk-labels-below t,
-  walk-labels.Post,
-) (walk-at t) walk.Post walk-Inv-loop walk-μ-loop
+walk-same-length : (t : ℕ) → walk-lts.Need-same-length (walk-claims t) (walk-at t) walk.Post walk-Inv-loop walk-μ-loop
 walk-same-length t c = search needs
 
--- src/walk.rt:210:9
-walk-same-length-2 : (t : ℕ) → walk-lts.Need-same-length-2 (
-  at-reads.Asked,
-  at-reads.Learnt,
-  write-leaf-reads.Asked,
-  write-leaf-reads.Learnt,
-  walk-pair-below t,
-  walk-pair.Post,
-  walk-labels-below t,
-  walk-labels.Post,
-) (walk-at t) walk.Post walk-Inv-loop walk-μ-loop
+walk-same-length-2 : (t : ℕ) → walk-lts.Need-same-length-2 (walk-claims t) (walk-at t) walk.Post walk-Inv-loop walk-μ-loop
 walk-same-length-2 t c = search needs
 
--- src/walk.rt:210:9
-walk-same-length-3 : (t : ℕ) → walk-lts.Need-same-length-3 (
-  at-reads.Asked,
-  at-reads.Learnt,
-  write-leaf-reads.Asked,
-  write-leaf-reads.Learnt,
-  walk-pair-below t,
-  walk-pair.Post,
-  walk-labels-below t,
-  walk-labels.Post,
-) (walk-at t) walk.Post walk-Inv-loop walk-μ-loop
+walk-same-length-3 : (t : ℕ) → walk-lts.Need-same-length-3 (walk-claims t) (walk-at t) walk.Post walk-Inv-loop walk-μ-loop
 walk-same-length-3 t c = search needs
 
--- src/walk.rt:210:9
-walk-returns : (t : ℕ) → walk-lts.Need-returns (
-  at-reads.Asked,
-  at-reads.Learnt,
-  write-leaf-reads.Asked,
-  write-leaf-reads.Learnt,
-  walk-pair-below t,
-  walk-pair.Post,
-  walk-labels-below t,
-  walk-labels.Post,
-) (walk-at t) walk.Post walk-Inv-loop walk-μ-loop
+walk-returns : (t : ℕ) → walk-lts.Need-returns (walk-claims t) (walk-at t) walk.Post walk-Inv-loop walk-μ-loop
 walk-returns t c =
-    let s = c .before .before .before .before .before .before .before .before .before .before .before .before .before .before .before .before .before .before in
-    let g = s .pre .1 in
-    (placed-walked g (c .before .before .before .before .before .before .before .before .if1 .taken ∙ c .before .before .before .before .before .before .before .before .before .at .ensures .0) (c .before .before .before .before .write-leaf .ensures), (refl, refl))
+    let s = c .before .before .before .before .before .before .before .before .before .before .before .before .before .before .before .before .before
+    .before in
+    let g = s .pre .1 in (
+      placed-walked g (c .before .before .before .before .before .before .before .before .if1 .taken
+          ∙ c .before .before .before .before .before .before .before .before .before .at .ensures .0)
+          (c .before .before .before .before .write-leaf .ensures),
+      (refl, refl),
+    )
 
--- src/walk.rt:212:9
-walk-at-requires-2 : (t : ℕ) → walk-lts.Need-at-requires-2 (
-  at-reads.Asked,
-  at-reads.Learnt,
-  write-leaf-reads.Asked,
-  write-leaf-reads.Learnt,
-  walk-pair-below t,
-  walk-pair.Post,
-  walk-labels-below t,
-  walk-labels.Post,
-) (walk-at t) walk.Post walk-Inv-loop walk-μ-loop
+walk-at-requires-2 : (t : ℕ) → walk-lts.Need-at-requires-2 (walk-claims t) (walk-at t) walk.Post walk-Inv-loop walk-μ-loop
 walk-at-requires-2 t c κs = search needs
 
--- src/walk.rt:215:5
-walk-loop-holds : (t : ℕ) → walk-lts.Need-loop-holds (
-  at-reads.Asked,
-  at-reads.Learnt,
-  write-leaf-reads.Asked,
-  write-leaf-reads.Learnt,
-  walk-pair-below t,
-  walk-pair.Post,
-  walk-labels-below t,
-  walk-labels.Post,
-) (walk-at t) walk.Post walk-Inv-loop walk-μ-loop
+walk-loop-holds : (t : ℕ) → walk-lts.Need-loop-holds (walk-claims t) (walk-at t) walk.Post walk-Inv-loop walk-μ-loop
 walk-loop-holds t c =
     let s = c .before .before .before .before .before .before .before .before .before .before .before in
     let g = s .pre .1 in
     (c .at2 .ensures .0, refl, refl, turning-first g (going-on g (λ z. c .before .if1 .left (z ∙ sym (c .before .before .at .ensures .0)))))
 
--- src/walk.rt:216:9
-walk-walk-pair-requires : (t : ℕ) → walk-lts.Need-walk-pair-requires (
-  at-reads.Asked,
-  at-reads.Learnt,
-  write-leaf-reads.Asked,
-  write-leaf-reads.Learnt,
-  walk-pair-below t,
-  walk-pair.Post,
-  walk-labels-below t,
-  walk-labels.Post,
-) (walk-at t) walk.Post walk-Inv-loop walk-μ-loop
+walk-walk-pair-requires : (t : ℕ) → walk-lts.Need-walk-pair-requires (walk-claims t) (walk-at t) walk.Post walk-Inv-loop walk-μ-loop
 walk-walk-pair-requires t c κs =
-    let s = c .before .before .before .before .before .before .before .before .before .before .before .before .before .before .before .before .before in
+    let s = c .before .before .before .before .before .before .before .before .before .before .before .before .before .before .before .before .before
+    in
     let g = s .pre .1 in
     let l = c .before .before .before .before .before .loop .inv in
-    let h = going-on g (λ z. c .before .before .before .before .before .before .before .if1 .left (z ∙ sym (c .before .before .before .before .before .before .before .before .at .ensures .0))) in
-    (omega (arith, s .pre .0), (turning-walking g h (l .3) (l .1) (l .2), (h, omega (arith, l .0, c .before .before .before .before .loop-test .taken))))
+    let h = going-on g (λ z. c .before .before .before .before .before .before .before .if1 .left
+    (z ∙ sym (c .before .before .before .before .before .before .before .before .at .ensures .0))) in (
+      omega (arith, s .pre .0),
+      (
+        turning-walking g h (l .3) (l .1) (l .2),
+        (
+          h,
+          omega (
+            arith,
+            l .0,
+            c .before .before .before .before .loop-test
+                .taken,
+          ),
+        ),
+      ),
+    )
 
--- src/walk.rt:233:13
-walk-same-length-4 : (t : ℕ) → walk-lts.Need-same-length-4 (
-  at-reads.Asked,
-  at-reads.Learnt,
-  write-leaf-reads.Asked,
-  write-leaf-reads.Learnt,
-  walk-pair-below t,
-  walk-pair.Post,
-  walk-labels-below t,
-  walk-labels.Post,
-) (walk-at t) walk.Post walk-Inv-loop walk-μ-loop
+walk-same-length-4 : (t : ℕ) → walk-lts.Need-same-length-4 (walk-claims t) (walk-at t) walk.Post walk-Inv-loop walk-μ-loop
 walk-same-length-4 t c =
-    let s = c .before .before .before .before .before .before .before .before .before .before .before .before .before .before .before .before .before .before .before .before .before .before .before .before .before .before .before in
+    let s = c .before .before .before .before .before .before .before .before .before .before .before .before .before .before .before .before .before
+    .before .before .before .before .before .before .before .before .before .before in
     let g = s .pre .1 in
     let l = c .before .before .before .before .before .before .before .before .before .before .before .before .before .before .before .loop .inv in
     let y = c .before .before .before .before .before .before .before .before .before .walk-pair .ensures in
     ap length (y .1 .0 ∙ l .1)
 
--- src/walk.rt:233:13
-walk-same-length-5 : (t : ℕ) → walk-lts.Need-same-length-5 (
-  at-reads.Asked,
-  at-reads.Learnt,
-  write-leaf-reads.Asked,
-  write-leaf-reads.Learnt,
-  walk-pair-below t,
-  walk-pair.Post,
-  walk-labels-below t,
-  walk-labels.Post,
-) (walk-at t) walk.Post walk-Inv-loop walk-μ-loop
+walk-same-length-5 : (t : ℕ) → walk-lts.Need-same-length-5 (walk-claims t) (walk-at t) walk.Post walk-Inv-loop walk-μ-loop
 walk-same-length-5 t c =
-    let s = c .before .before .before .before .before .before .before .before .before .before .before .before .before .before .before .before .before .before .before .before .before .before .before .before .before .before .before in
+    let s = c .before .before .before .before .before .before .before .before .before .before .before .before .before .before .before .before .before
+    .before .before .before .before .before .before .before .before .before .before in
     let g = s .pre .1 in
     let l = c .before .before .before .before .before .before .before .before .before .before .before .before .before .before .before .loop .inv in
     let y = c .before .before .before .before .before .before .before .before .before .walk-pair .ensures in
     ap length (y .1 .1 ∙ l .2)
 
--- src/walk.rt:233:13
-walk-same-length-6 : (t : ℕ) → walk-lts.Need-same-length-6 (
-  at-reads.Asked,
-  at-reads.Learnt,
-  write-leaf-reads.Asked,
-  write-leaf-reads.Learnt,
-  walk-pair-below t,
-  walk-pair.Post,
-  walk-labels-below t,
-  walk-labels.Post,
-) (walk-at t) walk.Post walk-Inv-loop walk-μ-loop
+walk-same-length-6 : (t : ℕ) → walk-lts.Need-same-length-6 (walk-claims t) (walk-at t) walk.Post walk-Inv-loop walk-μ-loop
 walk-same-length-6 t c =
-    let s = c .before .before .before .before .before .before .before .before .before .before .before .before .before .before .before .before .before .before .before .before .before .before .before .before .before .before .before in
+    let s = c .before .before .before .before .before .before .before .before .before .before .before .before .before .before .before .before .before
+    .before .before .before .before .before .before .before .before .before .before in
     let g = s .pre .1 in
     let l = c .before .before .before .before .before .before .before .before .before .before .before .before .before .before .before .loop .inv in
     let y = c .before .before .before .before .before .before .before .before .before .walk-pair .ensures in
     y .0 .keeps .size ∙ l .3 .keeps .size
 
--- src/walk.rt:233:13
-walk-same-length-7 : (t : ℕ) → walk-lts.Need-same-length-7 (
-  at-reads.Asked,
-  at-reads.Learnt,
-  write-leaf-reads.Asked,
-  write-leaf-reads.Learnt,
-  walk-pair-below t,
-  walk-pair.Post,
-  walk-labels-below t,
-  walk-labels.Post,
-) (walk-at t) walk.Post walk-Inv-loop walk-μ-loop
+walk-same-length-7 : (t : ℕ) → walk-lts.Need-same-length-7 (walk-claims t) (walk-at t) walk.Post walk-Inv-loop walk-μ-loop
 walk-same-length-7 t c = search needs
 
--- src/walk.rt:233:13
-walk-returns-2 : (t : ℕ) → walk-lts.Need-returns-2 (
-  at-reads.Asked,
-  at-reads.Learnt,
-  write-leaf-reads.Asked,
-  write-leaf-reads.Learnt,
-  walk-pair-below t,
-  walk-pair.Post,
-  walk-labels-below t,
-  walk-labels.Post,
-) (walk-at t) walk.Post walk-Inv-loop walk-μ-loop
+walk-returns-2 : (t : ℕ) → walk-lts.Need-returns-2 (walk-claims t) (walk-at t) walk.Post walk-Inv-loop walk-μ-loop
 walk-returns-2 t c =
-    let s = c .before .before .before .before .before .before .before .before .before .before .before .before .before .before .before .before .before .before .before .before .before .before .before .before .before .before .before in
+    let s = c .before .before .before .before .before .before .before .before .before .before .before .before .before .before .before .before .before
+    .before .before .before .before .before .before .before .before .before .before in
     let g = s .pre .1 in
     let l = c .before .before .before .before .before .before .before .before .before .before .before .before .before .before .before .loop .inv in
-    let h = going-on g (λ z. c .before .before .before .before .before .before .before .before .before .before .before .before .before .before .before .before .before .if1 .left (z ∙ sym (c .before .before .before .before .before .before .before .before .before .before .before .before .before .before .before .before .before .before .at .ensures .0))) in
+    let h = going-on g (λ z. c .before .before .before .before .before .before .before .before .before .before .before .before .before .before .before
+    .before .before .if1 .left (z ∙ sym (c .before .before .before .before .before .before .before .before .before .before .before .before .before
+    .before .before .before .before .before .at .ensures .0))) in
     let b : length (s .args .out .now) < full = search needs in
-    let y = c .before .before .before .before .before .before .before .before .before .walk-pair .ensures in
-    (turning-full g h (l .3) (l .1) (omega (arith, l .0, c .before .before .before .before .before .before .before .before .before .before .before .before .before .before .loop-test .taken)) (y .0) b (c .if2 .taken), (y .1 .0 ∙ l .1, y .1 .1 ∙ l .2))
+    let y = c .before .before .before .before .before .before .before .before .before .walk-pair .ensures in (
+      turning-full g h (l .3) (l .1) (omega (
+        arith,
+        l .0,
+        c .before .before .before .before .before .before .before .before .before .before .before
+            .before .before .before .loop-test .taken,
+      )) (y .0) b (c .if2 .taken),
+      (y .1 .0 ∙ l .1, y .1 .1 ∙ l .2),
+    )
 
--- src/walk.rt:235:9
-walk-add-d : (t : ℕ) → walk-lts.Need-add-d (
-  at-reads.Asked,
-  at-reads.Learnt,
-  write-leaf-reads.Asked,
-  write-leaf-reads.Learnt,
-  walk-pair-below t,
-  walk-pair.Post,
-  walk-labels-below t,
-  walk-labels.Post,
-) (walk-at t) walk.Post walk-Inv-loop walk-μ-loop
+walk-add-d : (t : ℕ) → walk-lts.Need-add-d (walk-claims t) (walk-at t) walk.Post walk-Inv-loop walk-μ-loop
 walk-add-d t c = search needs
 
--- src/walk.rt:215:5
-walk-loop-less : (t : ℕ) → walk-lts.Need-loop-less (
-  at-reads.Asked,
-  at-reads.Learnt,
-  write-leaf-reads.Asked,
-  write-leaf-reads.Learnt,
-  walk-pair-below t,
-  walk-pair.Post,
-  walk-labels-below t,
-  walk-labels.Post,
-) (walk-at t) walk.Post walk-Inv-loop walk-μ-loop
+walk-loop-less : (t : ℕ) → walk-lts.Need-loop-less (walk-claims t) (walk-at t) walk.Post walk-Inv-loop walk-μ-loop
 walk-loop-less t c = search needs
 
--- src/walk.rt:215:5
-walk-loop-again : (t : ℕ) → walk-lts.Need-loop-again (
-  at-reads.Asked,
-  at-reads.Learnt,
-  write-leaf-reads.Asked,
-  write-leaf-reads.Learnt,
-  walk-pair-below t,
-  walk-pair.Post,
-  walk-labels-below t,
-  walk-labels.Post,
-) (walk-at t) walk.Post walk-Inv-loop walk-μ-loop
+walk-loop-again : (t : ℕ) → walk-lts.Need-loop-again (walk-claims t) (walk-at t) walk.Post walk-Inv-loop walk-μ-loop
 walk-loop-again t c =
-    let s = c .before .before .before .before .before .before .before .before .before .before .before .before .before .before .before .before .before .before .before .before .before .before .before .before .before .before .before in
+    let s = c .before .before .before .before .before .before .before .before .before .before .before .before .before .before .before .before .before
+    .before .before .before .before .before .before .before .before .before .before in
     let g = s .pre .1 in
     let l = c .before .before .before .before .before .before .before .before .before .before .before .before .before .before .before .loop .inv in
-    let h = going-on g (λ z. c .before .before .before .before .before .before .before .before .before .before .before .before .before .before .before .before .before .if1 .left (z ∙ sym (c .before .before .before .before .before .before .before .before .before .before .before .before .before .before .before .before .before .before .at .ensures .0))) in
-    let y = c .before .before .before .before .before .before .before .before .before .walk-pair .ensures in
-    (l .0, y .1 .0 ∙ l .1, y .1 .1 ∙ l .2, turning-next g h (l .3) (l .1) (omega (arith, l .0, c .before .before .before .before .before .before .before .before .before .before .before .before .before .before .loop-test .taken)) (y .0) (c .if2 .left))
+    let h = going-on g (λ z. c .before .before .before .before .before .before .before .before .before .before .before .before .before .before .before
+    .before .before .if1 .left (z ∙ sym (c .before .before .before .before .before .before .before .before .before .before .before .before .before
+    .before .before .before .before .before .at .ensures .0))) in
+    let y = c .before .before .before .before .before .before .before .before .before .walk-pair .ensures in (
+      l .0,
+      y .1 .0 ∙ l .1,
+      y .1 .1 ∙ l .2,
+      turning-next g h (l .3) (l .1)
+          (omega (
+            arith,
+            l .0,
+            c .before .before .before .before .before .before .before .before .before .before .before .before .before .before .loop-test
+                .taken,
+          )) (y .0) (c .if2 .left),
+    )
 
--- src/walk.rt:237:5
-walk-walk-labels-requires : (t : ℕ) → walk-lts.Need-walk-labels-requires (
-  at-reads.Asked,
-  at-reads.Learnt,
-  write-leaf-reads.Asked,
-  write-leaf-reads.Learnt,
-  walk-pair-below t,
-  walk-pair.Post,
-  walk-labels-below t,
-  walk-labels.Post,
-) (walk-at t) walk.Post walk-Inv-loop walk-μ-loop
+walk-walk-labels-requires : (t : ℕ) → walk-lts.Need-walk-labels-requires (walk-claims t) (walk-at t) walk.Post walk-Inv-loop walk-μ-loop
 walk-walk-labels-requires t c κs =
-    let s = c .before .before .before .before .before .before .before .before .before .before .before .before .before .before .before .before .before in
+    let s = c .before .before .before .before .before .before .before .before .before .before .before .before .before .before .before .before .before
+    in
     let g = s .pre .1 in
     let l = c .before .before .before .before .before .loop .inv in
-    let h = going-on g (λ z. c .before .before .before .before .before .before .before .if1 .left (z ∙ sym (c .before .before .before .before .before .before .before .before .at .ensures .0))) in
-    (omega (arith, s .pre .0), (turning-walking g h (l .3) (l .1) (l .2), (h, omega (arith, l .0, c .before .before .before .before .loop-test .left))))
+    let h = going-on g (λ z. c .before .before .before .before .before .before .before .if1 .left
+    (z ∙ sym (c .before .before .before .before .before .before .before .before .at .ensures .0))) in (
+      omega (arith, s .pre .0),
+      (
+        turning-walking g h (l .3) (l .1) (l .2),
+        (
+          h,
+          omega (
+            arith,
+            l .0,
+            c .before .before .before .before .loop-test
+                .left,
+          ),
+        ),
+      ),
+    )
 
--- src/walk.rt:191:1
-walk-same-length-8 : (t : ℕ) → walk-lts.Need-same-length-8 (
-  at-reads.Asked,
-  at-reads.Learnt,
-  write-leaf-reads.Asked,
-  write-leaf-reads.Learnt,
-  walk-pair-below t,
-  walk-pair.Post,
-  walk-labels-below t,
-  walk-labels.Post,
-) (walk-at t) walk.Post walk-Inv-loop walk-μ-loop
+walk-same-length-8 : (t : ℕ) → walk-lts.Need-same-length-8 (walk-claims t) (walk-at t) walk.Post walk-Inv-loop walk-μ-loop
 walk-same-length-8 t c =
-    let s = c .before .before .before .before .before .before .before .before .before .before .before .before .before .before .before .before .before .before .before .before .before .before .before .before .before .before in
+    let s = c .before .before .before .before .before .before .before .before .before .before .before .before .before .before .before .before .before
+    .before .before .before .before .before .before .before .before .before in
     let g = s .pre .1 in
     let l = c .before .before .before .before .before .before .before .before .before .before .before .before .before .before .loop .inv in
     let y = c .before .before .before .before .before .before .before .before .walk-labels .ensures in
     ap length (y .1 .0 ∙ l .1)
 
--- src/walk.rt:191:1
-walk-same-length-9 : (t : ℕ) → walk-lts.Need-same-length-9 (
-  at-reads.Asked,
-  at-reads.Learnt,
-  write-leaf-reads.Asked,
-  write-leaf-reads.Learnt,
-  walk-pair-below t,
-  walk-pair.Post,
-  walk-labels-below t,
-  walk-labels.Post,
-) (walk-at t) walk.Post walk-Inv-loop walk-μ-loop
+walk-same-length-9 : (t : ℕ) → walk-lts.Need-same-length-9 (walk-claims t) (walk-at t) walk.Post walk-Inv-loop walk-μ-loop
 walk-same-length-9 t c =
-    let s = c .before .before .before .before .before .before .before .before .before .before .before .before .before .before .before .before .before .before .before .before .before .before .before .before .before .before in
+    let s = c .before .before .before .before .before .before .before .before .before .before .before .before .before .before .before .before .before
+    .before .before .before .before .before .before .before .before .before in
     let g = s .pre .1 in
     let l = c .before .before .before .before .before .before .before .before .before .before .before .before .before .before .loop .inv in
     let y = c .before .before .before .before .before .before .before .before .walk-labels .ensures in
     ap length (y .1 .1 ∙ l .2)
 
--- src/walk.rt:191:1
-walk-same-length-10 : (t : ℕ) → walk-lts.Need-same-length-10 (
-  at-reads.Asked,
-  at-reads.Learnt,
-  write-leaf-reads.Asked,
-  write-leaf-reads.Learnt,
-  walk-pair-below t,
-  walk-pair.Post,
-  walk-labels-below t,
-  walk-labels.Post,
-) (walk-at t) walk.Post walk-Inv-loop walk-μ-loop
+walk-same-length-10 : (t : ℕ) → walk-lts.Need-same-length-10 (walk-claims t) (walk-at t) walk.Post walk-Inv-loop walk-μ-loop
 walk-same-length-10 t c =
-    let s = c .before .before .before .before .before .before .before .before .before .before .before .before .before .before .before .before .before .before .before .before .before .before .before .before .before .before in
+    let s = c .before .before .before .before .before .before .before .before .before .before .before .before .before .before .before .before .before
+    .before .before .before .before .before .before .before .before .before in
     let g = s .pre .1 in
     let l = c .before .before .before .before .before .before .before .before .before .before .before .before .before .before .loop .inv in
     let y = c .before .before .before .before .before .before .before .before .walk-labels .ensures in
     y .0 .keeps .size ∙ l .3 .keeps .size
 
--- src/walk.rt:191:1
-walk-same-length-11 : (t : ℕ) → walk-lts.Need-same-length-11 (
-  at-reads.Asked,
-  at-reads.Learnt,
-  write-leaf-reads.Asked,
-  write-leaf-reads.Learnt,
-  walk-pair-below t,
-  walk-pair.Post,
-  walk-labels-below t,
-  walk-labels.Post,
-) (walk-at t) walk.Post walk-Inv-loop walk-μ-loop
+walk-same-length-11 : (t : ℕ) → walk-lts.Need-same-length-11 (walk-claims t) (walk-at t) walk.Post walk-Inv-loop walk-μ-loop
 walk-same-length-11 t c = search needs
 
--- src/walk.rt:191:1
-walk-returns-3 : (t : ℕ) → walk-lts.Need-returns-3 (
-  at-reads.Asked,
-  at-reads.Learnt,
-  write-leaf-reads.Asked,
-  write-leaf-reads.Learnt,
-  walk-pair-below t,
-  walk-pair.Post,
-  walk-labels-below t,
-  walk-labels.Post,
-) (walk-at t) walk.Post walk-Inv-loop walk-μ-loop
+walk-returns-3 : (t : ℕ) → walk-lts.Need-returns-3 (walk-claims t) (walk-at t) walk.Post walk-Inv-loop walk-μ-loop
 walk-returns-3 t c =
-    let s = c .before .before .before .before .before .before .before .before .before .before .before .before .before .before .before .before .before .before .before .before .before .before .before .before .before .before in
+    let s = c .before .before .before .before .before .before .before .before .before .before .before .before .before .before .before .before .before
+    .before .before .before .before .before .before .before .before .before in
     let g = s .pre .1 in
     let l = c .before .before .before .before .before .before .before .before .before .before .before .before .before .before .loop .inv in
-    let h = going-on g (λ z. c .before .before .before .before .before .before .before .before .before .before .before .before .before .before .before .before .if1 .left (z ∙ sym (c .before .before .before .before .before .before .before .before .before .before .before .before .before .before .before .before .before .at .ensures .0))) in
+    let h = going-on g (λ z. c .before .before .before .before .before .before .before .before .before .before .before .before .before .before .before
+    .before .if1 .left (z ∙ sym (c .before .before .before .before .before .before .before .before .before .before .before .before .before .before
+    .before .before .before .at .ensures .0))) in
     let y = c .before .before .before .before .before .before .before .before .walk-labels .ensures in
     (turning-done g h (l .3) (l .1) (y .0), (y .1 .0 ∙ l .1, y .1 .1 ∙ l .2))
 
--- src/walk.rt:160:16
-walk-labels-at-requires : (t : ℕ) → walk-labels-lts.Need-at-requires (
-  at-reads.Asked,
-  at-reads.Learnt,
-  can-complete-reads.Asked,
-  can-complete-reads.Learnt,
-  put-digit-reads.Asked,
-  put-digit-reads.Learnt,
-  walk-below t,
-  walk.Post,
-  repeat-reads.Asked,
-  repeat-reads.Learnt,
-) (walk-labels-at t) walk-labels.Post
+walk-labels-at-requires : (t : ℕ) → walk-labels-lts.Need-at-requires (walk-labels-claims t) (walk-labels-at t) walk-labels.Post
 walk-labels-at-requires t c κs = search needs
 
--- src/walk.rt:160:48
-walk-labels-at-requires-2 : (t : ℕ) → walk-labels-lts.Need-at-requires-2 (
-  at-reads.Asked,
-  at-reads.Learnt,
-  can-complete-reads.Asked,
-  can-complete-reads.Learnt,
-  put-digit-reads.Asked,
-  put-digit-reads.Learnt,
-  walk-below t,
-  walk.Post,
-  repeat-reads.Asked,
-  repeat-reads.Learnt,
-) (walk-labels-at t) walk-labels.Post
+walk-labels-at-requires-2 : (t : ℕ) → walk-labels-lts.Need-at-requires-2 (walk-labels-claims t) (walk-labels-at t) walk-labels.Post
 walk-labels-at-requires-2 t c κs = search needs
 
--- src/walk.rt:160:16
-walk-labels-add-last : (t : ℕ) → walk-labels-lts.Need-add-last (
-  at-reads.Asked,
-  at-reads.Learnt,
-  can-complete-reads.Asked,
-  can-complete-reads.Learnt,
-  put-digit-reads.Asked,
-  put-digit-reads.Learnt,
-  walk-below t,
-  walk.Post,
-  repeat-reads.Asked,
-  repeat-reads.Learnt,
-) (walk-labels-at t) walk-labels.Post
+walk-labels-add-last : (t : ℕ) → walk-labels-lts.Need-add-last (walk-labels-claims t) (walk-labels-at t) walk-labels.Post
 walk-labels-add-last t c = search needs
 
--- src/walk.rt:162:9
-walk-labels-returns : (t : ℕ) → walk-labels-lts.Need-returns (
-  at-reads.Asked,
-  at-reads.Learnt,
-  can-complete-reads.Asked,
-  can-complete-reads.Learnt,
-  put-digit-reads.Asked,
-  put-digit-reads.Learnt,
-  walk-below t,
-  walk.Post,
-  repeat-reads.Asked,
-  repeat-reads.Learnt,
-) (walk-labels-at t) walk-labels.Post
+walk-labels-returns : (t : ℕ) → walk-labels-lts.Need-returns (walk-labels-claims t) (walk-labels-at t) walk-labels.Post
 walk-labels-returns t c =
     let s = c .before .before .before .before .before .before .before .before .before .before .before in
     let g = s .pre .1 .0 in
@@ -507,19 +340,7 @@ walk-labels-returns t c =
     let l = s .pre .1 .1 .1 in
     (none-stepped g h l (omega (arith, c .if1 .taken, c .before .before .at .ensures .0, c .before .at2 .ensures .0)), (refl, refl))
 
--- src/walk.rt:164:9
-walk-labels-can-complete-requires : (t : ℕ) → walk-labels-lts.Need-can-complete-requires (
-  at-reads.Asked,
-  at-reads.Learnt,
-  can-complete-reads.Asked,
-  can-complete-reads.Learnt,
-  put-digit-reads.Asked,
-  put-digit-reads.Learnt,
-  walk-below t,
-  walk.Post,
-  repeat-reads.Asked,
-  repeat-reads.Learnt,
-) (walk-labels-at t) walk-labels.Post
+walk-labels-can-complete-requires : (t : ℕ) → walk-labels-lts.Need-can-complete-requires (walk-labels-claims t) (walk-labels-at t) walk-labels.Post
 walk-labels-can-complete-requires t c κs =
     let s = c .before .before .before .before .before .before .before .before .before .before .before in
     let g = s .pre .1 .0 in
@@ -527,19 +348,7 @@ walk-labels-can-complete-requires t c κs =
     let l = s .pre .1 .1 .1 in
     (g .completable .size, omega (arith, h, g .knows .left-few), paired-small g)
 
--- src/walk.rt:165:9
-walk-labels-returns-2 : (t : ℕ) → walk-labels-lts.Need-returns-2 (
-  at-reads.Asked,
-  at-reads.Learnt,
-  can-complete-reads.Asked,
-  can-complete-reads.Learnt,
-  put-digit-reads.Asked,
-  put-digit-reads.Learnt,
-  walk-below t,
-  walk.Post,
-  repeat-reads.Asked,
-  repeat-reads.Learnt,
-) (walk-labels-at t) walk-labels.Post
+walk-labels-returns-2 : (t : ℕ) → walk-labels-lts.Need-returns-2 (walk-labels-claims t) (walk-labels-at t) walk-labels.Post
 walk-labels-returns-2 t c =
     let s = c .before .before .before .before .before .before .before .before .before .before .before .before .before in
     let g = s .pre .1 .0 in
@@ -547,308 +356,180 @@ walk-labels-returns-2 t c =
     let l = s .pre .1 .1 .1 in
     (lost-stepped g h l (sym (c .before .can-complete .ensures) ∙ not-true _ (c .if2 .taken)), (refl, refl))
 
--- src/walk.rt:167:5
-walk-labels-put-digit-requires : (t : ℕ) → walk-labels-lts.Need-put-digit-requires (
-  at-reads.Asked,
-  at-reads.Learnt,
-  can-complete-reads.Asked,
-  can-complete-reads.Learnt,
-  put-digit-reads.Asked,
-  put-digit-reads.Learnt,
-  walk-below t,
-  walk.Post,
-  repeat-reads.Asked,
-  repeat-reads.Learnt,
-) (walk-labels-at t) walk-labels.Post
+walk-labels-put-digit-requires : (t : ℕ) → walk-labels-lts.Need-put-digit-requires (walk-labels-claims t) (walk-labels-at t) walk-labels.Post
 walk-labels-put-digit-requires t c κs =
     let s = c .before .before .before .before .before .before .before .before .before .before .before .before .before .before in
     let g = s .pre .1 .0 in
     let h = s .pre .1 .1 .0 in
-    let l = s .pre .1 .1 .1 in
-    (omega (arith, h, g .branching .size, g .knows .width), omega (arith, c .before .before .before .if1 .left, c .before .before .before .before .before .at .ensures .0, c .before .before .before .before .at2 .ensures .0, c .before .before .before .before .before .at .ensures .1, c .before .before .before .before .at2 .ensures .1))
+    let l = s .pre .1 .1 .1 in (
+      omega (arith, h, g .branching .size, g .knows .width),
+      omega (
+        arith,
+        c .before .before .before .if1 .left,
+        c .before .before .before .before .before .at .ensures .0,
+        c .before .before .before .before .at2
+            .ensures .0,
+        c .before .before .before .before .before .at .ensures .1,
+        c .before .before .before .before .at2 .ensures .1,
+      ),
+    )
 
--- src/walk.rt:178:19
-walk-labels-add-t16 : (t : ℕ) → walk-labels-lts.Need-add-t16 (
-  at-reads.Asked,
-  at-reads.Learnt,
-  can-complete-reads.Asked,
-  can-complete-reads.Learnt,
-  put-digit-reads.Asked,
-  put-digit-reads.Learnt,
-  walk-below t,
-  walk.Post,
-  repeat-reads.Asked,
-  repeat-reads.Learnt,
-) (walk-labels-at t) walk-labels.Post
+walk-labels-add-t16 : (t : ℕ) → walk-labels-lts.Need-add-t16 (walk-labels-claims t) (walk-labels-at t) walk-labels.Post
 walk-labels-add-t16 t c = search needs
 
--- src/walk.rt:168:9
-walk-labels-walk-requires : (t : ℕ) → walk-labels-lts.Need-walk-requires (
-  at-reads.Asked,
-  at-reads.Learnt,
-  can-complete-reads.Asked,
-  can-complete-reads.Learnt,
-  put-digit-reads.Asked,
-  put-digit-reads.Learnt,
-  walk-below t,
-  walk.Post,
-  repeat-reads.Asked,
-  repeat-reads.Learnt,
-) (walk-labels-at t) walk-labels.Post
+walk-labels-walk-requires : (t : ℕ) → walk-labels-lts.Need-walk-requires (walk-labels-claims t) (walk-labels-at t) walk-labels.Post
 walk-labels-walk-requires t c κs =
-    let s = c .before .before .before .before .before .before .before .before .before .before .before .before .before .before .before .before .before .before .before .before .before in
+    let s = c .before .before .before .before .before .before .before .before .before .before .before .before .before .before .before .before .before
+    .before .before .before .before in
     let g = s .pre .1 .0 in
     let h = s .pre .1 .1 .0 in
     let l = s .pre .1 .1 .1 in
     (omega (arith, s .pre .0, h), label-next g h l (c .before .before .before .before .before .before .put-digit .ensures))
 
--- src/walk.rt:185:9
-walk-labels-same-length : (t : ℕ) → walk-labels-lts.Need-same-length (
-  at-reads.Asked,
-  at-reads.Learnt,
-  can-complete-reads.Asked,
-  can-complete-reads.Learnt,
-  put-digit-reads.Asked,
-  put-digit-reads.Learnt,
-  walk-below t,
-  walk.Post,
-  repeat-reads.Asked,
-  repeat-reads.Learnt,
-) (walk-labels-at t) walk-labels.Post
+walk-labels-same-length : (t : ℕ) → walk-labels-lts.Need-same-length (walk-labels-claims t) (walk-labels-at t) walk-labels.Post
 walk-labels-same-length t c = search needs
 
--- src/walk.rt:185:9
-walk-labels-same-length-2 : (t : ℕ) → walk-labels-lts.Need-same-length-2 (
-  at-reads.Asked,
-  at-reads.Learnt,
-  can-complete-reads.Asked,
-  can-complete-reads.Learnt,
-  put-digit-reads.Asked,
-  put-digit-reads.Learnt,
-  walk-below t,
-  walk.Post,
-  repeat-reads.Asked,
-  repeat-reads.Learnt,
-) (walk-labels-at t) walk-labels.Post
+walk-labels-same-length-2 : (t : ℕ) → walk-labels-lts.Need-same-length-2 (walk-labels-claims t) (walk-labels-at t) walk-labels.Post
 walk-labels-same-length-2 t c = search needs
 
--- src/walk.rt:185:9
-walk-labels-same-length-3 : (t : ℕ) → walk-labels-lts.Need-same-length-3 (
-  at-reads.Asked,
-  at-reads.Learnt,
-  can-complete-reads.Asked,
-  can-complete-reads.Learnt,
-  put-digit-reads.Asked,
-  put-digit-reads.Learnt,
-  walk-below t,
-  walk.Post,
-  repeat-reads.Asked,
-  repeat-reads.Learnt,
-) (walk-labels-at t) walk-labels.Post
+walk-labels-same-length-3 : (t : ℕ) → walk-labels-lts.Need-same-length-3 (walk-labels-claims t) (walk-labels-at t) walk-labels.Post
 walk-labels-same-length-3 t c = search needs
 
--- src/walk.rt:185:9
-walk-labels-same-length-4 : (t : ℕ) → walk-labels-lts.Need-same-length-4 (
-  at-reads.Asked,
-  at-reads.Learnt,
-  can-complete-reads.Asked,
-  can-complete-reads.Learnt,
-  put-digit-reads.Asked,
-  put-digit-reads.Learnt,
-  walk-below t,
-  walk.Post,
-  repeat-reads.Asked,
-  repeat-reads.Learnt,
-) (walk-labels-at t) walk-labels.Post
+walk-labels-same-length-4 : (t : ℕ) → walk-labels-lts.Need-same-length-4 (walk-labels-claims t) (walk-labels-at t) walk-labels.Post
 walk-labels-same-length-4 t c = search needs
 
--- src/walk.rt:185:9
-walk-labels-returns-3 : (t : ℕ) → walk-labels-lts.Need-returns-3 (
-  at-reads.Asked,
-  at-reads.Learnt,
-  can-complete-reads.Asked,
-  can-complete-reads.Learnt,
-  put-digit-reads.Asked,
-  put-digit-reads.Learnt,
-  walk-below t,
-  walk.Post,
-  repeat-reads.Asked,
-  repeat-reads.Learnt,
-) (walk-labels-at t) walk-labels.Post
+walk-labels-returns-3 : (t : ℕ) → walk-labels-lts.Need-returns-3 (walk-labels-claims t) (walk-labels-at t) walk-labels.Post
 walk-labels-returns-3 t c =
-    let s = c .before .before .before .before .before .before .before .before .before .before .before .before .before .before .before .before .before .before .before .before .before .before .before .before .before .before .before .before .before .before .before in
+    let s = c .before .before .before .before .before .before .before .before .before .before .before .before .before .before .before .before .before
+    .before .before .before .before .before .before .before .before .before .before .before .before .before .before in
     let g = s .pre .1 .0 in
     let h = s .pre .1 .1 .0 in
     let l = s .pre .1 .1 .1 in
     let b : length (s .args .out .now) < full = search needs in
-    let y = c .before .before .before .before .before .before .before .before .before .walk .ensures in
-    (label-full g h l (c .before .before .before .before .before .before .before .before .before .before .before .before .before .before .before .before .put-digit .ensures) (omega (arith, c .before .before .before .before .before .before .before .before .before .before .before .before .before .before .before .before .before .before .before .before .if1 .left, c .before .before .before .before .before .before .before .before .before .before .before .before .before .before .before .before .before .before .before .before .before .before .at .ensures .0, c .before .before .before .before .before .before .before .before .before .before .before .before .before .before .before .before .before .before .before .before .before .at2 .ensures .0)) (y .0) b (c .if3 .taken), (y .1 .0, y .1 .1))
+    let y = c .before .before .before .before .before .before .before .before .before .walk .ensures in (
+      label-full g h l (c .before .before .before .before .before .before .before .before .before .before .before .before .before .before .before
+          .before .put-digit .ensures) (omega (
+            arith,
+            c .before .before .before .before .before .before .before .before .before .before .before .before
+                .before .before .before .before .before .before .before .before .if1 .left,
+            c .before .before .before .before .before .before .before .before
+                .before .before .before .before .before .before .before .before .before .before .before .before .before .before .at .ensures .0,
+            c .before .before
+                .before .before .before .before .before .before .before .before .before .before .before .before .before .before .before .before .before .before
+                .before .at2 .ensures .0,
+          )) (y .0) b (c .if3 .taken),
+      (y .1 .0, y .1 .1),
+    )
 
--- src/walk.rt:187:26
-walk-labels-at-requires-3 : (t : ℕ) → walk-labels-lts.Need-at-requires-3 (
-  at-reads.Asked,
-  at-reads.Learnt,
-  can-complete-reads.Asked,
-  can-complete-reads.Learnt,
-  put-digit-reads.Asked,
-  put-digit-reads.Learnt,
-  walk-below t,
-  walk.Post,
-  repeat-reads.Asked,
-  repeat-reads.Learnt,
-) (walk-labels-at t) walk-labels.Post
+walk-labels-at-requires-3 : (t : ℕ) → walk-labels-lts.Need-at-requires-3 (walk-labels-claims t) (walk-labels-at t) walk-labels.Post
 walk-labels-at-requires-3 t c κs =
-    let s = c .before .before .before .before .before .before .before .before .before .before .before .before .before .before .before .before .before .before .before .before .before .before .before .before .before .before .before .before .before .before .before .before in
+    let s = c .before .before .before .before .before .before .before .before .before .before .before .before .before .before .before .before .before
+    .before .before .before .before .before .before .before .before .before .before .before .before .before .before .before in
     let g = s .pre .1 .0 in
     let h = s .pre .1 .1 .0 in
     let l = s .pre .1 .1 .1 in
     omega (arith, g .knows .size)
 
--- src/walk.rt:187:5
-walk-labels-repeat-requires : (t : ℕ) → walk-labels-lts.Need-repeat-requires (
-  at-reads.Asked,
-  at-reads.Learnt,
-  can-complete-reads.Asked,
-  can-complete-reads.Learnt,
-  put-digit-reads.Asked,
-  put-digit-reads.Learnt,
-  walk-below t,
-  walk.Post,
-  repeat-reads.Asked,
-  repeat-reads.Learnt,
-) (walk-labels-at t) walk-labels.Post
+walk-labels-repeat-requires : (t : ℕ) → walk-labels-lts.Need-repeat-requires (walk-labels-claims t) (walk-labels-at t) walk-labels.Post
 walk-labels-repeat-requires t c κs =
-    let s = c .before .before .before .before .before .before .before .before .before .before .before .before .before .before .before .before .before .before .before .before .before .before .before .before .before .before .before .before .before .before .before .before .before in
+    let s = c .before .before .before .before .before .before .before .before .before .before .before .before .before .before .before .before .before
+    .before .before .before .before .before .before .before .before .before .before .before .before .before .before .before .before in
     let g = s .pre .1 .0 in
     let h = s .pre .1 .1 .0 in
     let l = s .pre .1 .1 .1 in
     let y = c .before .before .before .before .before .before .before .before .before .before .before .walk .ensures in
-    let t : s .args .position .least ≤ rightCount (s .args .known .now) + rightLabels (s .args .known .now) = omega (arith, c .before .before .before .before .before .before .before .before .before .before .before .before .before .before .before .before .before .before .before .before .before .before .if1 .left, c .before .before .before .before .before .before .before .before .before .before .before .before .before .before .before .before .before .before .before .before .before .before .before .before .at .ensures .0, c .before .before .before .before .before .before .before .before .before .before .before .before .before .before .before .before .before .before .before .before .before .before .before .at2 .ensures .0) in
-    let r = label-room g h l (c .before .before .before .before .before .before .before .before .before .before .before .before .before .before .before .before .before .before .put-digit .ensures) t (y .0) (c .before .before .if3 .left) in
-    (omega (arith, c .at3 .ensures .0, g .wide), omega (arith, c .at3 .ensures .0, h, g .knows .width), r .0, r .1, omega (arith, c .before .before .before .before .before .before .before .before .before .before .before .before .before .before .before .before .before .before .before .before .before .before .if1 .left), omega (arith, c .before .before .before .before .before .before .before .before .before .before .before .before .before .before .before .before .before .before .before .before .before .before .before .before .at .ensures .1, c .before .before .before .before .before .before .before .before .before .before .before .before .before .before .before .before .before .before .before .before .before .before .before .at2 .ensures .1))
+    let t : s .args .position .least ≤ rightCount (s .args .known .now) + rightLabels (s .args .known .now) = omega (
+      arith,
+      c .before .before .before .before .before .before .before .before .before .before .before .before .before .before .before .before .before
+          .before .before .before .before .before .if1 .left,
+      c .before .before .before .before .before .before .before .before .before .before .before
+          .before .before .before .before .before .before .before .before .before .before .before .before .before .at .ensures .0,
+      c .before .before .before
+          .before .before .before .before .before .before .before .before .before .before .before .before .before .before .before .before .before .before
+          .before .before .at2 .ensures .0,
+    ) in
+    let r = label-room g h l (c .before .before .before .before .before .before .before .before .before .before .before .before .before .before
+    .before .before .before .before .put-digit .ensures) t (y .0) (c .before .before .if3 .left) in (
+      omega (arith, c .at3 .ensures .0, g .wide),
+      omega (arith, c .at3 .ensures .0, h, g .knows .width),
+      r .0,
+      r .1,
+      omega (
+        arith,
+        c .before .before .before .before .before .before .before .before .before .before .before .before .before .before .before .before .before
+            .before .before .before .before .before .if1 .left,
+      ),
+      omega (
+        arith,
+        c .before .before .before .before .before .before .before .before .before .before .before .before .before .before .before .before .before
+            .before .before .before .before .before .before .before .at .ensures .1,
+        c .before .before .before .before .before .before .before .before .before
+            .before .before .before .before .before .before .before .before .before .before .before .before .before .before .at2 .ensures .1,
+      ),
+    )
 
--- src/walk.rt:140:1
-walk-labels-same-length-5 : (t : ℕ) → walk-labels-lts.Need-same-length-5 (
-  at-reads.Asked,
-  at-reads.Learnt,
-  can-complete-reads.Asked,
-  can-complete-reads.Learnt,
-  put-digit-reads.Asked,
-  put-digit-reads.Learnt,
-  walk-below t,
-  walk.Post,
-  repeat-reads.Asked,
-  repeat-reads.Learnt,
-) (walk-labels-at t) walk-labels.Post
+walk-labels-same-length-5 : (t : ℕ) → walk-labels-lts.Need-same-length-5 (walk-labels-claims t) (walk-labels-at t) walk-labels.Post
 walk-labels-same-length-5 t c = search needs
 
--- src/walk.rt:140:1
-walk-labels-same-length-6 : (t : ℕ) → walk-labels-lts.Need-same-length-6 (
-  at-reads.Asked,
-  at-reads.Learnt,
-  can-complete-reads.Asked,
-  can-complete-reads.Learnt,
-  put-digit-reads.Asked,
-  put-digit-reads.Learnt,
-  walk-below t,
-  walk.Post,
-  repeat-reads.Asked,
-  repeat-reads.Learnt,
-) (walk-labels-at t) walk-labels.Post
+walk-labels-same-length-6 : (t : ℕ) → walk-labels-lts.Need-same-length-6 (walk-labels-claims t) (walk-labels-at t) walk-labels.Post
 walk-labels-same-length-6 t c = search needs
 
--- src/walk.rt:140:1
-walk-labels-same-length-7 : (t : ℕ) → walk-labels-lts.Need-same-length-7 (
-  at-reads.Asked,
-  at-reads.Learnt,
-  can-complete-reads.Asked,
-  can-complete-reads.Learnt,
-  put-digit-reads.Asked,
-  put-digit-reads.Learnt,
-  walk-below t,
-  walk.Post,
-  repeat-reads.Asked,
-  repeat-reads.Learnt,
-) (walk-labels-at t) walk-labels.Post
+walk-labels-same-length-7 : (t : ℕ) → walk-labels-lts.Need-same-length-7 (walk-labels-claims t) (walk-labels-at t) walk-labels.Post
 walk-labels-same-length-7 t c = search needs
 
--- src/walk.rt:140:1
-walk-labels-same-length-8 : (t : ℕ) → walk-labels-lts.Need-same-length-8 (
-  at-reads.Asked,
-  at-reads.Learnt,
-  can-complete-reads.Asked,
-  can-complete-reads.Learnt,
-  put-digit-reads.Asked,
-  put-digit-reads.Learnt,
-  walk-below t,
-  walk.Post,
-  repeat-reads.Asked,
-  repeat-reads.Learnt,
-) (walk-labels-at t) walk-labels.Post
+walk-labels-same-length-8 : (t : ℕ) → walk-labels-lts.Need-same-length-8 (walk-labels-claims t) (walk-labels-at t) walk-labels.Post
 walk-labels-same-length-8 t c = search needs
 
--- src/walk.rt:140:1
-walk-labels-returns-4 : (t : ℕ) → walk-labels-lts.Need-returns-4 (
-  at-reads.Asked,
-  at-reads.Learnt,
-  can-complete-reads.Asked,
-  can-complete-reads.Learnt,
-  put-digit-reads.Asked,
-  put-digit-reads.Learnt,
-  walk-below t,
-  walk.Post,
-  repeat-reads.Asked,
-  repeat-reads.Learnt,
-) (walk-labels-at t) walk-labels.Post
+walk-labels-returns-4 : (t : ℕ) → walk-labels-lts.Need-returns-4 (walk-labels-claims t) (walk-labels-at t) walk-labels.Post
 walk-labels-returns-4 t c =
-    let s = c .before .before .before .before .before .before .before .before .before .before .before .before .before .before .before .before .before .before .before .before .before .before .before .before .before .before .before .before .before .before .before .before .before .before .before .before in
+    let s = c .before .before .before .before .before .before .before .before .before .before .before .before .before .before .before .before .before
+    .before .before .before .before .before .before .before .before .before .before .before .before .before .before .before .before .before .before
+    .before in
     let g = s .pre .1 .0 in
     let h = s .pre .1 .1 .0 in
     let l = s .pre .1 .1 .1 in
-    let y = c .before .before .before .before .before .before .before .before .before .before .before .before .before .before .walk .ensures in
-    (labels-stepped g h l (c .before .before .before .before .before .before .before .before .before .before .before .before .before .before .before .before .before .before .before .before .before .put-digit .ensures) (omega (arith, c .before .before .before .before .before .before .before .before .before .before .before .before .before .before .before .before .before .before .before .before .before .before .before .before .before .if1 .left, c .before .before .before .before .before .before .before .before .before .before .before .before .before .before .before .before .before .before .before .before .before .before .before .before .before .before .before .at .ensures .0, c .before .before .before .before .before .before .before .before .before .before .before .before .before .before .before .before .before .before .before .before .before .before .before .before .before .before .at2 .ensures .0)) (y .0) (c .before .before .before .before .before .if3 .left) (c .before .before .before .at3 .ensures .0) (omega (arith, c .before .before .before .before .before .before .before .before .before .before .before .before .before .before .before .before .before .before .before .before .before .before .before .before .before .before .before .at .ensures .0, c .before .before .before .before .before .before .before .before .before .before .before .before .before .before .before .before .before .before .before .before .before .before .before .before .before .before .at2 .ensures .0)) (c .before .before .repeat .ensures), (y .1 .0, y .1 .1))
+    let y = c .before .before .before .before .before .before .before .before .before .before .before .before .before .before .walk .ensures in (
+      labels-stepped g h l (c .before .before .before .before .before .before .before .before .before .before .before .before .before .before .before
+          .before .before .before .before .before .before .put-digit .ensures)
+          (omega (
+            arith,
+            c .before .before .before .before .before .before .before .before .before .before .before .before .before .before .before .before
+                .before .before .before .before .before .before .before .before .before .if1 .left,
+            c .before .before .before .before .before .before .before
+                .before .before .before .before .before .before .before .before .before .before .before .before .before .before .before .before .before .before
+                .before .before .at .ensures .0,
+            c .before .before .before .before .before .before .before .before .before .before .before .before .before .before
+                .before .before .before .before .before .before .before .before .before .before .before .before .at2 .ensures .0,
+          )) (y .0)
+          (c .before .before .before .before .before .if3 .left) (c .before .before .before .at3 .ensures .0)
+          (omega (
+            arith,
+            c .before .before .before .before .before .before .before .before .before .before .before .before .before .before .before .before
+                .before .before .before .before .before .before .before .before .before .before .before .at .ensures .0,
+            c .before .before .before .before .before
+                .before .before .before .before .before .before .before .before .before .before .before .before .before .before .before .before .before .before
+                .before .before .before .at2 .ensures .0,
+          )) (c .before .before .repeat .ensures),
+      (y .1 .0, y .1 .1),
+    )
 
--- src/walk.rt:109:9
-walk-pair-is-open-requires : (t : ℕ) → walk-pair-lts.Need-is-open-requires (
-  is-open-reads.Asked,
-  is-open-reads.Learnt,
-  join-pair-reads.Asked,
-  join-pair-reads.Learnt,
-  put-pair-reads.Asked,
-  put-pair-reads.Learnt,
-  with-pair-reads.Asked,
-  with-pair-reads.Learnt,
-  walk-below t,
-  walk.Post,
-  put-back-reads.Asked,
-  put-back-reads.Learnt,
-  undo-reads.Asked,
-  undo-reads.Learnt,
-) (walk-pair-at t) walk-pair.Post
+walk-pair-is-open-requires : (t : ℕ) → walk-pair-lts.Need-is-open-requires (walk-pair-claims t) (walk-pair-at t) walk-pair.Post
 walk-pair-is-open-requires t c κs =
     let s = c .before .before .before .before .before .before .before .before in
     let g = s .pre .1 .0 in
     let h = s .pre .1 .1 .0 in
-    let l = s .pre .1 .1 .1 in
-    ((g .knows .size, g .completable .size), (omega (arith, h, g .knows .left-few), g .positive, omega (arith, l, g .knows .right-few), paired-small g))
+    let l = s .pre .1 .1 .1 in (
+      (g .knows .size, g .completable .size),
+      (
+        omega (arith, h, g .knows .left-few),
+        g .positive,
+        omega (arith, l, g .knows .right-few),
+        paired-small
+            g,
+      ),
+    )
 
--- src/walk.rt:110:9
-walk-pair-returns : (t : ℕ) → walk-pair-lts.Need-returns (
-  is-open-reads.Asked,
-  is-open-reads.Learnt,
-  join-pair-reads.Asked,
-  join-pair-reads.Learnt,
-  put-pair-reads.Asked,
-  put-pair-reads.Learnt,
-  with-pair-reads.Asked,
-  with-pair-reads.Learnt,
-  walk-below t,
-  walk.Post,
-  put-back-reads.Asked,
-  put-back-reads.Learnt,
-  undo-reads.Asked,
-  undo-reads.Learnt,
-) (walk-pair-at t) walk-pair.Post
+walk-pair-returns : (t : ℕ) → walk-pair-lts.Need-returns (walk-pair-claims t) (walk-pair-at t) walk-pair.Post
 walk-pair-returns t c =
     let s = c .before .before .before .before .before .before .before .before .before .before in
     let g = s .pre .1 .0 in
@@ -856,23 +537,7 @@ walk-pair-returns t c =
     let l = s .pre .1 .1 .1 in
     (closed-stepped g h l (c .before .is-open .ensures) (not-true _ (c .if1 .taken)), (refl, refl))
 
--- src/walk.rt:112:16
-walk-pair-slice-read-mark : (t : ℕ) → walk-pair-lts.Need-slice-read-mark (
-  is-open-reads.Asked,
-  is-open-reads.Learnt,
-  join-pair-reads.Asked,
-  join-pair-reads.Learnt,
-  put-pair-reads.Asked,
-  put-pair-reads.Learnt,
-  with-pair-reads.Asked,
-  with-pair-reads.Learnt,
-  walk-below t,
-  walk.Post,
-  put-back-reads.Asked,
-  put-back-reads.Learnt,
-  undo-reads.Asked,
-  undo-reads.Learnt,
-) (walk-pair-at t) walk-pair.Post
+walk-pair-slice-read-mark : (t : ℕ) → walk-pair-lts.Need-slice-read-mark (walk-pair-claims t) (walk-pair-at t) walk-pair.Post
 walk-pair-slice-read-mark t c =
     let s = c .before .before .before .before .before .before .before .before .before .before .before in
     let g = s .pre .1 .0 in
@@ -880,23 +545,7 @@ walk-pair-slice-read-mark t c =
     let l = s .pre .1 .1 .1 in
     mark-room g
 
--- src/walk.rt:113:9
-walk-pair-join-pair-requires : (t : ℕ) → walk-pair-lts.Need-join-pair-requires (
-  is-open-reads.Asked,
-  is-open-reads.Learnt,
-  join-pair-reads.Asked,
-  join-pair-reads.Learnt,
-  put-pair-reads.Asked,
-  put-pair-reads.Learnt,
-  with-pair-reads.Asked,
-  with-pair-reads.Learnt,
-  walk-below t,
-  walk.Post,
-  put-back-reads.Asked,
-  put-back-reads.Learnt,
-  undo-reads.Asked,
-  undo-reads.Learnt,
-) (walk-pair-at t) walk-pair.Post
+walk-pair-join-pair-requires : (t : ℕ) → walk-pair-lts.Need-join-pair-requires (walk-pair-claims t) (walk-pair-at t) walk-pair.Post
 walk-pair-join-pair-requires t c κs =
     let s = c .before .before .before .before .before .before .before .before .before .before .before .before .before in
     let g = s .pre .1 .0 in
@@ -904,339 +553,191 @@ walk-pair-join-pair-requires t c κs =
     let l = s .pre .1 .1 .1 in
     (g .knows, ((g .formed, g .trailed), (h, g .positive, l)))
 
--- src/walk.rt:114:9
-walk-pair-same-length : (t : ℕ) → walk-pair-lts.Need-same-length (
-  is-open-reads.Asked,
-  is-open-reads.Learnt,
-  join-pair-reads.Asked,
-  join-pair-reads.Learnt,
-  put-pair-reads.Asked,
-  put-pair-reads.Learnt,
-  with-pair-reads.Asked,
-  with-pair-reads.Learnt,
-  walk-below t,
-  walk.Post,
-  put-back-reads.Asked,
-  put-back-reads.Learnt,
-  undo-reads.Asked,
-  undo-reads.Learnt,
-) (walk-pair-at t) walk-pair.Post
+walk-pair-same-length : (t : ℕ) → walk-pair-lts.Need-same-length (walk-pair-claims t) (walk-pair-at t) walk-pair.Post
 walk-pair-same-length t c = search needs
 
--- src/walk.rt:114:9
-walk-pair-same-length-2 : (t : ℕ) → walk-pair-lts.Need-same-length-2 (
-  is-open-reads.Asked,
-  is-open-reads.Learnt,
-  join-pair-reads.Asked,
-  join-pair-reads.Learnt,
-  put-pair-reads.Asked,
-  put-pair-reads.Learnt,
-  with-pair-reads.Asked,
-  with-pair-reads.Learnt,
-  walk-below t,
-  walk.Post,
-  put-back-reads.Asked,
-  put-back-reads.Learnt,
-  undo-reads.Asked,
-  undo-reads.Learnt,
-) (walk-pair-at t) walk-pair.Post
+walk-pair-same-length-2 : (t : ℕ) → walk-pair-lts.Need-same-length-2 (walk-pair-claims t) (walk-pair-at t) walk-pair.Post
 walk-pair-same-length-2 t c = search needs
 
--- src/walk.rt:114:9
-walk-pair-returns-2 : (t : ℕ) → walk-pair-lts.Need-returns-2 (
-  is-open-reads.Asked,
-  is-open-reads.Learnt,
-  join-pair-reads.Asked,
-  join-pair-reads.Learnt,
-  put-pair-reads.Asked,
-  put-pair-reads.Learnt,
-  with-pair-reads.Asked,
-  with-pair-reads.Learnt,
-  walk-below t,
-  walk.Post,
-  put-back-reads.Asked,
-  put-back-reads.Learnt,
-  undo-reads.Asked,
-  undo-reads.Learnt,
-) (walk-pair-at t) walk-pair.Post
+walk-pair-returns-2 : (t : ℕ) → walk-pair-lts.Need-returns-2 (walk-pair-claims t) (walk-pair-at t) walk-pair.Post
 walk-pair-returns-2 t c =
-    let s = c .before .before .before .before .before .before .before .before .before .before .before .before .before .before .before .before .before .before .before in
+    let s = c .before .before .before .before .before .before .before .before .before .before .before .before .before .before .before .before .before
+    .before .before in
     let g = s .pre .1 .0 in
     let h = s .pre .1 .1 .0 in
     let l = s .pre .1 .1 .1 in
     failed-stepped g h l (c .before .before .before .before .before .join-pair .ensures) (not-true _ (c .if2 .taken))
 
--- src/walk.rt:116:5
-walk-pair-put-pair-requires : (t : ℕ) → walk-pair-lts.Need-put-pair-requires (
-  is-open-reads.Asked,
-  is-open-reads.Learnt,
-  join-pair-reads.Asked,
-  join-pair-reads.Learnt,
-  put-pair-reads.Asked,
-  put-pair-reads.Learnt,
-  with-pair-reads.Asked,
-  with-pair-reads.Learnt,
-  walk-below t,
-  walk.Post,
-  put-back-reads.Asked,
-  put-back-reads.Learnt,
-  undo-reads.Asked,
-  undo-reads.Learnt,
-) (walk-pair-at t) walk-pair.Post
+walk-pair-put-pair-requires : (t : ℕ) → walk-pair-lts.Need-put-pair-requires (walk-pair-claims t) (walk-pair-at t) walk-pair.Post
 walk-pair-put-pair-requires t c κs =
-    let s = c .before .before .before .before .before .before .before .before .before .before .before .before .before .before .before .before .before .before .before .before in
+    let s = c .before .before .before .before .before .before .before .before .before .before .before .before .before .before .before .before .before
+    .before .before .before in
     let g = s .pre .1 .0 in
     let h = s .pre .1 .1 .0 in
-    let l = s .pre .1 .1 .1 in
-    (g .knows .size, omega (arith, h, g .branching .size, g .knows .width), g .positive, omega (arith, l, g .knows .right-few), omega (arith, l, g .branching .size, g .knows .width))
+    let l = s .pre .1 .1 .1 in (
+      g .knows .size,
+      omega (arith, h, g .branching .size, g .knows .width),
+      g .positive,
+      omega (arith, l, g .knows .right-few),
+      omega
+          (arith, l, g .branching .size, g .knows .width),
+    )
 
--- src/walk.rt:127:19
-walk-pair-add-t35 : (t : ℕ) → walk-pair-lts.Need-add-t35 (
-  is-open-reads.Asked,
-  is-open-reads.Learnt,
-  join-pair-reads.Asked,
-  join-pair-reads.Learnt,
-  put-pair-reads.Asked,
-  put-pair-reads.Learnt,
-  with-pair-reads.Asked,
-  with-pair-reads.Learnt,
-  walk-below t,
-  walk.Post,
-  put-back-reads.Asked,
-  put-back-reads.Learnt,
-  undo-reads.Asked,
-  undo-reads.Learnt,
-) (walk-pair-at t) walk-pair.Post
+walk-pair-add-t35 : (t : ℕ) → walk-pair-lts.Need-add-t35 (walk-pair-claims t) (walk-pair-at t) walk-pair.Post
 walk-pair-add-t35 t c =
-    let s = c .before .before .before .before .before .before .before .before .before .before .before .before .before .before .before .before .before .before .before .before .before .before .before .before .before .before .before in
+    let s = c .before .before .before .before .before .before .before .before .before .before .before .before .before .before .before .before .before
+    .before .before .before .before .before .before .before .before .before .before in
     let g = s .pre .1 .0 in
     let h = s .pre .1 .1 .0 in
     let l = s .pre .1 .1 .1 in
     omega (arith, h, g .knows .left-few)
 
--- src/walk.rt:129:21
-walk-pair-with-pair-requires : (t : ℕ) → walk-pair-lts.Need-with-pair-requires (
-  is-open-reads.Asked,
-  is-open-reads.Learnt,
-  join-pair-reads.Asked,
-  join-pair-reads.Learnt,
-  put-pair-reads.Asked,
-  put-pair-reads.Learnt,
-  with-pair-reads.Asked,
-  with-pair-reads.Learnt,
-  walk-below t,
-  walk.Post,
-  put-back-reads.Asked,
-  put-back-reads.Learnt,
-  undo-reads.Asked,
-  undo-reads.Learnt,
-) (walk-pair-at t) walk-pair.Post
+walk-pair-with-pair-requires : (t : ℕ) → walk-pair-lts.Need-with-pair-requires (walk-pair-claims t) (walk-pair-at t) walk-pair.Post
 walk-pair-with-pair-requires t c κs =
-    let s = c .before .before .before .before .before .before .before .before .before .before .before .before .before .before .before .before .before .before .before .before .before .before .before .before .before .before .before in
+    let s = c .before .before .before .before .before .before .before .before .before .before .before .before .before .before .before .before .before
+    .before .before .before .before .before .before .before .before .before .before in
     let g = s .pre .1 .0 in
     let h = s .pre .1 .1 .0 in
     let l = s .pre .1 .1 .1 in
     (g .positive, omega (arith, l, g .knows .right-few), paired-small g)
 
--- src/walk.rt:117:9
-walk-pair-walk-requires : (t : ℕ) → walk-pair-lts.Need-walk-requires (
-  is-open-reads.Asked,
-  is-open-reads.Learnt,
-  join-pair-reads.Asked,
-  join-pair-reads.Learnt,
-  put-pair-reads.Asked,
-  put-pair-reads.Learnt,
-  with-pair-reads.Asked,
-  with-pair-reads.Learnt,
-  walk-below t,
-  walk.Post,
-  put-back-reads.Asked,
-  put-back-reads.Learnt,
-  undo-reads.Asked,
-  undo-reads.Learnt,
-) (walk-pair-at t) walk-pair.Post
+walk-pair-walk-requires : (t : ℕ) → walk-pair-lts.Need-walk-requires (walk-pair-claims t) (walk-pair-at t) walk-pair.Post
 walk-pair-walk-requires t c κs =
-    let s = c .before .before .before .before .before .before .before .before .before .before .before .before .before .before .before .before .before .before .before .before .before .before .before .before .before .before .before .before in
+    let s = c .before .before .before .before .before .before .before .before .before .before .before .before .before .before .before .before .before
+    .before .before .before .before .before .before .before .before .before .before .before in
     let g = s .pre .1 .0 in
     let h = s .pre .1 .1 .0 in
     let l = s .pre .1 .1 .1 in
-    let f = open-free g h l (c .before .before .before .before .before .before .before .before .before .before .before .before .before .before .before .before .before .before .before .is-open .ensures) (not-false _ (c .before .before .before .before .before .before .before .before .before .before .before .before .before .before .before .before .before .before .if1 .left)) in
+    let f = open-free g h l (c .before .before .before .before .before .before .before .before .before .before .before .before .before .before .before
+    .before .before .before .before .is-open .ensures) (not-false _ (c .before .before .before .before .before .before .before .before .before .before
+    .before .before .before .before .before .before .before .before .if1 .left)) in
     let x = c .before .before .before .before .before .before .before .before .before .before .before .before .before .before .join-pair .ensures in
-    let e = not-false _ (c .before .before .before .before .before .before .before .before .before .if2 .left) in
-    (omega (arith, s .pre .0, h), joined-next g h l x e f (c .before .before .before .before .before .before .before .put-pair .ensures) (c .with-pair .ensures))
+    let e = not-false _ (c .before .before .before .before .before .before .before .before .before .if2 .left) in (
+      omega (arith, s .pre .0, h),
+      joined-next g h l x e f (c .before .before .before .before .before .before .before .put-pair .ensures)
+          (c .with-pair .ensures),
+    )
 
--- src/walk.rt:133:5
-walk-pair-put-back-requires : (t : ℕ) → walk-pair-lts.Need-put-back-requires (
-  is-open-reads.Asked,
-  is-open-reads.Learnt,
-  join-pair-reads.Asked,
-  join-pair-reads.Learnt,
-  put-pair-reads.Asked,
-  put-pair-reads.Learnt,
-  with-pair-reads.Asked,
-  with-pair-reads.Learnt,
-  walk-below t,
-  walk.Post,
-  put-back-reads.Asked,
-  put-back-reads.Learnt,
-  undo-reads.Asked,
-  undo-reads.Learnt,
-) (walk-pair-at t) walk-pair.Post
+walk-pair-put-back-requires : (t : ℕ) → walk-pair-lts.Need-put-back-requires (walk-pair-claims t) (walk-pair-at t) walk-pair.Post
 walk-pair-put-back-requires t c κs =
-    let s = c .before .before .before .before .before .before .before .before .before .before .before .before .before .before .before .before .before .before .before .before .before .before .before .before .before .before .before .before .before .before .before .before .before .before .before .before .before .before in
+    let s = c .before .before .before .before .before .before .before .before .before .before .before .before .before .before .before .before .before
+    .before .before .before .before .before .before .before .before .before .before .before .before .before .before .before .before .before .before
+    .before .before .before in
     let g = s .pre .1 .0 in
     let h = s .pre .1 .1 .0 in
     let l = s .pre .1 .1 .1 in
-    let f = open-free g h l (c .before .before .before .before .before .before .before .before .before .before .before .before .before .before .before .before .before .before .before .before .before .before .before .before .before .before .before .before .before .is-open .ensures) (not-false _ (c .before .before .before .before .before .before .before .before .before .before .before .before .before .before .before .before .before .before .before .before .before .before .before .before .before .before .before .before .if1 .left)) in
-    let x = c .before .before .before .before .before .before .before .before .before .before .before .before .before .before .before .before .before .before .before .before .before .before .before .before .join-pair .ensures in
-    let e = not-false _ (c .before .before .before .before .before .before .before .before .before .before .before .before .before .before .before .before .before .before .before .if2 .left) in
-    (g .knows .size, g .positive, mark-inside g h l x e f (c .before .before .before .before .before .before .before .before .before .before .before .before .before .before .before .before .before .put-pair .ensures) (c .before .before .before .before .before .before .before .before .before .walk .ensures .0 .keeps .size))
+    let f = open-free g h l (c .before .before .before .before .before .before .before .before .before .before .before .before .before .before .before
+    .before .before .before .before .before .before .before .before .before .before .before .before .before .before .is-open .ensures)
+    (not-false _ (c .before .before .before .before .before .before .before .before .before .before .before .before .before .before .before .before
+    .before .before .before .before .before .before .before .before .before .before .before .before .if1 .left)) in
+    let x = c .before .before .before .before .before .before .before .before .before .before .before .before .before .before .before .before .before
+    .before .before .before .before .before .before .before .join-pair .ensures in
+    let e = not-false _ (c .before .before .before .before .before .before .before .before .before .before .before .before .before .before .before
+    .before .before .before .before .if2 .left) in (
+      g .knows .size,
+      g .positive,
+      mark-inside g h l x e f (c .before .before .before .before .before .before .before .before .before .before .before
+          .before .before .before .before .before .before .put-pair .ensures)
+          (c .before .before .before .before .before .before .before .before .before .walk .ensures .0 .keeps .size),
+    )
 
--- src/walk.rt:134:5
-walk-pair-undo-requires : (t : ℕ) → walk-pair-lts.Need-undo-requires (
-  is-open-reads.Asked,
-  is-open-reads.Learnt,
-  join-pair-reads.Asked,
-  join-pair-reads.Learnt,
-  put-pair-reads.Asked,
-  put-pair-reads.Learnt,
-  with-pair-reads.Asked,
-  with-pair-reads.Learnt,
-  walk-below t,
-  walk.Post,
-  put-back-reads.Asked,
-  put-back-reads.Learnt,
-  undo-reads.Asked,
-  undo-reads.Learnt,
-) (walk-pair-at t) walk-pair.Post
+walk-pair-undo-requires : (t : ℕ) → walk-pair-lts.Need-undo-requires (walk-pair-claims t) (walk-pair-at t) walk-pair.Post
 walk-pair-undo-requires t c κs =
-    let s = c .before .before .before .before .before .before .before .before .before .before .before .before .before .before .before .before .before .before .before .before .before .before .before .before .before .before .before .before .before .before .before .before .before .before .before .before .before .before .before .before .before .before .before in
+    let s = c .before .before .before .before .before .before .before .before .before .before .before .before .before .before .before .before .before
+    .before .before .before .before .before .before .before .before .before .before .before .before .before .before .before .before .before .before
+    .before .before .before .before .before .before .before .before in
     let g = s .pre .1 .0 in
     let h = s .pre .1 .1 .0 in
     let l = s .pre .1 .1 .1 in
-    let f = open-free g h l (c .before .before .before .before .before .before .before .before .before .before .before .before .before .before .before .before .before .before .before .before .before .before .before .before .before .before .before .before .before .before .before .before .before .before .is-open .ensures) (not-false _ (c .before .before .before .before .before .before .before .before .before .before .before .before .before .before .before .before .before .before .before .before .before .before .before .before .before .before .before .before .before .before .before .before .before .if1 .left)) in
-    let x = c .before .before .before .before .before .before .before .before .before .before .before .before .before .before .before .before .before .before .before .before .before .before .before .before .before .before .before .before .before .join-pair .ensures in
-    let e = not-false _ (c .before .before .before .before .before .before .before .before .before .before .before .before .before .before .before .before .before .before .before .before .before .before .before .before .if2 .left) in
-    joins-since g h l x e (c .before .before .before .before .before .before .before .before .before .before .before .before .before .before .walk .ensures .1)
+    let f = open-free g h l (c .before .before .before .before .before .before .before .before .before .before .before .before .before .before .before
+    .before .before .before .before .before .before .before .before .before .before .before .before .before .before .before .before .before .before
+    .before .is-open .ensures) (not-false _ (c .before .before .before .before .before .before .before .before .before .before .before .before .before
+    .before .before .before .before .before .before .before .before .before .before .before .before .before .before .before .before .before .before
+    .before .before .if1 .left)) in
+    let x = c .before .before .before .before .before .before .before .before .before .before .before .before .before .before .before .before .before
+    .before .before .before .before .before .before .before .before .before .before .before .before .join-pair .ensures in
+    let e = not-false _ (c .before .before .before .before .before .before .before .before .before .before .before .before .before .before .before
+    .before .before .before .before .before .before .before .before .before .if2 .left) in
+    joins-since g h l x e (c .before .before .before .before .before .before .before .before .before .before .before .before .before .before .walk
+    .ensures .1)
 
--- src/walk.rt:89:1
-walk-pair-same-length-3 : (t : ℕ) → walk-pair-lts.Need-same-length-3 (
-  is-open-reads.Asked,
-  is-open-reads.Learnt,
-  join-pair-reads.Asked,
-  join-pair-reads.Learnt,
-  put-pair-reads.Asked,
-  put-pair-reads.Learnt,
-  with-pair-reads.Asked,
-  with-pair-reads.Learnt,
-  walk-below t,
-  walk.Post,
-  put-back-reads.Asked,
-  put-back-reads.Learnt,
-  undo-reads.Asked,
-  undo-reads.Learnt,
-) (walk-pair-at t) walk-pair.Post
+walk-pair-same-length-3 : (t : ℕ) → walk-pair-lts.Need-same-length-3 (walk-pair-claims t) (walk-pair-at t) walk-pair.Post
 walk-pair-same-length-3 t c =
-    let s = c .before .before .before .before .before .before .before .before .before .before .before .before .before .before .before .before .before .before .before .before .before .before .before .before .before .before .before .before .before .before .before .before .before .before .before .before .before .before .before .before .before .before .before .before .before .before .before .before in
+    let s = c .before .before .before .before .before .before .before .before .before .before .before .before .before .before .before .before .before
+    .before .before .before .before .before .before .before .before .before .before .before .before .before .before .before .before .before .before
+    .before .before .before .before .before .before .before .before .before .before .before .before .before in
     let g = s .pre .1 .0 in
     let h = s .pre .1 .1 .0 in
     let l = s .pre .1 .1 .1 in
-    let f = open-free g h l (c .before .before .before .before .before .before .before .before .before .before .before .before .before .before .before .before .before .before .before .before .before .before .before .before .before .before .before .before .before .before .before .before .before .before .before .before .before .before .before .is-open .ensures) (not-false _ (c .before .before .before .before .before .before .before .before .before .before .before .before .before .before .before .before .before .before .before .before .before .before .before .before .before .before .before .before .before .before .before .before .before .before .before .before .before .before .if1 .left)) in
-    let x = c .before .before .before .before .before .before .before .before .before .before .before .before .before .before .before .before .before .before .before .before .before .before .before .before .before .before .before .before .before .before .before .before .before .before .join-pair .ensures in
-    let e = not-false _ (c .before .before .before .before .before .before .before .before .before .before .before .before .before .before .before .before .before .before .before .before .before .before .before .before .before .before .before .before .before .if2 .left) in
-    ap length (joins-undone g h l x e (c .before .before .before .before .before .before .before .before .before .before .before .before .before .before .before .before .before .before .before .walk .ensures .1) (c .before .before .before .before .undo .ensures) .0)
+    let f = open-free g h l (c .before .before .before .before .before .before .before .before .before .before .before .before .before .before .before
+    .before .before .before .before .before .before .before .before .before .before .before .before .before .before .before .before .before .before
+    .before .before .before .before .before .before .is-open .ensures)
+    (not-false _ (c .before .before .before .before .before .before .before .before .before .before .before .before .before .before .before .before
+    .before .before .before .before .before .before .before .before .before .before .before .before .before .before .before .before .before .before
+    .before .before .before .before .if1 .left)) in
+    let x = c .before .before .before .before .before .before .before .before .before .before .before .before .before .before .before .before .before
+    .before .before .before .before .before .before .before .before .before .before .before .before .before .before .before .before .before .join-pair
+    .ensures in
+    let e = not-false _ (c .before .before .before .before .before .before .before .before .before .before .before .before .before .before .before
+    .before .before .before .before .before .before .before .before .before .before .before .before .before .before .if2 .left) in
+    ap length (joins-undone g h l x e (c .before .before .before .before .before .before .before .before .before .before .before .before .before
+    .before .before .before .before .before .before .walk .ensures .1) (c .before .before .before .before .undo .ensures) .0)
 
--- src/walk.rt:89:1
-walk-pair-same-length-4 : (t : ℕ) → walk-pair-lts.Need-same-length-4 (
-  is-open-reads.Asked,
-  is-open-reads.Learnt,
-  join-pair-reads.Asked,
-  join-pair-reads.Learnt,
-  put-pair-reads.Asked,
-  put-pair-reads.Learnt,
-  with-pair-reads.Asked,
-  with-pair-reads.Learnt,
-  walk-below t,
-  walk.Post,
-  put-back-reads.Asked,
-  put-back-reads.Learnt,
-  undo-reads.Asked,
-  undo-reads.Learnt,
-) (walk-pair-at t) walk-pair.Post
+walk-pair-same-length-4 : (t : ℕ) → walk-pair-lts.Need-same-length-4 (walk-pair-claims t) (walk-pair-at t) walk-pair.Post
 walk-pair-same-length-4 t c =
-    let s = c .before .before .before .before .before .before .before .before .before .before .before .before .before .before .before .before .before .before .before .before .before .before .before .before .before .before .before .before .before .before .before .before .before .before .before .before .before .before .before .before .before .before .before .before .before .before .before .before in
+    let s = c .before .before .before .before .before .before .before .before .before .before .before .before .before .before .before .before .before
+    .before .before .before .before .before .before .before .before .before .before .before .before .before .before .before .before .before .before
+    .before .before .before .before .before .before .before .before .before .before .before .before .before in
     let g = s .pre .1 .0 in
     let h = s .pre .1 .1 .0 in
     let l = s .pre .1 .1 .1 in
-    let f = open-free g h l (c .before .before .before .before .before .before .before .before .before .before .before .before .before .before .before .before .before .before .before .before .before .before .before .before .before .before .before .before .before .before .before .before .before .before .before .before .before .before .before .is-open .ensures) (not-false _ (c .before .before .before .before .before .before .before .before .before .before .before .before .before .before .before .before .before .before .before .before .before .before .before .before .before .before .before .before .before .before .before .before .before .before .before .before .before .before .if1 .left)) in
-    let x = c .before .before .before .before .before .before .before .before .before .before .before .before .before .before .before .before .before .before .before .before .before .before .before .before .before .before .before .before .before .before .before .before .before .before .join-pair .ensures in
-    let e = not-false _ (c .before .before .before .before .before .before .before .before .before .before .before .before .before .before .before .before .before .before .before .before .before .before .before .before .before .before .before .before .before .if2 .left) in
-    ap length (joins-undone g h l x e (c .before .before .before .before .before .before .before .before .before .before .before .before .before .before .before .before .before .before .before .walk .ensures .1) (c .before .before .before .before .undo .ensures) .1)
+    let f = open-free g h l (c .before .before .before .before .before .before .before .before .before .before .before .before .before .before .before
+    .before .before .before .before .before .before .before .before .before .before .before .before .before .before .before .before .before .before
+    .before .before .before .before .before .before .is-open .ensures)
+    (not-false _ (c .before .before .before .before .before .before .before .before .before .before .before .before .before .before .before .before
+    .before .before .before .before .before .before .before .before .before .before .before .before .before .before .before .before .before .before
+    .before .before .before .before .if1 .left)) in
+    let x = c .before .before .before .before .before .before .before .before .before .before .before .before .before .before .before .before .before
+    .before .before .before .before .before .before .before .before .before .before .before .before .before .before .before .before .before .join-pair
+    .ensures in
+    let e = not-false _ (c .before .before .before .before .before .before .before .before .before .before .before .before .before .before .before
+    .before .before .before .before .before .before .before .before .before .before .before .before .before .before .if2 .left) in
+    ap length (joins-undone g h l x e (c .before .before .before .before .before .before .before .before .before .before .before .before .before
+    .before .before .before .before .before .before .walk .ensures .1) (c .before .before .before .before .undo .ensures) .1)
 
--- src/walk.rt:89:1
-walk-pair-same-length-5 : (t : ℕ) → walk-pair-lts.Need-same-length-5 (
-  is-open-reads.Asked,
-  is-open-reads.Learnt,
-  join-pair-reads.Asked,
-  join-pair-reads.Learnt,
-  put-pair-reads.Asked,
-  put-pair-reads.Learnt,
-  with-pair-reads.Asked,
-  with-pair-reads.Learnt,
-  walk-below t,
-  walk.Post,
-  put-back-reads.Asked,
-  put-back-reads.Learnt,
-  undo-reads.Asked,
-  undo-reads.Learnt,
-) (walk-pair-at t) walk-pair.Post
+walk-pair-same-length-5 : (t : ℕ) → walk-pair-lts.Need-same-length-5 (walk-pair-claims t) (walk-pair-at t) walk-pair.Post
 walk-pair-same-length-5 t c = search needs
 
--- src/walk.rt:89:1
-walk-pair-same-length-6 : (t : ℕ) → walk-pair-lts.Need-same-length-6 (
-  is-open-reads.Asked,
-  is-open-reads.Learnt,
-  join-pair-reads.Asked,
-  join-pair-reads.Learnt,
-  put-pair-reads.Asked,
-  put-pair-reads.Learnt,
-  with-pair-reads.Asked,
-  with-pair-reads.Learnt,
-  walk-below t,
-  walk.Post,
-  put-back-reads.Asked,
-  put-back-reads.Learnt,
-  undo-reads.Asked,
-  undo-reads.Learnt,
-) (walk-pair-at t) walk-pair.Post
+walk-pair-same-length-6 : (t : ℕ) → walk-pair-lts.Need-same-length-6 (walk-pair-claims t) (walk-pair-at t) walk-pair.Post
 walk-pair-same-length-6 t c = search needs
 
--- src/walk.rt:89:1
-walk-pair-returns-3 : (t : ℕ) → walk-pair-lts.Need-returns-3 (
-  is-open-reads.Asked,
-  is-open-reads.Learnt,
-  join-pair-reads.Asked,
-  join-pair-reads.Learnt,
-  put-pair-reads.Asked,
-  put-pair-reads.Learnt,
-  with-pair-reads.Asked,
-  with-pair-reads.Learnt,
-  walk-below t,
-  walk.Post,
-  put-back-reads.Asked,
-  put-back-reads.Learnt,
-  undo-reads.Asked,
-  undo-reads.Learnt,
-) (walk-pair-at t) walk-pair.Post
+walk-pair-returns-3 : (t : ℕ) → walk-pair-lts.Need-returns-3 (walk-pair-claims t) (walk-pair-at t) walk-pair.Post
 walk-pair-returns-3 t c =
-    let s = c .before .before .before .before .before .before .before .before .before .before .before .before .before .before .before .before .before .before .before .before .before .before .before .before .before .before .before .before .before .before .before .before .before .before .before .before .before .before .before .before .before .before .before .before .before .before .before .before in
+    let s = c .before .before .before .before .before .before .before .before .before .before .before .before .before .before .before .before .before
+    .before .before .before .before .before .before .before .before .before .before .before .before .before .before .before .before .before .before
+    .before .before .before .before .before .before .before .before .before .before .before .before .before in
     let g = s .pre .1 .0 in
     let h = s .pre .1 .1 .0 in
     let l = s .pre .1 .1 .1 in
-    let f = open-free g h l (c .before .before .before .before .before .before .before .before .before .before .before .before .before .before .before .before .before .before .before .before .before .before .before .before .before .before .before .before .before .before .before .before .before .before .before .before .before .before .before .is-open .ensures) (not-false _ (c .before .before .before .before .before .before .before .before .before .before .before .before .before .before .before .before .before .before .before .before .before .before .before .before .before .before .before .before .before .before .before .before .before .before .before .before .before .before .if1 .left)) in
-    let x = c .before .before .before .before .before .before .before .before .before .before .before .before .before .before .before .before .before .before .before .before .before .before .before .before .before .before .before .before .before .before .before .before .before .before .join-pair .ensures in
-    let e = not-false _ (c .before .before .before .before .before .before .before .before .before .before .before .before .before .before .before .before .before .before .before .before .before .before .before .before .before .before .before .before .before .if2 .left) in
-    (joined-stepped g h l x e f (c .before .before .before .before .before .before .before .before .before .before .before .before .before .before .before .before .before .before .before .before .before .before .before .before .before .before .before .put-pair .ensures) (c .before .before .before .before .before .before .before .before .before .before .before .before .before .before .before .before .before .before .before .walk .ensures .0) (c .before .before .before .before .before .before .before .before .before .put-back .ensures), joins-undone g h l x e (c .before .before .before .before .before .before .before .before .before .before .before .before .before .before .before .before .before .before .before .walk .ensures .1) (c .before .before .before .before .undo .ensures))
+    let f = open-free g h l (c .before .before .before .before .before .before .before .before .before .before .before .before .before .before .before
+    .before .before .before .before .before .before .before .before .before .before .before .before .before .before .before .before .before .before
+    .before .before .before .before .before .before .is-open .ensures)
+    (not-false _ (c .before .before .before .before .before .before .before .before .before .before .before .before .before .before .before .before
+    .before .before .before .before .before .before .before .before .before .before .before .before .before .before .before .before .before .before
+    .before .before .before .before .if1 .left)) in
+    let x = c .before .before .before .before .before .before .before .before .before .before .before .before .before .before .before .before .before
+    .before .before .before .before .before .before .before .before .before .before .before .before .before .before .before .before .before .join-pair
+    .ensures in
+    let e = not-false _ (c .before .before .before .before .before .before .before .before .before .before .before .before .before .before .before
+    .before .before .before .before .before .before .before .before .before .before .before .before .before .before .if2 .left) in (
+      joined-stepped g h l x e f (c .before .before .before .before .before .before .before .before .before .before .before .before .before .before
+          .before .before .before .before .before .before .before .before .before .before .before .before .before .put-pair .ensures)
+          (c .before .before .before .before .before .before .before .before .before .before .before .before .before .before .before .before .before .before
+          .before .walk .ensures .0) (c .before .before .before .before .before .before .before .before .before .put-back .ensures),
+      joins-undone g h l x e
+          (c .before .before .before .before .before .before .before .before .before .before .before .before .before .before .before .before .before .before
+          .before .walk .ensures .1) (c .before .before .before .before .undo .ensures),
+    )
 
 pub +walk+walk-labels+walk-pair-spec : {M : Type 1} → statement M
 +walk+walk-labels+walk-pair-spec = close μ-walk μ-walk-labels μ-walk-pair (λ t. walk-lts.spec (

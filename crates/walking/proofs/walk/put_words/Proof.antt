@@ -66,8 +66,24 @@ bind-requires : tie.Need-bind-requires
 bind-requires c κs =
     let s = c .before .before .before .before .before .before .before .before .before .before .before .before .before in
     let k = s .pre .0 .0 in
-    let l = list-part k _ (c .before .before .before .at4 .ensures .0) in
-    ((k .sections, k .counts), ((s .pre .0 .1, opens-part k _ (c .before .before .before .before .at3 .ensures .0)), (l, omega (arith, k .width, s .pre .1, c .before .before .before .at4 .ensures .0, c .before .before .before .before .before .before .at2 .ensures .0, c .before .before .before .before .before .before .before .at .ensures .0))))
+    let l = list-part k _ (c .before .before .before .at4 .ensures .0) in (
+      (k .sections, k .counts),
+      (
+        (s .pre .0 .1, opens-part k _ (c .before .before .before .before .at3 .ensures .0)),
+        (
+          l,
+          omega (
+            arith,
+            k .width,
+            s .pre .1,
+            c .before .before .before .at4 .ensures .0,
+            c .before .before .before .before .before .before .at2 .ensures
+                .0,
+            c .before .before .before .before .before .before .before .at .ensures .0,
+          ),
+        ),
+      ),
+    )
 
 same-length : tie.Need-same-length
 same-length c = search needs
@@ -75,7 +91,8 @@ same-length c = search needs
 returns-2 : tie.Need-returns-2
 returns-2 c =
     let s = c .before .before .before .before .before .before .before .before .before .before .before .before .before .before .before .before in
-    bound-new (s .pre .0 .0) (s .pre .1) (s .pre .0 .1) _ _ (c .before .before .before .before .before .before .before .before .before .before .at .ensures .0) (c .before .before .before .before .before .before .before .before .before .at2 .ensures .0) _ (c .before .before .bind .ensures)
+    bound-new (s .pre .0 .0) (s .pre .1) (s .pre .0 .1) _ _ (c .before .before .before .before .before .before .before .before .before .before .at
+    .ensures .0) (c .before .before .before .before .before .before .before .before .before .at2 .ensures .0) _ (c .before .before .bind .ensures)
 
 pub put-words-spec : {M : Type 1} → statement M
 put-words-spec =

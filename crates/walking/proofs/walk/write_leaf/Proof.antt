@@ -23,7 +23,8 @@ sub-if2 c = search needs
 returns-2 : tie.Need-returns-2
 returns-2 c =
     let g = c .before .before .before .before .before .before .before .before .before .before .pre in
-    leaf-full g (leaf-paired g _ _ (c .before .before .before .at .ensures .0) (c .before .before .at2 .ensures .0) (c .before .if1 .left)) (c .if2 .taken)
+    leaf-full g (leaf-paired g _ _ (c .before .before .before .at .ensures .0) (c .before .before .at2 .ensures .0) (c .before .if1 .left))
+    (c .if2 .taken)
 
 put-words-requires : tie.Need-put-words-requires
 put-words-requires c κs = search needs
@@ -39,14 +40,30 @@ add-write-rights c = search needs
 
 write-rights-requires : tie.Need-write-rights-requires
 write-rights-requires c κs =
-    let g = c .before .before .before .before .before .before .before .before .before .before .before .before .before .before .before .before .before .before .pre in
+    let g = c .before .before .before .before .before .before .before .before .before .before .before .before .before .before .before .before .before
+    .before .pre in
     let d = c .before .before .before .before .before .before .before .before .before .before .before .at .ensures .0 in
-    let w = leaf-paired g _ _ d (c .before .before .before .before .before .before .before .before .before .before .at2 .ensures .0) (c .before .before .before .before .before .before .before .before .before .if1 .left) in
+    let w = leaf-paired g _ _ d (c .before .before .before .before .before .before .before .before .before .before .at2 .ensures .0)
+    (c .before .before .before .before .before .before .before .before .before .if1 .left) in
     let p = c .before .before .before .before .before .before .put-words in
     let q = p .kept .1 .1 .1 .1 .0 in
     let e = c .before .before .before .at3 .ensures .0 in
-    let f = c .before .at4 .ensures .0 in
-    (omega (arith, g .knows .left-labels, g .knows .width, g .branching .size, g .room, d, e, f, q, c .before .before .before .before .before .before .before .before .if2 .left), (omega (arith, g .wide, g .branching .size, q), read-least g w (p .ensures) q _ _ _ d e f))
+    let f = c .before .at4 .ensures .0 in (
+      omega (
+        arith,
+        g .knows .left-labels,
+        g .knows .width,
+        g .branching .size,
+        g .room,
+        d,
+        e,
+        f,
+        q,
+        c .before .before .before .before .before .before
+            .before .before .if2 .left,
+      ),
+      (omega (arith, g .wide, g .branching .size, q), read-least g w (p .ensures) q _ _ _ d e f),
+    )
 
 same-length : tie.Need-same-length
 same-length c = search needs
@@ -56,11 +73,14 @@ same-length-2 c = search needs
 
 returns-3 : tie.Need-returns-3
 returns-3 c =
-    let g = c .before .before .before .before .before .before .before .before .before .before .before .before .before .before .before .before .before .before .before .before .before .pre in
+    let g = c .before .before .before .before .before .before .before .before .before .before .before .before .before .before .before .before .before
+    .before .before .before .before .pre in
     let d = c .before .before .before .before .before .before .before .before .before .before .before .before .before .before .at .ensures .0 in
-    let w = leaf-paired g _ _ d (c .before .before .before .before .before .before .before .before .before .before .before .before .before .at2 .ensures .0) (c .before .before .before .before .before .before .before .before .before .before .before .before .if1 .left) in
+    let w = leaf-paired g _ _ d (c .before .before .before .before .before .before .before .before .before .before .before .before .before .at2
+    .ensures .0) (c .before .before .before .before .before .before .before .before .before .before .before .before .if1 .left) in
     let p = c .before .before .before .before .before .before .before .before .before .put-words in
-    read-written g w (p .ensures) (p .kept .1 .1 .1 .1 .0) _ _ _ d (c .before .before .before .before .before .before .at3 .ensures .0) (c .before .before .before .before .at4 .ensures .0) (c .before .before .write-rights .ensures)
+    read-written g w (p .ensures) (p .kept .1 .1 .1 .1 .0) _ _ _ d (c .before .before .before .before .before .before .at3 .ensures .0)
+    (c .before .before .before .before .at4 .ensures .0) (c .before .before .write-rights .ensures)
 
 pub write-leaf-spec : {M : Type 1} → statement M
 write-leaf-spec =
