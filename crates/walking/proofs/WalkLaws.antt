@@ -2,7 +2,7 @@
 -- The definition mirrors the code, so that each way through the code is one equation of it. Assumes nothing.
 use Prim.Native.Nat.{ℕ, suc, _+_, _-_, _^_, _≤_, _<_}
 use mathlib.Core.Bool.{Bool, true, false, cond, false≢true}
-use mathlib.Core.List.{List, [], _∷_, _++_, List·Memᴰ}
+use mathlib.Core.List.{List, [], _∷_, _++_, append-nil, List·Memᴰ}
 use mathlib.Core.Logic.{_↔_}
 use mathlib.Core.Path.{_≡_, refl, sym, ap, _∙_}
 use native.Mathlib.Nat.{pow-le-pow-right}
@@ -452,6 +452,17 @@ module _ {nodes arguments known can heads next entry out : List ℕ} {i least pa
                   let r = writes-room (g .room) (first-written (g .pairs) (g .pairing)) in
                   let s = r .1 n in
                   (s .0, omega (arith, r .0, s .1))
+
+              -- there is no other label
+              pub labels-one : least ≡ rightCount known + rightLabels known →
+                  SteppedFrom nodes arguments known heads entry out i least at entry′ out′ w
+              unfolding repeated
+              labels-one e =
+                  let z₀ : rightCount known + rightLabels known - least ≡ 0 = omega (arith, e) in
+                  record {
+                    writes = λ ps q. rw (labels-entries ps, z₀, append-nil (labelBelow ps least)) (first-written ps q);
+                    keeps = kept;
+                  }
 
               -- and they are repeated for the other labels
               pub labels-stepped : {out″ : List ℕ} {v width last : ℕ} → width ≡ widthIn known → last ≡ rightCount known + rightLabels known →

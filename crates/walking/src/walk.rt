@@ -184,6 +184,9 @@ fn walk_labels(
     if used == FULL {
         return FULL;
     }
+    if d == last {
+        return used;
+    }
     writing::repeat(out, known::at(known, WIDTH), at, used, i, d, last)
 }
 

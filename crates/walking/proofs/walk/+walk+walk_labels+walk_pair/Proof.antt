@@ -10,7 +10,7 @@ use Rattle.table.specs.Layout.{word}
 use Rattle.entries.specs.Code.Writing.{full}
 use Rattle.branches.specs.Code.Known.{rightCount, rightLabels}
 use Rattle.branches.specs.Code.Walk.{Turning}
-use Rattle.walking.proofs.WalkLaws.{mark-room, all-placed, placed-walked, going-on, paired-small, closed-stepped, open-free, failed-stepped, joined-next, joined-stepped, mark-inside, joins-since, joins-undone, none-stepped, lost-stepped, label-next, label-full, label-room, labels-stepped, turning-first, turning-walking, turning-next, turning-full, turning-done}
+use Rattle.walking.proofs.WalkLaws.{mark-room, all-placed, placed-walked, going-on, paired-small, closed-stepped, open-free, failed-stepped, joined-next, joined-stepped, mark-inside, joins-since, joins-undone, none-stepped, lost-stepped, label-next, label-full, label-room, labels-one, labels-stepped, turning-first, turning-walking, turning-next, turning-full, turning-done}
 use borrow.Fn.Kinds.{In}
 use borrow.Fn.PlainCycle.{Measures, is, falls, and}
 use Rattle.walking.proofs.walk.walk.Reads as walk
@@ -415,57 +415,11 @@ walk-labels-returns-3 t c =
             c .before .before .before .before .before .before .before .before
                 .before .before .before .before .before .before .before .before .before .before .before .before .before .before .at .ensures .0,
             c .before .before
-                .before .before .before .before .before .before .before .before .before .before .before .before .before .before .before .before .before .before
+                .before .before .before .before .before .before .before .before .before .before .before .before .before .before .before .before
+                .before .before
                 .before .at2 .ensures .0,
           )) (y .0) b (c .if3 .taken),
       (y .1 .0, y .1 .1),
-    )
-
-walk-labels-at-requires-3 : (t : ℕ) → walk-labels-lts.Need-at-requires-3 (walk-labels-claims t) (walk-labels-at t) walk-labels.Post
-walk-labels-at-requires-3 t c κs =
-    let s = c .before .before .before .before .before .before .before .before .before .before .before .before .before .before .before .before .before
-    .before .before .before .before .before .before .before .before .before .before .before .before .before .before .before in
-    let g = s .pre .1 .0 in
-    let h = s .pre .1 .1 .0 in
-    let l = s .pre .1 .1 .1 in
-    omega (arith, g .knows .size)
-
-walk-labels-repeat-requires : (t : ℕ) → walk-labels-lts.Need-repeat-requires (walk-labels-claims t) (walk-labels-at t) walk-labels.Post
-walk-labels-repeat-requires t c κs =
-    let s = c .before .before .before .before .before .before .before .before .before .before .before .before .before .before .before .before .before
-    .before .before .before .before .before .before .before .before .before .before .before .before .before .before .before .before in
-    let g = s .pre .1 .0 in
-    let h = s .pre .1 .1 .0 in
-    let l = s .pre .1 .1 .1 in
-    let y = c .before .before .before .before .before .before .before .before .before .before .before .walk .ensures in
-    let t : s .args .position .least ≤ rightCount (s .args .known .now) + rightLabels (s .args .known .now) = omega (
-      arith,
-      c .before .before .before .before .before .before .before .before .before .before .before .before .before .before .before .before .before
-          .before .before .before .before .before .if1 .left,
-      c .before .before .before .before .before .before .before .before .before .before .before
-          .before .before .before .before .before .before .before .before .before .before .before .before .before .at .ensures .0,
-      c .before .before .before
-          .before .before .before .before .before .before .before .before .before .before .before .before .before .before .before .before .before .before
-          .before .before .at2 .ensures .0,
-    ) in
-    let r = label-room g h l (c .before .before .before .before .before .before .before .before .before .before .before .before .before .before
-    .before .before .before .before .put-digit .ensures) t (y .0) (c .before .before .if3 .left) in (
-      omega (arith, c .at3 .ensures .0, g .wide),
-      omega (arith, c .at3 .ensures .0, h, g .knows .width),
-      r .0,
-      r .1,
-      omega (
-        arith,
-        c .before .before .before .before .before .before .before .before .before .before .before .before .before .before .before .before .before
-            .before .before .before .before .before .if1 .left,
-      ),
-      omega (
-        arith,
-        c .before .before .before .before .before .before .before .before .before .before .before .before .before .before .before .before .before
-            .before .before .before .before .before .before .before .at .ensures .1,
-        c .before .before .before .before .before .before .before .before .before
-            .before .before .before .before .before .before .before .before .before .before .before .before .before .before .at2 .ensures .1,
-      ),
     )
 
 walk-labels-same-length-5 : (t : ℕ) → walk-labels-lts.Need-same-length-5 (walk-labels-claims t) (walk-labels-at t) walk-labels.Post
@@ -483,32 +437,108 @@ walk-labels-same-length-8 t c = search needs
 walk-labels-returns-4 : (t : ℕ) → walk-labels-lts.Need-returns-4 (walk-labels-claims t) (walk-labels-at t) walk-labels.Post
 walk-labels-returns-4 t c =
     let s = c .before .before .before .before .before .before .before .before .before .before .before .before .before .before .before .before .before
-    .before .before .before .before .before .before .before .before .before .before .before .before .before .before .before .before .before .before
-    .before in
+    .before .before .before .before .before .before .before .before .before .before .before .before .before .before .before in
     let g = s .pre .1 .0 in
     let h = s .pre .1 .1 .0 in
     let l = s .pre .1 .1 .1 in
-    let y = c .before .before .before .before .before .before .before .before .before .before .before .before .before .before .walk .ensures in (
+    let y = c .before .before .before .before .before .before .before .before .before .before .walk .ensures in
+    (labels-one g h l (c .before .before .before .before .before .before .before .before .before .before .before .before .before .before .before
+    .before .before .put-digit .ensures) (omega (arith, c .before .before .before .before .before .before .before .before .before .before .before
+    .before .before .before .before .before .before .before .before .before .before .if1 .left, c .before .before .before .before .before .before
+    .before .before .before .before .before .before .before .before .before .before .before .before .before .before .before .before .before .at
+    .ensures .0, c .before .before .before .before .before .before .before .before .before .before .before .before .before .before .before .before
+    .before .before .before .before .before .before .at2 .ensures .0)) (y .0) (c .before .if3 .left)
+    (omega (arith, c .if4 .taken, c .before .before .before .before .before .before .before .before .before .before .before .before .before .before
+    .before .before .before .before .before .before .before .before .before .at .ensures .0, c .before .before .before .before .before .before .before
+    .before .before .before .before .before .before .before .before .before .before .before .before .before .before .before .at2 .ensures .0)),
+    (y .1 .0, y .1 .1))
+
+walk-labels-at-requires-3 : (t : ℕ) → walk-labels-lts.Need-at-requires-3 (walk-labels-claims t) (walk-labels-at t) walk-labels.Post
+walk-labels-at-requires-3 t c κs =
+    let s = c .before .before .before .before .before .before .before .before .before .before .before .before .before .before .before .before .before
+    .before .before .before .before .before .before .before .before .before .before .before .before .before .before .before .before in
+    let g = s .pre .1 .0 in
+    let h = s .pre .1 .1 .0 in
+    let l = s .pre .1 .1 .1 in
+    omega (arith, g .knows .size)
+
+walk-labels-repeat-requires : (t : ℕ) → walk-labels-lts.Need-repeat-requires (walk-labels-claims t) (walk-labels-at t) walk-labels.Post
+walk-labels-repeat-requires t c κs =
+    let s = c .before .before .before .before .before .before .before .before .before .before .before .before .before .before .before .before .before
+    .before .before .before .before .before .before .before .before .before .before .before .before .before .before .before .before .before in
+    let g = s .pre .1 .0 in
+    let h = s .pre .1 .1 .0 in
+    let l = s .pre .1 .1 .1 in
+    let y = c .before .before .before .before .before .before .before .before .before .before .before .before .walk .ensures in
+    let t : s .args .position .least ≤ rightCount (s .args .known .now) + rightLabels (s .args .known .now) = omega (
+      arith,
+      c .before .before .before .before .before .before .before .before .before .before .before .before .before .before .before .before .before
+      .before .before .before .before .before .before .if1 .left,
+      c .before .before .before .before .before .before .before .before .before .before .before .before .before .before .before .before .before
+      .before .before .before .before .before .before .before .before .at .ensures .0,
+      c .before .before .before .before .before .before .before .before .before .before .before .before .before .before .before .before .before
+      .before .before .before .before .before .before .before .at2 .ensures .0,
+    ) in
+    let r = label-room g h l (c .before .before .before .before .before .before .before .before .before .before .before .before .before .before
+    .before .before .before .before .before .put-digit .ensures) t (y .0) (c .before .before .before .if3 .left) in (
+      omega (arith, c .at3 .ensures .0, g .wide),
+      omega (arith, c .at3 .ensures .0, h, g .knows .width),
+      r .0,
+      r .1,
+      omega (
+        arith,
+        c .before .before .before .before .before .before .before .before .before .before .before .before .before .before .before .before .before
+        .before .before .before .before .before .before .if1 .left,
+      ),
+      omega (
+        arith,
+        c .before .before .before .before .before .before .before .before .before .before .before .before .before .before .before .before .before
+        .before .before .before .before .before .before .before .before .at .ensures .1,
+        c .before .before .before .before .before .before .before .before .before .before .before .before .before .before .before .before .before
+        .before .before .before .before .before .before .before .at2 .ensures .1,
+      ),
+    )
+
+walk-labels-same-length-9 : (t : ℕ) → walk-labels-lts.Need-same-length-9 (walk-labels-claims t) (walk-labels-at t) walk-labels.Post
+walk-labels-same-length-9 t c = search needs
+
+walk-labels-same-length-10 : (t : ℕ) → walk-labels-lts.Need-same-length-10 (walk-labels-claims t) (walk-labels-at t) walk-labels.Post
+walk-labels-same-length-10 t c = search needs
+
+walk-labels-same-length-11 : (t : ℕ) → walk-labels-lts.Need-same-length-11 (walk-labels-claims t) (walk-labels-at t) walk-labels.Post
+walk-labels-same-length-11 t c = search needs
+
+walk-labels-same-length-12 : (t : ℕ) → walk-labels-lts.Need-same-length-12 (walk-labels-claims t) (walk-labels-at t) walk-labels.Post
+walk-labels-same-length-12 t c = search needs
+
+walk-labels-returns-5 : (t : ℕ) → walk-labels-lts.Need-returns-5 (walk-labels-claims t) (walk-labels-at t) walk-labels.Post
+walk-labels-returns-5 t c =
+    let s = c .before .before .before .before .before .before .before .before .before .before .before .before .before .before .before .before .before
+    .before .before .before .before .before .before .before .before .before .before .before .before .before .before .before .before .before .before
+    .before .before in
+    let g = s .pre .1 .0 in
+    let h = s .pre .1 .1 .0 in
+    let l = s .pre .1 .1 .1 in
+    let y = c .before .before .before .before .before .before .before .before .before .before .before .before .before .before .before .walk .ensures
+    in (
       labels-stepped g h l (c .before .before .before .before .before .before .before .before .before .before .before .before .before .before .before
-          .before .before .before .before .before .before .put-digit .ensures)
+      .before .before .before .before .before .before .before .put-digit .ensures)
           (omega (
             arith,
-            c .before .before .before .before .before .before .before .before .before .before .before .before .before .before .before .before
-                .before .before .before .before .before .before .before .before .before .if1 .left,
-            c .before .before .before .before .before .before .before
-                .before .before .before .before .before .before .before .before .before .before .before .before .before .before .before .before .before .before
-                .before .before .at .ensures .0,
-            c .before .before .before .before .before .before .before .before .before .before .before .before .before .before
-                .before .before .before .before .before .before .before .before .before .before .before .before .at2 .ensures .0,
+            c .before .before .before .before .before .before .before .before .before .before .before .before .before .before .before .before .before
+            .before .before .before .before .before .before .before .before .before .if1 .left,
+            c .before .before .before .before .before .before .before .before .before .before .before .before .before .before .before .before .before
+            .before .before .before .before .before .before .before .before .before .before .before .at .ensures .0,
+            c .before .before .before .before .before .before .before .before .before .before .before .before .before .before .before .before .before
+            .before .before .before .before .before .before .before .before .before .before .at2 .ensures .0,
           )) (y .0)
-          (c .before .before .before .before .before .if3 .left) (c .before .before .before .at3 .ensures .0)
+          (c .before .before .before .before .before .before .if3 .left) (c .before .before .before .at3 .ensures .0)
           (omega (
             arith,
-            c .before .before .before .before .before .before .before .before .before .before .before .before .before .before .before .before
-                .before .before .before .before .before .before .before .before .before .before .before .at .ensures .0,
-            c .before .before .before .before .before
-                .before .before .before .before .before .before .before .before .before .before .before .before .before .before .before .before .before .before
-                .before .before .before .at2 .ensures .0,
+            c .before .before .before .before .before .before .before .before .before .before .before .before .before .before .before .before .before
+            .before .before .before .before .before .before .before .before .before .before .before .at .ensures .0,
+            c .before .before .before .before .before .before .before .before .before .before .before .before .before .before .before .before .before
+            .before .before .before .before .before .before .before .before .before .before .at2 .ensures .0,
           )) (c .before .before .repeat .ensures),
       (y .1 .0, y .1 .1),
     )
@@ -732,10 +762,12 @@ walk-pair-returns-3 t c =
     .before .before .before .before .before .before .before .before .before .before .before .before .before .before .if2 .left) in (
       joined-stepped g h l x e f (c .before .before .before .before .before .before .before .before .before .before .before .before .before .before
           .before .before .before .before .before .before .before .before .before .before .before .before .before .put-pair .ensures)
-          (c .before .before .before .before .before .before .before .before .before .before .before .before .before .before .before .before .before .before
+          (c .before .before .before .before .before .before .before .before .before .before .before .before .before .before .before .before .before
+          .before
           .before .walk .ensures .0) (c .before .before .before .before .before .before .before .before .before .put-back .ensures),
       joins-undone g h l x e
-          (c .before .before .before .before .before .before .before .before .before .before .before .before .before .before .before .before .before .before
+          (c .before .before .before .before .before .before .before .before .before .before .before .before .before .before .before .before .before
+          .before
           .before .walk .ensures .1) (c .before .before .before .before .undo .ensures),
     )
 
@@ -805,13 +837,18 @@ pub +walk+walk-labels+walk-pair-spec : {M : Type 1} → statement M
     (walk-labels-same-length-3 t)
     (walk-labels-same-length-4 t)
     (walk-labels-returns-3 t)
-    (walk-labels-at-requires-3 t)
-    (walk-labels-repeat-requires t)
     (walk-labels-same-length-5 t)
     (walk-labels-same-length-6 t)
     (walk-labels-same-length-7 t)
     (walk-labels-same-length-8 t)
-    (walk-labels-returns-4 t))
+    (walk-labels-returns-4 t)
+    (walk-labels-at-requires-3 t)
+    (walk-labels-repeat-requires t)
+    (walk-labels-same-length-9 t)
+    (walk-labels-same-length-10 t)
+    (walk-labels-same-length-11 t)
+    (walk-labels-same-length-12 t)
+    (walk-labels-returns-5 t))
     λ t. walk-pair-lts.spec (
       is-open-reads.Asked,
       is-open-reads.Learnt,
