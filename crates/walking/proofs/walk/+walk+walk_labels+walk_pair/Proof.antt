@@ -441,17 +441,28 @@ walk-labels-returns-4 t c =
     let g = s .pre .1 .0 in
     let h = s .pre .1 .1 .0 in
     let l = s .pre .1 .1 .1 in
-    let y = c .before .before .before .before .before .before .before .before .before .before .walk .ensures in
-    (labels-one g h l (c .before .before .before .before .before .before .before .before .before .before .before .before .before .before .before
-    .before .before .put-digit .ensures) (omega (arith, c .before .before .before .before .before .before .before .before .before .before .before
-    .before .before .before .before .before .before .before .before .before .before .if1 .left, c .before .before .before .before .before .before
-    .before .before .before .before .before .before .before .before .before .before .before .before .before .before .before .before .before .at
-    .ensures .0, c .before .before .before .before .before .before .before .before .before .before .before .before .before .before .before .before
-    .before .before .before .before .before .before .at2 .ensures .0)) (y .0) (c .before .if3 .left)
-    (omega (arith, c .if4 .taken, c .before .before .before .before .before .before .before .before .before .before .before .before .before .before
-    .before .before .before .before .before .before .before .before .before .at .ensures .0, c .before .before .before .before .before .before .before
-    .before .before .before .before .before .before .before .before .before .before .before .before .before .before .before .at2 .ensures .0)),
-    (y .1 .0, y .1 .1))
+    let y = c .before .before .before .before .before .before .before .before .before .before .walk .ensures in (
+      labels-one g h l (c .before .before .before .before .before .before .before .before .before .before .before .before .before .before .before
+          .before .before .put-digit .ensures) (omega (
+            arith,
+            c .before .before .before .before .before .before .before .before .before .before .before
+                .before .before .before .before .before .before .before .before .before .before .if1 .left,
+            c .before .before .before .before .before .before
+                .before .before .before .before .before .before .before .before .before .before .before .before .before .before .before .before .before .at
+                .ensures .0,
+            c .before .before .before .before .before .before .before .before .before .before .before .before .before .before .before .before
+                .before .before .before .before .before .before .at2 .ensures .0,
+          )) (y .0) (c .before .if3 .left)
+          (omega (
+            arith,
+            c .if4 .taken,
+            c .before .before .before .before .before .before .before .before .before .before .before .before .before .before
+                .before .before .before .before .before .before .before .before .before .at .ensures .0,
+            c .before .before .before .before .before .before .before
+                .before .before .before .before .before .before .before .before .before .before .before .before .before .before .before .at2 .ensures .0,
+          )),
+      (y .1 .0, y .1 .1),
+    )
 
 walk-labels-at-requires-3 : (t : ℕ) → walk-labels-lts.Need-at-requires-3 (walk-labels-claims t) (walk-labels-at t) walk-labels.Post
 walk-labels-at-requires-3 t c κs =
@@ -473,11 +484,11 @@ walk-labels-repeat-requires t c κs =
     let t : s .args .position .least ≤ rightCount (s .args .known .now) + rightLabels (s .args .known .now) = omega (
       arith,
       c .before .before .before .before .before .before .before .before .before .before .before .before .before .before .before .before .before
-      .before .before .before .before .before .before .if1 .left,
+          .before .before .before .before .before .before .if1 .left,
       c .before .before .before .before .before .before .before .before .before .before .before .before .before .before .before .before .before
-      .before .before .before .before .before .before .before .before .at .ensures .0,
+          .before .before .before .before .before .before .before .before .at .ensures .0,
       c .before .before .before .before .before .before .before .before .before .before .before .before .before .before .before .before .before
-      .before .before .before .before .before .before .before .at2 .ensures .0,
+          .before .before .before .before .before .before .before .at2 .ensures .0,
     ) in
     let r = label-room g h l (c .before .before .before .before .before .before .before .before .before .before .before .before .before .before
     .before .before .before .before .before .put-digit .ensures) t (y .0) (c .before .before .before .if3 .left) in (
@@ -488,14 +499,14 @@ walk-labels-repeat-requires t c κs =
       omega (
         arith,
         c .before .before .before .before .before .before .before .before .before .before .before .before .before .before .before .before .before
-        .before .before .before .before .before .before .if1 .left,
+            .before .before .before .before .before .before .if1 .left,
       ),
       omega (
         arith,
         c .before .before .before .before .before .before .before .before .before .before .before .before .before .before .before .before .before
-        .before .before .before .before .before .before .before .before .at .ensures .1,
+            .before .before .before .before .before .before .before .before .at .ensures .1,
         c .before .before .before .before .before .before .before .before .before .before .before .before .before .before .before .before .before
-        .before .before .before .before .before .before .before .at2 .ensures .1,
+            .before .before .before .before .before .before .before .at2 .ensures .1,
       ),
     )
 
@@ -522,23 +533,23 @@ walk-labels-returns-5 t c =
     let y = c .before .before .before .before .before .before .before .before .before .before .before .before .before .before .before .walk .ensures
     in (
       labels-stepped g h l (c .before .before .before .before .before .before .before .before .before .before .before .before .before .before .before
-      .before .before .before .before .before .before .before .put-digit .ensures)
+          .before .before .before .before .before .before .before .put-digit .ensures)
           (omega (
             arith,
             c .before .before .before .before .before .before .before .before .before .before .before .before .before .before .before .before .before
-            .before .before .before .before .before .before .before .before .before .if1 .left,
+                .before .before .before .before .before .before .before .before .before .if1 .left,
             c .before .before .before .before .before .before .before .before .before .before .before .before .before .before .before .before .before
-            .before .before .before .before .before .before .before .before .before .before .before .at .ensures .0,
+                .before .before .before .before .before .before .before .before .before .before .before .at .ensures .0,
             c .before .before .before .before .before .before .before .before .before .before .before .before .before .before .before .before .before
-            .before .before .before .before .before .before .before .before .before .before .at2 .ensures .0,
+                .before .before .before .before .before .before .before .before .before .before .at2 .ensures .0,
           )) (y .0)
           (c .before .before .before .before .before .before .if3 .left) (c .before .before .before .at3 .ensures .0)
           (omega (
             arith,
             c .before .before .before .before .before .before .before .before .before .before .before .before .before .before .before .before .before
-            .before .before .before .before .before .before .before .before .before .before .before .at .ensures .0,
+                .before .before .before .before .before .before .before .before .before .before .before .at .ensures .0,
             c .before .before .before .before .before .before .before .before .before .before .before .before .before .before .before .before .before
-            .before .before .before .before .before .before .before .before .before .before .at2 .ensures .0,
+                .before .before .before .before .before .before .before .before .before .before .at2 .ensures .0,
           )) (c .before .before .repeat .ensures),
       (y .1 .0, y .1 .1),
     )
