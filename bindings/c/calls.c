@@ -37,12 +37,13 @@ static void pass_null(void)
 
 /*
  * A table whose terms and whose listing go as deep as can be: 9 variables, and 247 applications, the
- * first of variable 0 and each other of the one before it. Every left term is the deepest one, every
- * right term a variable of its own, and both sides have a label.
+ * first of variable 0 and each other of the one before it and of the first, so that a search for a cycle
+ * has two ways to go. Every left term is the deepest one, every right term a variable of its own, and
+ * both sides have a label.
  */
 static size_t deep_table(uint32_t *table)
 {
-    enum { VARIABLES = 9, NODES = PALLIHUN_MAX_NODES, ARGUMENTS = NODES - VARIABLES };
+    enum { VARIABLES = 9, NODES = PALLIHUN_MAX_NODES, ARGUMENTS = 2 * (NODES - VARIABLES) - 1 };
     const uint32_t lengths[] = {4 * NODES, ARGUMENTS, PALLIHUN_MAX_TERMS, 1, PALLIHUN_MAX_TERMS, 1};
     uint32_t *at = table;
     uint32_t offset = PALLIHUN_HEADER_WORDS;
@@ -51,14 +52,17 @@ static size_t deep_table(uint32_t *table)
         *at++ = lengths[section];
     }
     for (uint32_t node = 0; node < NODES; node++) {
-        const int variable = node < VARIABLES;
+        const int variable = node < VARIABLES, first = node == VARIABLES;
         *at++ = variable ? PALLIHUN_VARIABLE : PALLIHUN_APPLICATION;
         *at++ = variable ? node : 1;
-        *at++ = variable ? 0 : node - VARIABLES;
-        *at++ = variable ? 0 : 1;
+        *at++ = variable || first ? 0 : 2 * (node - VARIABLES) - 1;
+        *at++ = variable ? 0 : first ? 1 : 2;
     }
-    for (uint32_t node = VARIABLES; node < NODES; node++)
-        *at++ = node == VARIABLES ? 0 : node - 1;
+    *at++ = 0;
+    for (uint32_t node = VARIABLES + 1; node < NODES; node++) {
+        *at++ = node - 1;
+        *at++ = VARIABLES;
+    }
     for (uint32_t i = 0; i < PALLIHUN_MAX_TERMS; i++)
         *at++ = NODES - 1;
     *at++ = 1;
