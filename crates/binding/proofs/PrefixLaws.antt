@@ -7,8 +7,8 @@ use mathlib.Core.Path.{_≡_, sym, ap, _∙_}
 use native.Mathlib.Decide.{ℕ-discrete, decLt}
 use native.Mathlib.Omega.{arith}
 use borrow.Author.Count.{below-more}
-use lib.ListN.{length, take, drop, replicate, length-append, length-replicate, getD-replicate, List·getD-append}
-use lib.Seq.{getD-append-add, take-at}
+use lib.ListN.{length, take, drop, length-append, List·getD-append}
+use lib.Seq.{getD-append-add, take-at, length-take-le}
 use Rattle.table.specs.Limits.{maxNodes}
 use Rattle.table.specs.Layout.{word, nameOf, countOf, nodeCount, argumentOf}
 use Rattle.terms.specs.Term.{Term, var, app}
@@ -22,9 +22,9 @@ use Rattle.unification.proofs.SectionLaws.{run, is-node, application-from, run-
 use Rattle.nodes.specs.Code.Open.{IsClosed, Counts, OpenListed}
 use Rattle.nodes.specs.Code.Order.{Met, leaf, before, Ordered}
 use Rattle.nodes.specs.Code.Named.{valueName, Alike, Applied, Named, Themselves}
-use Rattle.values.specs.Code.Naming.{Nameable, IsPlaced, compounds, keyOf, keyAt, NamedBefore, Naming, NamedAlong}
-use Rattle.binding.specs.Code.Binding.{HeadNames, NamesLeast, AllBelow, NoneLeads}
-use Rattle.values.specs.Code.Prepared.{preparedWords, ClosedListed, ClosedTable}
+use Rattle.values.specs.Code.Naming.{Nameable, IsPlaced, keyOf, keyAt, NamedBefore, Naming, NamedAlong}
+use Rattle.binding.specs.Code.Binding.{HeadNames, NamesLeast, NoneLeads}
+use Rattle.values.specs.Code.Prepared.{ClosedListed, ClosedTable}
 use Rattle.nodes.specs.Code.Formed.{Formed}
 use Rattle.values.proofs.AlikeLaws.{alike-same}
 use Rattle.values.proofs.ChainLaws.{chained-same}
@@ -225,16 +225,6 @@ module _ (nodes arguments : List ℕ) (s : Sections nodes arguments) (counts hea
         let z = length-append closed placed in
         omega (arith, x, y, z)
 
-    -- closed nodes are small numbers
-    pub closed-small : AllBelow maxNodes closed
-    closed-small =
-        record {
-          below = λ p h.
-              let x = c .is-closed p h .node in
-              let y = nodes-few nodes arguments s in
-              omega (arith, x, y);
-        }
-
     -- a head with arguments stands in one of both
     head-placed : (i : ℕ) → i < nodeCount nodes → 0 < countOf nodes (classOf heads i) → IsPlaced order (classOf heads i)
     head-placed i h l = go (ℕ-discrete (word counts (classOf heads i)) 0)
@@ -307,12 +297,12 @@ module _ (nodes arguments : List ℕ) (s : Sections nodes arguments) (counts hea
           record {
             readable = record { sections = s; partition = f .partition; long = l };
             ordered = prefix-nameable;
-            whole = compounds (record {
+            whole = record {
               compound = λ p h. part-compound p (part p h);
               placed = head-placed;
               itself = λ i h z. t .itself i (omega arith);
               constants = f .constants;
-            });
+            };
             buckets-long = x .buckets-long;
             earlier-long = x .earlier-long;
             named = first-named;
@@ -399,22 +389,15 @@ none-leads nodes counts opens heads o q n i h = go (ℕ-discrete (word counts (c
         let r = o .whole (classOf heads i) (q .below i h) (omega (arith, z)) in
         ap (word counts) (sym (q .own i h) ∙ ap (classOf heads) (sym (r .2))) ∙ n .none (r .0) (r .1)
 
--- what is put into an order: closed applications, and open ones behind them
-pub order-put : (closed placed xs ys zs : List ℕ) (start end : ℕ) → start ≡ length closed → end ≡ start + length placed →
-    ys ≡ closed ++ drop (length closed) xs → zs ≡ take start ys ++ placed ++ drop (start + length placed) ys → take (end - 0) zs ≡ closed ++ placed
-order-put closed placed xs ys zs start end e d f g =
-    let z : end - 0 ≡ length (closed ++ placed) = omega (arith, d, e, length-append closed placed) in
-    let h : take start ys ≡ closed = ap (take start) f ∙ take-at closed (drop (length closed) xs) start (sym e) in
-    ap (take (end - 0)) (g ∙ ap (λ (l : List ℕ). l ++ placed ++ drop (start + length placed) ys) h)
-    ∙ take-at (closed ++ placed) (drop (start + length placed) ys) (end - 0) (sym z)
+-- how long the first ones of an order are
+pub first-few : (ys : List ℕ) (start : ℕ) → length ys ≡ maxNodes → start ≤ maxNodes → length (take start ys) ≡ start
+first-few ys start l f = length-take-le start ys (omega arith)
 
--- the parts of the table and the list behind it, as the code takes them
-pub closed-parts : (nodes arguments counts heads prepared : List ℕ) (r : ℕ) → ClosedListed nodes counts heads (take r (drop 512 prepared)) →
-    ClosedTable nodes arguments heads (take r (drop 512 prepared)) (take 256 prepared) (take 256 (drop 256 prepared)) →
-    ClosedListed nodes counts heads (take (512 + r - 512) (drop 512 prepared)) ×
-    ClosedTable nodes arguments heads (take (512 + r - 512) (drop 512 prepared)) (take 256 prepared) (take 256 (drop 256 prepared))
-closed-parts nodes arguments counts heads prepared r l x = let d : 512 + r - 512 ≡ r = omega arith in rw d (l, x)
-
--- a table in words that are all 0 has nothing in it
-pub table-new : (length {A = ℕ} (replicate preparedWords 0) ≡ preparedWords) × ((k : ℕ) → k < 256 → word (replicate preparedWords 0) k ≡ 0)
-table-new = (length-replicate {A = ℕ} preparedWords 0, λ k h. getD-replicate {A = ℕ} preparedWords k 0 0 (omega arith))
+-- what is put into an order behind the first ones, and how long these are
+pub order-put : (placed ys zs : List ℕ) (start end : ℕ) → length ys ≡ maxNodes → start ≤ maxNodes → end ≡ start + length placed →
+    zs ≡ take start ys ++ placed ++ drop (start + length placed) ys →
+    (take (end - 0) zs ≡ take start ys ++ placed) × (length (take start ys) ≡ start)
+order-put placed ys zs start end l f d g =
+    let m = first-few ys start l f in
+    let z : end - 0 ≡ length (take start ys ++ placed) = omega (arith, d, m, length-append (take start ys) placed) in
+    (ap (take (end - 0)) g ∙ take-at (take start ys ++ placed) (drop (start + length placed) ys) (end - 0) (sym z), m)

@@ -2,8 +2,8 @@
 ghost use mathlib.Core.Path.{_≡_};
 ghost use mathlib.Core.Bool.{true, false};
 ghost use mathlib.Core.List.{_++_};
-ghost use Prim.Native.Nat.{_+_, _≤_, _<_};
-ghost use lib.ListN.{length, take, drop};
+ghost use Prim.Native.Nat.{_≤_, _<_};
+ghost use lib.ListN.{length, drop, replicate};
 ghost use Rattle.table.specs.Limits.{maxNodes};
 ghost use Rattle.table.specs.Layout.{word, nodeCount};
 ghost use Rattle.unification.specs.Node.{nodesFrom};
@@ -13,7 +13,7 @@ ghost use Rattle.nodes.specs.Code.Order.{Ordered};
 ghost use Rattle.values.specs.Code.Present.{leastNodes};
 ghost use Rattle.nodes.specs.Code.Named.{valueName, Named, Themselves};
 ghost use Rattle.binding.specs.Code.Binding.{HeadNames, NamesLeast, AreApplied, applicationNoted, OpenNoted, freeNoted, FreeFrom, readAt, AreNodes, AllBelow, WordsFound, NoneLeads, AreBare, HeadsFrom, plainWord, plainAt, PlainFound};
-ghost use Rattle.values.specs.Code.Prepared.{preparedWords, ClosedListed, ClosedTable};
+ghost use Rattle.values.specs.Code.Naming.{keys};
 ghost use Rattle.nodes.specs.Code.Formed.{Formed};
 ghost use Rattle.values.specs.Code.Begins.{Leaves};
 use classes::order;
@@ -23,9 +23,7 @@ use table::Node;
 use table::limits::MAX_NODES;
 use values::bytes::put_bytes;
 use values::names;
-use values::prepared::CLOSED;
-use values::prepared::EARLIER;
-use values::prepared::PREPARED;
+use values::names::KEYS;
 use values::prepared::list_closed;
 
 // Notes an application at its name, if no smaller node stands there.
@@ -174,52 +172,46 @@ fn find_words(
     write_words(nodes, arguments, heads, names, by, list, out);
 }
 
-// Puts the closed applications of a list in front of an order.
-fn put_closed(closed: &[u16], order: &mut [u8])
-    requires { ⌜ (length (now closed) ≤ length (now order)) × AllBelow maxNodes (now closed) ⌝ }
-    ensures { λ r. ⌜ now (order .exit) ≡ now (closed .entry) ++ drop (length (now (closed .entry))) (now (order .entry)) ⌝ }
-{
-    let mut i: usize = 0;
-    while i < closed.len() {
-        order[i] = closed[i] as u8;
-        i += 1;
-    }
-}
-
-// Names the values of open applications that are heads, with room for an order of these and the closed ones.
+// Names the values of open applications that are heads, behind the closed ones, with room for an order and a table of both.
 fn name_open(
     nodes: &[u32],
     arguments: &[u32],
     counts: &[u8],
     heads: &[u8],
-    closed: &[u16],
     placed: &[u8],
-    buckets: &[u16],
-    earlier: &[u16],
     order: &mut [u8],
+    buckets: &mut [u16],
+    earlier: &mut [u16],
     names: &mut [u8],
 )
     requires { ⌜ Sections (now nodes) (now arguments) × Counts (now nodes) (now arguments) (now counts) (nodeCount (now nodes)) ⌝ }
     requires { ⌜ Formed (now nodes) (now arguments) (now counts) (now heads) ⌝ }
     requires { ⌜ Ordered (now nodes) (now arguments) (word (now counts)) (now heads) (now placed) ⌝ }
-    requires { ⌜ ClosedListed (now nodes) (now counts) (now heads) (now closed) × ClosedTable (now nodes) (now arguments) (now heads) (now closed) (now buckets) (now earlier) ⌝ }
     requires { ⌜ (length (now names) ≡ nodeCount (now nodes)) × Themselves (now names) ⌝ }
-    requires { ⌜ length (now order) ≡ maxNodes + maxNodes ⌝ }
+    requires { ⌜ (length (now order) ≡ maxNodes) × (now buckets ≡ replicate keys 0) × (length (now earlier) ≡ maxNodes) ⌝ }
     ensures { λ r. ⌜ Named (now (nodes .entry)) (now (arguments .entry)) (now (heads .entry)) (now (names .exit)) × NamesLeast (now (nodes .entry)) (now (arguments .entry)) (now (counts .entry)) (now (heads .entry)) (now (names .exit)) ⌝ }
 {
-    let start = closed.len();
+    let start = list_closed(
+        nodes,
+        arguments,
+        counts,
+        heads,
+        names,
+        order,
+        buckets,
+        earlier,
+    );
     let end = start + placed.len();
-    put_closed(closed, order);
     put_bytes(placed, order, start);
-    names::name_after(
+    names::name_all(
         nodes,
         arguments,
         heads,
         &order[0..end],
         start,
+        names,
         buckets,
         earlier,
-        names,
     );
 }
 
@@ -310,59 +302,7 @@ fn bind_plain(nodes: &[u32], list: &[u8], heads: &[u8], out: &mut [u32])
     write_plain(nodes, list, heads, &by, out);
 }
 
-// Writes the binding words of classes where open applications are heads: these are named behind the closed ones, which are listed behind a
-// table of them.
-fn bind_listed(
-    nodes: &[u32],
-    arguments: &[u32],
-    counts: &[u8],
-    opens: &[u8],
-    prepared: &[u16],
-    closed: usize,
-    list: &[u8],
-    heads: &[u8],
-    names: &mut [u8],
-    by: &mut [u8],
-    out: &mut [u32],
-)
-    requires { ⌜ Sections (now nodes) (now arguments) × Counts (now nodes) (now arguments) (now counts) (nodeCount (now nodes)) ⌝ }
-    requires { ⌜ Formed (now nodes) (now arguments) (now counts) (now heads) × OpenListed (now nodes) (now counts) (now opens) ⌝ }
-    requires { ⌜ (length (now prepared) ≡ preparedWords) × (closed ≤ maxNodes) ⌝ }
-    requires { ⌜ ClosedListed (now nodes) (now counts) (now heads) (take closed (drop 512 (now prepared))) × ClosedTable (now nodes) (now arguments) (now heads) (take closed (drop 512 (now prepared))) (take 256 (now prepared)) (take 256 (drop 256 (now prepared))) ⌝ }
-    requires { ⌜ (now list ≡ leastNodes (nodesFrom (now nodes) (now arguments))) × (length (now list) ≤ length (now out)) ⌝ }
-    requires { ⌜ (length (now names) ≡ nodeCount (now nodes)) × Themselves (now names) × (length (now by) ≡ nodeCount (now nodes)) ⌝ }
-    ensures { λ r. ⌜ Leaves (now (nodes .entry)) (now (arguments .entry)) (now (heads .entry)) (now (out .entry)) (now (out .exit)) ⌝ }
-{
-    let closed_end = CLOSED + closed;
-    let n = sections::node_count(nodes, arguments);
-    let mut marks = [0u8; MAX_NODES];
-    let mut placed = [0u8; MAX_NODES];
-    let count = order::put_in_order(
-        nodes,
-        arguments,
-        counts,
-        heads,
-        opens,
-        &mut marks[0..n],
-        &mut placed[0..n],
-    );
-    let mut order = [0u8; MAX_NODES + MAX_NODES];
-    name_open(
-        nodes,
-        arguments,
-        counts,
-        heads,
-        &prepared[CLOSED..closed_end],
-        &placed[0..count],
-        &prepared[0..EARLIER],
-        &prepared[EARLIER..CLOSED],
-        &mut order,
-        names,
-    );
-    find_words(nodes, arguments, opens, heads, names, by, list, out);
-}
-
-// The same, with room for the closed applications. Each node is named by itself.
+// Writes the binding words of classes where open applications are heads: these are named behind the closed ones. Each node is named by itself.
 fn bind_named(
     nodes: &[u32],
     arguments: &[u32],
@@ -380,21 +320,33 @@ fn bind_named(
     requires { ⌜ (length (now names) ≡ nodeCount (now nodes)) × Themselves (now names) × (length (now by) ≡ nodeCount (now nodes)) ⌝ }
     ensures { λ r. ⌜ Leaves (now (nodes .entry)) (now (arguments .entry)) (now (heads .entry)) (now (out .entry)) (now (out .exit)) ⌝ }
 {
-    let mut prepared = [0u16; PREPARED];
-    let closed = list_closed(nodes, arguments, counts, heads, names, &mut prepared);
-    bind_listed(
+    let n = sections::node_count(nodes, arguments);
+    let mut marks = [0u8; MAX_NODES];
+    let mut placed = [0u8; MAX_NODES];
+    let count = order::put_in_order(
         nodes,
         arguments,
         counts,
-        opens,
-        &prepared,
-        closed,
-        list,
         heads,
-        names,
-        by,
-        out,
+        opens,
+        &mut marks[0..n],
+        &mut placed[0..n],
     );
+    let mut order = [0u8; MAX_NODES];
+    let mut buckets = [0u16; KEYS];
+    let mut earlier = [0u16; MAX_NODES];
+    name_open(
+        nodes,
+        arguments,
+        counts,
+        heads,
+        &placed[0..count],
+        &mut order,
+        &mut buckets,
+        &mut earlier,
+        names,
+    );
+    find_words(nodes, arguments, opens, heads, names, by, list, out);
 }
 
 // The same where open applications need not be heads, with room for the names of heads and for nodes by name.

@@ -10,10 +10,10 @@ use lib.Seq.{length-take-le, take-at, drop-at, getD-take, getD-drop, getD-append
 use Rattle.table.specs.Limits.{maxTerms, maxLabels}
 use Rattle.table.specs.Layout.{word, nodeCount}
 use Rattle.unification.specs.Node.{nodesFrom}
+use Rattle.unification.specs.Computed.Variables.{variablesOf}
 use Rattle.unification.specs.Code.Sections.{Sections}
 use Rattle.nodes.specs.Code.Open.{Counts, OpenListed}
 use Rattle.values.specs.Code.Present.{leastNodes}
-use Rattle.values.proofs.LeastLaws.{least-long}
 use Rattle.branches.specs.Code.Known.{knownBytes, leftIn, rightIn, opensIn, listIn, SidesKnown, counted, putAt, PutSides}
 use Rattle.branches.proofs.KnownLaws.{part-kept, counts-kept, opens-same-listed, left-word, right-word}
 
@@ -74,34 +74,24 @@ module _ (p : ℕ) (words known : List ℕ) (room : p + length words ≤ length 
   put-word j h = sym (part-word after p (length words) j h) ∙ ap (λ (ws : List ℕ). word ws j) put-here
 
 -- the parts are put one after the other
-pub sides-put : {left right list known known₁ known₂ known₃ known′ : List ℕ} {k l : ℕ} → known₁ ≡ putAt 512 list known →
-    known₂ ≡ counted (length left) (length right) k l (length list) known₁ → known₃ ≡ putAt 584 left known₂ → known′ ≡ putAt 592 right known₃ →
-    PutSides left right k l list known known′
-sides-put {left} {right} {list} {k = k} {l = l} x y z w =
-    record { is = w ∙ ap (putAt 592 right) (z ∙ ap (putAt 584 left) (y ∙ ap (counted (length left) (length right) k l (length list)) x)) }
+pub sides-put : {left right known known₁ known₂ known′ : List ℕ} {k l v : ℕ} → known₁ ≡ counted (length left) (length right) k l v known →
+    known₂ ≡ putAt 584 left known₁ → known′ ≡ putAt 592 right known₂ → PutSides left right k l v known known′
+sides-put {left} {right} y z w = record { is = w ∙ ap (putAt 592 right) (z ∙ ap (putAt 584 left) y) }
 
 -- the sides are put
-module _ {left right list known known′ : List ℕ} {k l : ℕ} (size : length known ≡ knownBytes) (left-few : length left ≤ maxTerms)
-    (right-few : length right ≤ maxTerms) (list-few : length list ≤ 64) (p : PutSides left right k l list known known′) where
+module _ {left right known known′ : List ℕ} {k l v : ℕ} (size : length known ≡ knownBytes) (left-few : length left ≤ maxTerms)
+    (right-few : length right ≤ maxTerms) (v-few : v ≤ 64) (p : PutSides left right k l v known known′) where
   -- The numbers.
   abbrev numbers : List ℕ
-  numbers = length list ∷ length left ∷ length right ∷ k ∷ l ∷ (length left + length right + length list) ∷ (2 ^ length right - 1) ∷ []
+  numbers = v ∷ length left ∷ length right ∷ k ∷ l ∷ (length left + length right + v) ∷ (2 ^ length right - 1) ∷ []
 
-  -- The bytes with the list.
-  abbrev listed : List ℕ
-  listed = putAt 512 list known
-
-  -- there is room for it
-  list-room : 512 + length list ≤ length known
-  list-room = omega (arith, size, list-few)
-
-  -- The bytes with the numbers too.
+  -- The bytes with the numbers.
   abbrev numbered : List ℕ
-  numbered = putAt 577 numbers listed
+  numbered = putAt 577 numbers known
 
   -- there is room for them
-  number-room : 577 + length numbers ≤ length listed
-  number-room = omega (arith, size, put-long 512 list known list-room)
+  number-room : 577 + length numbers ≤ length known
+  number-room = omega (arith, size)
 
   -- The bytes with the left terms too.
   abbrev lefted : List ℕ
@@ -109,56 +99,35 @@ module _ {left right list known known′ : List ℕ} {k l : ℕ} (size : length 
 
   -- there is room for them
   left-room : 584 + length left ≤ length numbered
-  left-room = omega (arith, size, left-few, put-long 512 list known list-room, put-long 577 numbers listed number-room)
+  left-room = omega (arith, size, left-few, put-long 577 numbers known number-room)
 
   -- there is room for the right terms
   right-room : 592 + length right ≤ length lefted
-  right-room =
-      omega
-      (arith, size, right-few, put-long 512 list known list-room, put-long 577 numbers listed number-room, put-long 584 left numbered left-room)
+  right-room = omega (arith, size, right-few, put-long 577 numbers known number-room, put-long 584 left numbered left-room)
 
   -- the parts are put one after the other
   parts : known′ ≡ putAt 592 right lefted
   unfolding counted
-  parts = p .is ∙ ap (λ (ks : List ℕ). putAt 592 right (putAt 584 left ks)) (sets-eq numbers listed 577 number-room)
+  parts = p .is ∙ ap (λ (ks : List ℕ). putAt 592 right (putAt 584 left ks)) (sets-eq numbers known 577 number-room)
 
   -- there are as many bytes
   pub sides-long : length known′ ≡ length known
   sides-long =
-      ap length parts ∙ put-long 592 right lefted right-room ∙ put-long 584 left numbered left-room
-      ∙ put-long 577 numbers listed number-room
-      ∙ put-long 512 list known list-room
+      ap length parts ∙ put-long 592 right lefted right-room ∙ put-long 584 left numbered left-room ∙ put-long 577 numbers known number-room
 
-  -- before the sides only the list and the numbers are put
+  -- before the sides only the numbers are put
   early : (i : ℕ) → i < 584 → word known′ i ≡ word numbered i
   early i h =
       ap (λ (ks : List ℕ). word ks i) parts ∙ put-before 592 right lefted right-room i (omega (arith, h))
       ∙ put-before 584 left numbered left-room i h
 
-  -- the bytes before the list stay
-  pub sides-before : (i : ℕ) → i < 512 → word known′ i ≡ word known i
-  sides-before i h =
-      early i (omega (arith, h)) ∙ put-before 577 numbers listed number-room i (omega (arith, h))
-      ∙ put-before 512 list known list-room i h
-
-  -- and so does the number behind it
-  sides-opens : word known′ 576 ≡ word known 576
-  sides-opens =
-      early 576 (omega arith) ∙ put-before 577 numbers listed number-room 576 (omega arith)
-      ∙ put-behind 512 list known list-room 576 (omega (arith, list-few))
+  -- the bytes before the numbers stay
+  pub sides-before : (i : ℕ) → i < 577 → word known′ i ≡ word known i
+  sides-before i h = early i (omega (arith, h)) ∙ put-before 577 numbers known number-room i h
 
   -- the numbers
   sides-number : (j : ℕ) → j < 7 → word known′ (577 + j) ≡ word numbers j
-  sides-number j h = early (577 + j) (omega (arith, h)) ∙ put-word 577 numbers listed number-room j h
-
-  -- the list
-  sides-list : listIn known′ ≡ list
-  unfolding listIn
-  sides-list =
-      ap (λ (n : ℕ). take n (drop 512 known′)) (sides-number 0 (omega arith))
-      ∙ part-same listed known′ 512 (length list) (sides-long ∙ sym (put-long 512 list known list-room))
-      (λ i h. early (512 + i) (omega (arith, h, list-few)) ∙ put-before 577 numbers listed number-room (512 + i) (omega (arith, h, list-few)))
-      ∙ put-here 512 list known list-room
+  sides-number j h = early (577 + j) (omega (arith, h)) ∙ put-word 577 numbers known number-room j h
 
   -- the left terms
   sides-left : leftIn known′ ≡ left
@@ -178,26 +147,27 @@ module _ {left right list known known′ : List ℕ} {k l : ℕ} (size : length 
       ∙ ap (λ (ks : List ℕ). take (length right) (drop 592 ks)) parts
       ∙ put-here 592 right lefted right-room
 
--- the sides are put where the counts, the open applications and how many these are stand
-module _ {nodes arguments known₀ known₁ left right list known : List ℕ} {r k l : ℕ} (s : Sections nodes arguments)
+-- the sides are put where the counts, the open applications, how many these are and the least nodes of the variables stand
+module _ {nodes arguments known₀ known₁ left right known : List ℕ} {r k l v : ℕ} (s : Sections nodes arguments)
     (size : length known₀ ≡ knownBytes) (c : Counts nodes arguments known₀ (nodeCount nodes)) (few : r < 256)
     (o : OpenListed nodes known₀ (take r (drop 256 known₀))) (e : known₁ ≡ set known₀ 576 r)
-    (is-list : list ≡ leastNodes (nodesFrom nodes arguments)) (list-few : length list ≤ 64) (left-few : length left ≤ maxTerms)
-    (right-few : length right ≤ maxTerms) (left-nodes : (j : ℕ) → j < length left → word left j < nodeCount nodes)
+    (is-list : take v (drop 512 known₀) ≡ leastNodes (nodesFrom nodes arguments)) (v-few : v ≤ 64)
+    (v-is : v ≡ length (variablesOf (nodesFrom nodes arguments))) (left-few : length left ≤ maxTerms) (right-few : length right ≤ maxTerms)
+    (left-nodes : (j : ℕ) → j < length left → word left j < nodeCount nodes)
     (right-nodes : (j : ℕ) → j < length right → word right j < nodeCount nodes) (k-few : k ≤ maxLabels) (l-few : l ≤ maxLabels)
-    (p : PutSides left right k l list known₁ known) where
+    (p : PutSides left right k l v known₁ known) where
   -- there are as many bytes
   noted-long : length known₁ ≡ knownBytes
   noted-long = ap length e ∙ length-set known₀ 576 r ∙ size
 
   -- A number of the sides.
-  number : (j : ℕ) → j < 7 → word known (577 + j) ≡ word (numbers noted-long left-few right-few list-few p) j
-  number = sides-number noted-long left-few right-few list-few p
+  number : (j : ℕ) → j < 7 → word known (577 + j) ≡ word (numbers noted-long left-few right-few v-few p) j
+  number = sides-number noted-long left-few right-few v-few p
 
-  -- the counts and the open applications stay
-  early-same : (i : ℕ) → i < 512 → word known i ≡ word known₀ i
+  -- all before how many open applications there are stays
+  early-same : (i : ℕ) → i < 576 → word known i ≡ word known₀ i
   early-same i h =
-      sides-before noted-long left-few right-few list-few p i h ∙ ap (λ (ks : List ℕ). word ks i) e
+      sides-before noted-long left-few right-few v-few p i (omega (arith, h)) ∙ ap (λ (ks : List ℕ). word ks i) e
       ∙ getD-set-other known₀ 576 i r 0 (λ z. omega (arith, z, h))
 
   -- at nodes as well
@@ -206,12 +176,12 @@ module _ {nodes arguments known₀ known₁ left right list known : List ℕ} {r
 
   -- so does how many bytes there are
   sides-size : length known ≡ length known₀
-  sides-size = sides-long noted-long left-few right-few list-few p ∙ noted-long ∙ sym size
+  sides-size = sides-long noted-long left-few right-few v-few p ∙ noted-long ∙ sym size
 
   -- and how many open applications there are
   opens-number : word known 576 ≡ r
   opens-number =
-      sides-opens noted-long left-few right-few list-few p ∙ ap (λ (ks : List ℕ). word ks 576) e
+      sides-before noted-long left-few right-few v-few p 576 (omega arith) ∙ ap (λ (ks : List ℕ). word ks 576) e
       ∙ getD-set-same known₀ 576 r 0 (omega (arith, size))
 
   -- these stay
@@ -220,6 +190,13 @@ module _ {nodes arguments known₀ known₁ left right list known : List ℕ} {r
   opens-same =
       ap (λ (n : ℕ). take n (drop 256 known)) opens-number
       ∙ part-same known₀ known 256 r sides-size (λ i h. early-same (256 + i) (omega (arith, h, few)))
+
+  -- and so do the least nodes of the variables
+  list-same : listIn known ≡ take v (drop 512 known₀)
+  unfolding listIn
+  list-same =
+      ap (λ (n : ℕ). take n (drop 512 known)) (number 0 (omega arith))
+      ∙ part-same known₀ known 512 v sides-size (λ i h. early-same (512 + i) (omega (arith, h, v-few)))
 
   -- all of it is known then
   pub known-sides : SidesKnown nodes arguments left right k l known
@@ -231,8 +208,8 @@ module _ {nodes arguments known₀ known₁ left right list known : List ℕ} {r
           counts = counts-kept node-same (omega (arith, s .limit, sides-size, size)) c;
           opens-few = omega (arith, opens-number, few);
           opens = rw opens-same (opens-same-listed node-same o);
-          list-few = omega (arith, number 0 (omega arith), list-few);
-          list = sides-list noted-long left-few right-few list-few p ∙ is-list;
+          list-few = omega (arith, number 0 (omega arith), v-few);
+          list = list-same ∙ is-list;
           left-few = omega (arith, number 1 (omega arith), left-few);
           right-few = omega (arith, number 2 (omega arith), right-few);
           left-nodes = λ j h. rw (sym (left-word known j h) ∙ ap (λ (ws : List ℕ). word ws j) is-left)
@@ -248,15 +225,14 @@ module _ {nodes arguments known₀ known₁ left right list known : List ℕ} {r
         right-is = is-right;
         left-labelled = number 3 (omega arith);
         right-labelled = number 4 (omega arith);
-        width-is = number 5 (omega arith) ∙ ap (λ (n : ℕ). length left + length right + n)
-            (ap length is-list ∙ least-long (nodesFrom nodes arguments));
+        width-is = number 5 (omega arith) ∙ ap (λ (n : ℕ). length left + length right + n) v-is;
       }
     where
       is-left : leftIn known ≡ left
-      is-left = sides-left noted-long left-few right-few list-few p
+      is-left = sides-left noted-long left-few right-few v-few p
 
       is-right : rightIn known ≡ right
-      is-right = sides-right noted-long left-few right-few list-few p
+      is-right = sides-right noted-long left-few right-few v-few p
 
       whole : word known 583 ≡ 2 ^ length right - 1 → word known 583 + 1 ≡ 2 ^ length right
       whole z = omega (arith, z, pow-pos (length right))

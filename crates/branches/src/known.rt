@@ -6,7 +6,6 @@ ghost use lib.ListN.{length, take, drop};
 ghost use Rattle.table.specs.Limits.{maxTerms, maxLabels};
 ghost use Rattle.table.specs.Layout.{word};
 ghost use Rattle.branches.specs.Code.Known.{knownBytes, AllBytes, counted, PutSides};
-use values::bytes::put_bytes;
 
 // Where the open applications begin.
 pub const OPENS: usize = 256;
@@ -96,14 +95,13 @@ fn put_counts(n: usize, m: usize, k: usize, l: usize, v: usize, known: &mut [u8]
     known[EVERY] = all as u8;
 }
 
-// Puts the two sides, with k and l labels, and the least nodes of the variables.
-pub fn put_sides(left: &[u32], right: &[u32], k: usize, l: usize, list: &[u8], known: &mut [u8])
-    requires { ⌜ (length (now left) ≤ maxTerms) × (length (now right) ≤ maxTerms) × (k ≤ maxLabels) × (l ≤ maxLabels) × (length (now list) ≤ 64) × (length (now known) ≡ knownBytes) ⌝ }
+// Puts the two sides, with k and l labels, and how many variables there are.
+pub fn put_sides(left: &[u32], right: &[u32], k: usize, l: usize, v: usize, known: &mut [u8])
+    requires { ⌜ (length (now left) ≤ maxTerms) × (length (now right) ≤ maxTerms) × (k ≤ maxLabels) × (l ≤ maxLabels) × (v ≤ 64) × (length (now known) ≡ knownBytes) ⌝ }
     requires { ⌜ AllBytes (now left) × AllBytes (now right) ⌝ }
-    ensures { λ r. ⌜ PutSides (now (left .entry)) (now (right .entry)) k l (now (list .entry)) (now (known .entry)) (now (known .exit)) ⌝ }
+    ensures { λ r. ⌜ PutSides (now (left .entry)) (now (right .entry)) k l v (now (known .entry)) (now (known .exit)) ⌝ }
 {
-    put_bytes(list, known, LIST);
-    put_counts(left.len(), right.len(), k, l, list.len(), known);
+    put_counts(left.len(), right.len(), k, l, v, known);
     put_terms(left, known, LEFT);
     put_terms(right, known, RIGHT);
 }

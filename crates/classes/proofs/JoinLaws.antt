@@ -23,7 +23,7 @@ use Rattle.unification.proofs.SectionLaws.{symbols-differ, run, run-long, nodes
 use Rattle.nodes.specs.Code.Open.{IsClosed, closedTest, KeepsClosed}
 use Rattle.nodes.specs.Code.Uniting.{TwoHeads}
 use Rattle.nodes.specs.Code.Trail.{Trailed, Merges, none, Goes}
-use Rattle.classes.specs.Code.Closure.{ClosureUpTo, argumentPair, argumentPairs, Joinable, Joins}
+use Rattle.classes.specs.Code.Closure.{ClosureUpTo, argumentPair, argumentPairs, Joinable, Joins, JoinsAtOnce}
 use Rattle.classes.proofs.TrailLaws.{one-merged, merges-on, merges-trailed}
 use Rattle.nodes.proofs.OpenLaws.{closed-true, closed-false, weaker-variable, weaker-closed, closed-kept}
 use Rattle.classes.proofs.ClosedClashLaws.{SameTerm, closed-joined}
@@ -67,6 +67,10 @@ module _ (nodes counts : List ℕ) (g h : ℕ) (hg : g < nodeCount nodes) (hh : 
           IsClosed nodes counts h → ⊥
       go false y a b z m n = closed-false nodes counts g a m
       go true y a b z m n = closed-false nodes counts h (b ∙ z) n
+
+-- a head's test for a variable, by the head's number
+pub kind-of : (nodes : List ℕ) {g h : ℕ} {r : Bool} → r ≡ eqb (kindOf nodes g) 0 → g ≡ h → r ≡ eqb (kindOf nodes h) 0
+kind-of nodes e d = e ∙ ap (λ (k : ℕ). eqb (kindOf nodes k) 0) d
 
 -- a test of two nodes, by their numbers
 pub tested-by : (f : ℕ → ℕ → Bool) (x y g h : ℕ) (r : Bool) → x ≡ g → y ≡ h → r ≡ f x y → r ≡ f g h
@@ -204,6 +208,41 @@ module _ (nodes arguments counts : List ℕ) (g h : ℕ) where
                   Joined (nodesFrom nodes arguments) ps x y
               go (inl q) = c .wanted x y (Memᴰ·append-left todo (first-among (x, y) q))
               go (inr q) = c .wanted x y q
+
+module _ {nodes arguments counts heads next : List ℕ} {a b : ℕ} where
+  -- a pair that is joined at once
+  pub joined-at-once : {heads′ next′ : List ℕ} → Joins nodes arguments counts heads next a b true heads′ next′ →
+      JoinsAtOnce nodes arguments counts heads next a b true heads′ next′
+  joined-at-once w = record { joins = λ e. w; same = λ e. absurd (false≢true (sym e)) }
+
+  -- one that is not
+  pub left-at-once : JoinsAtOnce nodes arguments counts heads next a b false heads next
+  left-at-once = record { joins = λ e. absurd (false≢true e); same = λ e. (refl, refl) }
+
+  -- the pair is joined, by whatever means, and the classes are told by other names
+  pub joined-to : {fine : Bool} {heads′ next′ heads″ next″ : List ℕ} → Joins nodes arguments counts heads next a b fine heads′ next′ →
+      fine ≡ true → heads″ ≡ heads′ → next″ ≡ next′ → Joins nodes arguments counts heads next a b true heads″ next″
+  joined-to w r d e = rw (d, e, sym r) w
+
+  -- joining leaves as many heads, and as many links
+  pub joins-long : {fine : Bool} {heads′ next′ : List ℕ} → Joinable nodes arguments counts heads next →
+      Joins nodes arguments counts heads next a b fine heads′ next′ → (length heads′ ≡ length heads) × (length next′ ≡ length next)
+  joins-long j w =
+      (w .partition .size ∙ sym (j .partition .size), merges-trailed (j .trailed) (w .merges) .size ∙ sym (j .trailed .size))
+
+  module _ {r : Bool} {heads′ next′ : List ℕ} (z : JoinsAtOnce nodes arguments counts heads next a b r heads′ next′) (e : r ≡ false) where
+    -- a pair that was not joined at once can be joined yet
+    pub joinable-left : Joinable nodes arguments counts heads next → Joinable nodes arguments counts heads′ next′
+    joinable-left j = rw (z .same e .0, z .same e .1) j
+
+    -- there are as many classes as before
+    pub roots-left : roots (nodeCount nodes) heads′ ≡ roots (nodeCount nodes) heads
+    roots-left = ap (roots (nodeCount nodes)) (z .same e .0)
+
+    -- and joining it then comes to the same
+    pub joins-left : {fine : Bool} {heads″ next″ : List ℕ} → Joins nodes arguments counts heads′ next′ a b fine heads″ next″ →
+        Joins nodes arguments counts heads next a b fine heads″ next″
+    joins-left w = rw (sym (z .same e .0), sym (z .same e .1)) w
 
 -- Nodes x and y are nodes a and b, in one order or the other.
 data Either (a b : ℕ) : ℕ → ℕ → Type 0 where

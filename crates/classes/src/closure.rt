@@ -5,7 +5,7 @@ ghost use mathlib.Core.Logic.{_⊎_};
 ghost use Prim.Native.Nat.{ℕ, _<_, _≤_};
 ghost use lib.ListN.{length};
 ghost use Rattle.table.specs.Layout.{nodeCount};
-ghost use Rattle.classes.specs.Code.Closure.{Joinable, Joins};
+ghost use Rattle.classes.specs.Code.Closure.{Joinable, Joins, JoinsAtOnce};
 ghost use Rattle.nodes.specs.Code.Uniting.{strengthOf, Circling, TwoHeads};
 ghost use Rattle.nodes.specs.Code.Trail.{Trailed, Goes};
 use crate::trail::merge;
@@ -68,6 +68,37 @@ fn unite(nodes: &[u32], counts: &[u8], heads: &mut [u8], next: &mut [u8], g: u8,
     merge(heads, next, h, g);
 }
 
+// Joins two nodes if nothing is to be joined after them: they are of one class, or the head of one is a variable. Says whether it has; if not,
+// the classes are as before.
+fn join_at_once(
+    nodes: &[u32],
+    arguments: &[u32],
+    counts: &[u8],
+    heads: &mut [u8],
+    next: &mut [u8],
+    a: Node,
+    b: Node,
+) -> bool
+    requires { ⌜ Joinable (now nodes) (now arguments) (now counts) (now heads) (now next) ⌝ }
+    requires { ⌜ (a .0 < nodeCount (now nodes)) × (b .0 < nodeCount (now nodes)) ⌝ }
+    ensures { λ r. ⌜ JoinsAtOnce (now (nodes .entry)) (now (arguments .entry)) (now (counts .entry)) (now (heads .entry)) (now (next .entry)) (a .0) (b .0) r (now (heads .exit)) (now (next .exit)) ⌝ }
+{
+    let i = a.0 as usize;
+    let j = b.0 as usize;
+    let g = heads[i];
+    let h = heads[j];
+    if g == h {
+        return true;
+    }
+    let first = lists::node(g);
+    let second = lists::node(h);
+    if sections::is_variable(nodes, first) | sections::is_variable(nodes, second) {
+        unite(nodes, counts, heads, next, g, h);
+        return true;
+    }
+    false
+}
+
 // Joins two nodes, and whatever the closure then joins. Says whether there is no clash.
 pub fn join(
     nodes: &[u32],
@@ -106,8 +137,10 @@ pub fn join(
     while k < count {
         let x = sections::argument(nodes, arguments, first, k);
         let y = sections::argument(nodes, arguments, second, k);
-        if !join(nodes, arguments, counts, heads, next, x, y) {
-            return false;
+        if !join_at_once(nodes, arguments, counts, heads, next, x, y) {
+            if !join(nodes, arguments, counts, heads, next, x, y) {
+                return false;
+            }
         }
         k += 1;
     }

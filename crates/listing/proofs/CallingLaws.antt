@@ -4,14 +4,13 @@ use Prim.Native.Nat.{ℕ, zero, suc, _+_, _-_, _*_, _/_, _≤_, _<_}
 use mathlib.Core.Bool.{Bool, true, false, cond}
 use mathlib.Core.List.{List, [], _∷_, flatten, List·Memᴰ, List·Memᴰ·not-nil}
 use mathlib.Core.Path.{_≡_, refl, sym, ap, _∙_}
-use native.Mathlib.Decide.{decLt}
 use native.Mathlib.Nat.{div-mul-le-self, lt-div-mul-add, div-lt-iff-lt-mul}
 use native.Mathlib.Omega.{arith}
 use borrow.Author.Tests.{ltb-true, ltb-false}
 use lib.Arith.{digits-div}
 use lib.Dec.{ltb}
-use lib.ListN.{length, take, drop, set, replicate, length-replicate, getD-replicate, replicate-append-replicate, length-map}
-use lib.Seq.{drop-at, take-all, length-take-le}
+use lib.ListN.{length, take, drop, set, replicate, length-replicate, getD-replicate, replicate-append-replicate}
+use lib.Seq.{drop-at, length-take-le}
 use Rattle.table.specs.declared.Refusal.{Refusal}
 use Rattle.table.specs.Limits.{maxNodes}
 use Rattle.table.specs.Layout.{word, nodeCount, nodesOf, argumentsOf, leftTermsOf, leftLabelsOf, rightTermsOf, rightLabelsOf}
@@ -22,17 +21,14 @@ use Rattle.table.specs.Code.Accepted.{Accepted}
 use Rattle.table.proofs.AnswerLaws.{number-above}
 use Rattle.unification.specs.Node.{nodesIn, nodesFrom}
 use Rattle.unification.specs.Computed.Variables.{variablesOf}
-use Rattle.unification.specs.Computed.Solution.{nodeOf}
 use Rattle.unification.specs.Computed.Unifying.{wordsOf}
 use Rattle.unification.proofs.ListLaws.{length-none, part-long}
 use Rattle.unification.proofs.JoinedLaws.{inside-none}
 use Rattle.unification.proofs.TableLaws.{sections-of, nodes-of-sections, well-formed}
 use Rattle.unification.proofs.AnswerLaws.{words-counted}
-use Rattle.values.specs.declared.Variables.{Variables}
-use Rattle.values.specs.Code.Present.{leastNodes}
 use Rattle.nodes.specs.Code.Open.{Counts, OpenListed}
 use Rattle.nodes.specs.Code.Trail.{Trailed}
-use Rattle.values.specs.Code.Begins.{Lists, BeginsShared}
+use Rattle.values.specs.Code.Begins.{BeginsShared}
 use Rattle.multiset_unification.specs.declared.Listing.the-variants.{Finished, Full, Refused}
 use Rattle.multiset_unification.specs.Problem.{halfAt, problemOf}
 use Rattle.multiset_unification.specs.Answer.{Told, told, fitting, lentAfter}
@@ -161,33 +157,9 @@ all-empty nodes arguments [] [] k l h =
 all-empty nodes arguments [] (b ∷ right) k l h = absurd (omega arith)
 all-empty nodes arguments (a ∷ left) right k l h = absurd (omega arith)
 
--- the variables present are in the list of their nodes
-variables-inside : {nodes arguments : List ℕ} {v : Variables} → Lists nodes arguments v → v .count ≤ length (v .nodes)
-unfolding leastNodes
-variables-inside {nodes} {arguments} {v} s = go (decLt (length (v .nodes)) (v .count))
-  where
-    long : length (take (v .count) (v .nodes)) ≡ v .count
-    long = ap length (s .least) ∙ length-map (variablesOf (nodesFrom nodes arguments)) (nodeOf (nodesFrom nodes arguments)) ∙ sym (s .counted)
-
-    go : Dec (length (v .nodes) < v .count) → v .count ≤ length (v .nodes)
-    go (yes q) = let e = ap length (take-all (v .count) (v .nodes) (omega arith)) in omega (arith, e, long)
-    go (no q) = omega arith
-
 -- what a listing begins with
-module _ {nodes arguments left right : List ℕ} {k l : ℕ} (g : Listable nodes arguments left right k l) {v : Variables} {heads : List ℕ}
-    (s : BeginsShared nodes arguments v heads) where
-  -- the least nodes of the variables fit into the list
-  pub list-inside : v .count ≤ length (v .nodes)
-  list-inside = variables-inside (s .lists)
-
-  -- they are so many
-  pub list-long : length (take (v .count - 0) (v .nodes)) ≡ v .count
-  list-long = part-long (v .nodes) (v .count) list-inside
-
-  -- and few
-  pub list-few : length (take (v .count - 0) (v .nodes)) ≤ 64
-  list-few = omega (arith, list-long, s .lists .within)
-
+module _ {nodes arguments left right : List ℕ} {k l v : ℕ} (g : Listable nodes arguments left right k l) {list heads : List ℕ}
+    (s : BeginsShared nodes arguments v list heads) where
   -- terms are bytes
   pub left-bytes : AllBytes left
   left-bytes = record { small = λ j h. let q = g .left-nodes j h in omega (arith, q, g .sections .limit) }
@@ -206,19 +178,17 @@ module _ {nodes arguments left right : List ℕ} {k l : ℕ} (g : Listable nodes
       }
 
   -- all of it is begun
-  pub begun : {next known₀ known₁ known : List ℕ} {r : ℕ} → length heads ≡ nodeCount nodes → Trailed (length heads) heads next →
+  pub begun : {next known₀ known₁ known : List ℕ} {r : ℕ} → list ≡ drop 512 known₀ → Trailed (nodeCount nodes) heads next →
       length known₀ ≡ knownBytes → Counts nodes arguments known₀ (nodeCount nodes) → r < maxNodes →
-      OpenListed nodes known₀ (take r (drop 256 known₀)) → known₁ ≡ set known₀ 576 r →
-      PutSides left right k l (take (v .count - 0) (v .nodes)) known₁ known →
-      Begun nodes arguments left right k l heads next known (length left + length right + v .count)
-  begun {known = known} n t size c few o e p =
-      let z : v .count - 0 ≡ v .count = omega arith in
-      let sides = known-sides (g .sections) size c few o e (ap (λ (j : ℕ). take j (v .nodes)) z ∙ s .lists .least) list-few (g .left-few)
-      (g .right-few) (g .left-nodes) (g .right-nodes) (g .left-labels) (g .right-labels) p in
+      OpenListed nodes known₀ (take r (drop 256 known₀)) → known₁ ≡ set known₀ 576 r → PutSides left right k l v known₁ known →
+      Begun nodes arguments left right k l heads next known (length left + length right + v)
+  begun {known = known} z t size c few o e p =
+      let sides = known-sides (g .sections) size c few o e (ap (take v) (sym z) ∙ s .lists .least) (s .lists .within) (s .lists .counted)
+      (g .left-few) (g .right-few) (g .left-nodes) (g .right-nodes) (g .left-labels) (g .right-labels) p in
       record {
         sides = sides;
         formed = s .formed known (sides .knows .counts);
-        trailed = rw n at t;
+        trailed = t;
         standing = begun-standing;
         width-is = ap (λ (j : ℕ). length left + length right + j) (s .lists .counted) ∙ sym (sides .width-is);
       }

@@ -1,6 +1,6 @@
 -- The words of an entry, by the sections that they are counted in: the variables are those of the nodes.
 -- Assumes nothing.
-use Prim.Native.Nat.{ℕ, _+_}
+use Prim.Native.Nat.{ℕ, _+_, _≤_}
 use mathlib.Core.Bool.{cond}
 use mathlib.Core.List.{List}
 use mathlib.Core.Path.{_≡_, refl}
@@ -13,21 +13,32 @@ use Rattle.table.specs.Answer.{numberOf}
 use Rattle.table.specs.Layout.{nodesOf, argumentsOf, leftTermsOf, rightTermsOf}
 use Rattle.table.specs.Refusal.{refusal}
 use Rattle.table.specs.Code.Sections.{leftTerms}
+use Rattle.table.specs.Code.Accepted.{Accepted}
+use Rattle.table.proofs.AcceptedLaws.{accepted}
 use Rattle.table.proofs.AnswerLaws.{number-above}
+use Rattle.unification.specs.Node.{nodesFrom}
+use Rattle.unification.specs.Computed.Variables.{variablesOf}
 use Rattle.unification.specs.Answer.{variableCount}
 use Rattle.unification.proofs.TableLaws.{nodes-of-sections}
-use Rattle.values.specs.declared.Variables.{Variables}
-use Rattle.values.specs.Code.Begins.{Lists}
+use Rattle.unification.proofs.AnswerLaws.{variables-most}
 use Rattle.multiset_unification.specs.Problem.{halfAt, problemOf}
 use Rattle.multiset_unification.specs.Answer.{entryWords}
 use Rattle.multiset_unification.proofs.OneHalfLaws.{one-digits}
 
+-- at most 64 variables are present
+pub variables-counted : (t nodes arguments : List ℕ) (v : ℕ) → Accepted t → nodes ≡ nodesOf t → arguments ≡ argumentsOf t →
+    v ≡ length (variablesOf (nodesFrom nodes arguments)) → v ≤ 64
+unfolding variableCount
+variables-counted t nodes arguments v a e f l =
+    let few : length (variablesOf (nodesFrom nodes arguments)) ≤ 64 = rw (e, f, ← nodes-of-sections t) (variables-most t (accepted t .1 a)) in
+    omega (arith, l, few)
+
 -- the terms of both sides and the variables present, counted
-pub entry-counted : (t nodes arguments left right : List ℕ) (v : Variables) → nodes ≡ nodesOf t → arguments ≡ argumentsOf t →
-    left ≡ leftTermsOf t → right ≡ rightTermsOf t → Lists nodes arguments v → length left + length right + v .count ≡ entryWords (problemOf t)
+pub entry-counted : (t nodes arguments left right : List ℕ) (v : ℕ) → nodes ≡ nodesOf t → arguments ≡ argumentsOf t → left ≡ leftTermsOf t →
+    right ≡ rightTermsOf t → v ≡ length (variablesOf (nodesFrom nodes arguments)) → length left + length right + v ≡ entryWords (problemOf t)
 unfolding entryWords variableCount
 entry-counted t nodes arguments left right v e f g h l =
-    rw (one-digits (halfAt t leftTerms), nodes-of-sections t, ← e, ← f, ← g, ← h, l .counted) refl
+    rw (one-digits (halfAt t leftTerms), nodes-of-sections t, ← e, ← f, ← g, ← h, l) refl
 
 module _ (t : List ℕ) (n : ℕ) where
   -- a refused table has no entry

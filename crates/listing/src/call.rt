@@ -25,8 +25,6 @@ use table::layout;
 use table::layout::index;
 use table::limits::MAX_NODES;
 use values::beginning::begin_shared;
-use values::beginning::make_circles;
-use values::prepared::count_open;
 use walking::walk::Position;
 use walking::walk::walk;
 
@@ -49,13 +47,10 @@ fn begin(
     requires { ⌜ (length (now heads) ≡ nodeCount (now nodes)) × (now next ≡ replicate links 0) × (length (now known) ≡ knownBytes) ⌝ }
     ensures { λ r. ⌜ Begun (now (nodes .entry)) (now (arguments .entry)) (now (left .entry)) (now (right .entry)) k l (now (heads .exit)) (now (next .exit)) (now (known .exit)) r ⌝ }
 {
-    let variables = begin_shared(nodes, arguments, heads);
-    make_circles(heads, next);
-    let opens = count_open(nodes, arguments, known);
-    known[OPEN_COUNT] = opens as u8;
-    let list = variables.nodes;
-    let v = variables.count;
-    put_sides(left, right, k, l, &list[0..v], known);
+    let begun = begin_shared(nodes, arguments, heads, next, known);
+    known[OPEN_COUNT] = begun.opens as u8;
+    let v = begun.variables;
+    put_sides(left, right, k, l, v, known);
     left.len() + right.len() + v
 }
 

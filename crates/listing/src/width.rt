@@ -4,7 +4,7 @@ ghost use Rattle.table.specs.Code.Accepted.{Accepted};
 ghost use Rattle.multiset_unification.specs.Problem.{problemOf};
 ghost use Rattle.multiset_unification.specs.Answer.{entryWords};
 use table::layout;
-use values::beginning::variables;
+use values::beginning::count_variables;
 
 // How many words an entry of an accepted table has.
 pub fn accepted_words(table: &[u32]) -> usize
@@ -15,6 +15,5 @@ pub fn accepted_words(table: &[u32]) -> usize
     let arguments = layout::section(table, layout::ARGUMENTS);
     let left = layout::section(table, layout::LEFT_TERMS);
     let right = layout::section(table, layout::RIGHT_TERMS);
-    let present = variables(nodes, arguments);
-    left.len() + right.len() + present.count
+    left.len() + right.len() + count_variables(nodes, arguments)
 }

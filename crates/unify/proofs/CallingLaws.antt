@@ -4,15 +4,13 @@ use mathlib.Core.Bool.{Bool, true, false, _||_}
 use mathlib.Core.List.{List, [], _∷_, List·Memᴰ, List·Memᴰ·head, List·Memᴰ·cases-cons, List·Memᴰ·eq-of-singleton}
 use mathlib.Core.Logic.{_⊎_, inl, inr, _↔_}
 use mathlib.Core.Path.{_≡_, refl, sym, ap, _∙_}
-use native.Mathlib.Nat.{sub-zero}
 use native.Mathlib.Omega.{arith}
 use borrow.Author.Tests.{leb-false, ltb-false, lt-leb, lt-ltb, le-ltb}
 use lib.Dec.{leb, ltb}
-use lib.ListN.{length, take, drop, replicate}
+use lib.ListN.{length, take, drop}
 use Rattle.table.specs.declared.Refusal.{Refusal}
 use Rattle.table.specs.declared.Checked.{Checked}
 use Rattle.table.specs.Answer as table
-use Rattle.table.specs.Limits.{maxNodes}
 use Rattle.table.specs.Layout.{nodeCount}
 use Rattle.table.specs.Answer.{numberOf}
 use Rattle.table.specs.Refusal.{conditions, refusal}
@@ -36,12 +34,9 @@ use Rattle.unification.proofs.SectionLaws.{nodes-long, is-node, sections-well-f
 use Rattle.unification.proofs.OutcomeLaws.{outcome-unified}
 use Rattle.unification.proofs.PairLaws.{same-unifiers}
 use Rattle.unification.proofs.AnswerLaws.{words-counted, refused-exactly, answered-exactly, decided}
-use Rattle.values.specs.declared.Variables.{Variables}
 use Rattle.classes.specs.declared.Extended.{Extended}
-use Rattle.nodes.specs.Code.Circle.{HeadsFirst}
 use Rattle.nodes.specs.Code.Open.{OpenListed}
 use Rattle.values.specs.Code.Present.{leastNodes}
-use Rattle.nodes.specs.Code.Trail.{links}
 use Rattle.nodes.specs.Code.Formed.{Stands}
 use Rattle.classes.specs.Code.Stands.{extended, Extends}
 use Rattle.values.specs.Code.Begins.{Lists, Leaves, BeginsShared}
@@ -109,7 +104,7 @@ module _ (nodes arguments : List ℕ) (a b n : ℕ) (e : n ≡ nodeCount nodes) 
 
 -- Two nodes, the lent words, and what unifying begins with.
 module _ (nodes arguments : List ℕ) (s : Sections nodes arguments) (a b : ℕ) (h : (a < nodeCount nodes) × (b < nodeCount nodes)) (lent : List ℕ)
-    (v : Variables) (heads : List ℕ) (g : BeginsShared nodes arguments v heads) where
+    (v : ℕ) (list heads : List ℕ) (g : BeginsShared nodes arguments v list heads) where
   abbrev ns : List Node
   ns = nodesFrom nodes arguments
 
@@ -119,7 +114,7 @@ module _ (nodes arguments : List ℕ) (s : Sections nodes arguments) (a b : ℕ)
       (lt-leb (length ns) b (is-node nodes arguments b (h .1)))
 
   -- too few words are lent
-  pub answers-few : length lent < v .count → AnswersByNodes ns a b lent (Unification.Refused Refusal.TooFewLent) lent
+  pub answers-few : length lent < v → AnswersByNodes ns a b lent (Unification.Refused Refusal.TooFewLent) lent
   unfolding called wordsAfter
   answers-few l =
       let d = g .lists .counted in
@@ -138,7 +133,7 @@ module _ (nodes arguments : List ℕ) (s : Sections nodes arguments) (a b : ℕ)
       either x y u (inr m) = g .same σ x y m
 
   -- Enough words are lent, and the classes are extended by the pair.
-  module _ (l : v .count ≤ length lent) (counts next : List ℕ) (r : Extended) (heads′ next′ : List ℕ)
+  module _ (l : v ≤ length lent) (counts next : List ℕ) (r : Extended) (heads′ next′ : List ℕ)
       (x : Extends nodes arguments counts heads next a b r heads′ next′) where
     -- what unifying the two nodes comes to
     comes : extended r ≡ outcome ns ((a, b) ∷ [])
@@ -188,16 +183,12 @@ module _ (nodes arguments : List ℕ) (s : Sections nodes arguments) (a b : ℕ)
           answers-ended Unification.Unified lent′ (rw e)
           (rw (e, ← one-words, words-counted ns ((a, b) ∷ g .pairs)) (w ((a, b) ∷ g .pairs) unified-stands))
 
--- what putting the members of each class into a circle asks
-pub circles-ready : (n : ℕ) (heads next : List ℕ) → n ≤ maxNodes → length heads ≡ n → next ≡ replicate links 0 → HeadsFirst n heads →
-    (next ≡ replicate links 0) × HeadsFirst (length heads) heads × (length heads ≤ maxNodes)
-circles-ready n heads next b e d h = (d, rw e h, omega (arith, b, e))
-
--- the least nodes of the variables present, for which enough words are lent
-pub list-given : (nodes arguments : List ℕ) (v : Variables) (n : ℕ) → Lists nodes arguments v → v .count ≤ n →
-    (take (v .count - 0) (v .nodes) ≡ leastNodes (nodesFrom nodes arguments)) × (length (take (v .count - 0) (v .nodes)) ≤ n)
-list-given nodes arguments v n l h =
-    let e : take (v .count - 0) (v .nodes) ≡ leastNodes (nodesFrom nodes arguments) = ap (λ (k : ℕ). take k (v .nodes)) (sub-zero (v .count))
+-- the least nodes of the variables present, as the code takes them, for which enough words are lent
+pub list-given : (nodes arguments counts : List ℕ) (v n : ℕ) → Lists nodes arguments v (drop 512 counts) → v ≤ n →
+    (take (512 + v - 512) (drop 512 counts) ≡ leastNodes (nodesFrom nodes arguments)) × (length (take (512 + v - 512) (drop 512 counts)) ≤ n)
+list-given nodes arguments counts v n l h =
+    let z : 512 + v - 512 ≡ v = omega arith in
+    let e : take (512 + v - 512) (drop 512 counts) ≡ leastNodes (nodesFrom nodes arguments) = ap (λ (k : ℕ). take k (drop 512 counts)) z
     ∙ l .least in
     let d = ap length e ∙ least-long (nodesFrom nodes arguments) in
     let c = l .counted in

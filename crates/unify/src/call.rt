@@ -18,9 +18,11 @@ use table::layout;
 use table::limits::MAX_NODES;
 use unification::Unification;
 use values::beginning::begin_shared;
-use values::beginning::make_circles;
+use values::prepared::LIST;
 use values::prepared::OPENS;
-use values::prepared::count_open;
+
+// How many bytes what is known of the nodes takes: the counts, the open applications, and the least nodes of at most 64 variables.
+const COUNTS: usize = 576;
 
 // Unifies two nodes of the sections of an accepted table, with room for what is known of the nodes, and words that are all 0.
 fn unify_with_room(
@@ -35,17 +37,16 @@ fn unify_with_room(
 ) -> Unification
     requires { ⌜ Sections (now nodes) (now arguments) ⌝ }
     requires { ⌜ (a .0 < nodeCount (now nodes)) × (b .0 < nodeCount (now nodes)) ⌝ }
-    requires { ⌜ (length (now heads) ≡ nodeCount (now nodes)) × (now next ≡ replicate links 0) × (512 ≤ length (now counts)) ⌝ }
+    requires { ⌜ (length (now heads) ≡ nodeCount (now nodes)) × (now next ≡ replicate links 0) × (576 ≤ length (now counts)) ⌝ }
     ensures { λ r. ⌜ AnswersByNodes (nodesFrom (now (nodes .entry)) (now (arguments .entry))) (a .0) (b .0) (now (out .entry)) r (now (out .exit)) ⌝ }
 {
-    let variables = begin_shared(nodes, arguments, heads);
-    if out.len() < variables.count {
+    let begun = begin_shared(nodes, arguments, heads, next, counts);
+    let v = begun.variables;
+    if out.len() < v {
         return Unification::Refused(Refusal::TooFewLent);
     }
-    make_circles(heads, next);
-    let opens_end = OPENS + count_open(nodes, arguments, counts);
-    let list = variables.nodes;
-    let v = variables.count;
+    let opens_end = OPENS + begun.opens;
+    let list_end = LIST + v;
     match extend(nodes, arguments, counts, heads, next, a, b) {
         Extended::Clash => Unification::Clash,
         Extended::Occurs => Unification::Occurs,
@@ -56,7 +57,7 @@ fn unify_with_room(
                 arguments,
                 known,
                 &known[OPENS..opens_end],
-                &list[0..v],
+                &known[LIST..list_end],
                 heads,
                 out,
             );
@@ -77,7 +78,7 @@ fn unify_nodes(nodes: &[u32], arguments: &[u32], a: Node, b: Node, out: &mut [u3
     let count = layout::index(n);
     let mut heads = [0u8; MAX_NODES];
     let mut next = [0u8; LINKS];
-    let mut counts = [0u8; OPENS + MAX_NODES];
+    let mut counts = [0u8; COUNTS];
     unify_with_room(
         nodes,
         arguments,

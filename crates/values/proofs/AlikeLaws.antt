@@ -56,17 +56,23 @@ NamesKept nodes arguments heads names news h =
     (j : ℕ) → j < countOf nodes h → valueName heads news (argumentOf nodes arguments h j) ≡ valueName heads names (argumentOf nodes arguments h j)
 
 -- The key depends on the names of arguments.
-module _ (nodes arguments heads names news : List ℕ) where
-  key-kept-up-to : (h : ℕ) → NamesKept nodes arguments heads names news h → (j : ℕ) → j ≤ countOf nodes h →
-      keyUpTo nodes arguments heads news h j ≡ keyUpTo nodes arguments heads names h j
+module _ (nodes arguments heads names heads′ names′ : List ℕ) (h : ℕ)
+    (s : (j : ℕ) → j < countOf nodes h →
+    valueName heads′ names′ (argumentOf nodes arguments h j) ≡ valueName heads names (argumentOf nodes arguments h j)) where
+  key-same-up-to : (j : ℕ) → j ≤ countOf nodes h → keyUpTo nodes arguments heads′ names′ h j ≡ keyUpTo nodes arguments heads names h j
   unfolding keyUpTo
-  key-kept-up-to h s zero l = refl
-  key-kept-up-to h s (suc j) l = rw (key-kept-up-to h s j (omega arith), s j (omega arith))
+  key-same-up-to zero l = refl
+  key-same-up-to (suc j) l = rw (key-same-up-to j (omega arith), s j (omega arith))
 
-  -- so it is kept
-  pub key-kept : (h : ℕ) → NamesKept nodes arguments heads names news h → keyOf nodes arguments heads news h ≡ keyOf nodes arguments heads names h
+  -- so it is the same by other heads and names
+  pub key-same : keyOf nodes arguments heads′ names′ h ≡ keyOf nodes arguments heads names h
   unfolding keyOf
-  key-kept h s = key-kept-up-to h s (countOf nodes h) (omega arith)
+  key-same = key-same-up-to (countOf nodes h) (omega arith)
+
+-- and kept where names are
+pub key-kept : (nodes arguments heads names news : List ℕ) (h : ℕ) → NamesKept nodes arguments heads names news h →
+    keyOf nodes arguments heads news h ≡ keyOf nodes arguments heads names h
+key-kept nodes arguments heads names news h s = key-same nodes arguments heads names heads news h s
 
 -- what is alike stays so
 pub alike-kept : (nodes arguments heads names news : List ℕ) {g h : ℕ} → NamesKept nodes arguments heads names news g →

@@ -2,7 +2,7 @@
 -- nothing.
 use Prim.Native.Nat.{ℕ, _+_, _≤_, _<_}
 use mathlib.Core.List.{List}
-use mathlib.Core.Path.{_≡_, sym, ap, subst, _∙_}
+use mathlib.Core.Path.{_≡_, refl, sym, ap, subst, _∙_}
 use native.Mathlib.Decide.{ℕ-discrete, decLt}
 use native.Mathlib.Omega.{arith}
 use lib.ListN.{length, replicate, set, length-set, length-replicate, getD-replicate, List·getD-eq-default}
@@ -11,9 +11,10 @@ use Rattle.table.specs.Limits.{maxNodes}
 use Rattle.table.specs.Layout.{word}
 use Rattle.unification.specs.Computed.Classes.{classOf}
 use Rattle.unification.proofs.CountLaws.{roots-most}
-use Rattle.nodes.specs.Code.Circle.{Follows, here, onward, HeadsFirst, CirclesBefore}
+use Rattle.nodes.specs.Code.Circle.{Follows, here, onward, CirclesBefore}
 use Rattle.nodes.specs.Code.Trail.{links, Trailed}
 use Rattle.nodes.proofs.CircleLaws.{follows-on}
+use Rattle.values.specs.Code.Start.{PutHead}
 
 -- zeros are 0 at each place, and past the end
 zeros : (n k : ℕ) → word (replicate n 0) k ≡ 0
@@ -50,10 +51,9 @@ circles-all heads next i few h l c =
       clear = λ k w. c .clear k (omega (arith, w));
     }
 
-module _ (heads next : List ℕ) (i : ℕ) (b : i < length heads) (few : length heads ≤ maxNodes) (f : HeadsFirst (length heads) heads)
-    (c : CirclesBefore heads next i) where
-  -- a node that is its own head
-  module _ (e : classOf heads i ≡ i) where
+module _ (heads next : List ℕ) (i : ℕ) (b : i < length heads) (few : length heads ≤ maxNodes) (c : CirclesBefore heads next i) where
+  -- a node that is its own head, and that of none before it
+  module _ (e : classOf heads i ≡ i) (low : (k : ℕ) → k < i → classOf heads k ≤ k) where
     abbrev begun : List ℕ
     begun = set next i i
 
@@ -70,7 +70,7 @@ module _ (heads next : List ℕ) (i : ℕ) (b : i < length heads) (few : length 
         onward r
 
     -- it begins a circle
-    pub circle-begins : CirclesBefore heads (set next i i) (i + 1)
+    circle-begins : CirclesBefore heads (set next i i) (i + 1)
     circle-begins =
         record {
           size = length-set next i i ∙ c .size;
@@ -97,26 +97,23 @@ module _ (heads next : List ℕ) (i : ℕ) (b : i < length heads) (few : length 
         around-at : (j k : ℕ) → j < i + 1 → k < i + 1 → classOf heads j ≡ classOf heads k → Dec (j ≡ i) → Dec (k ≡ i) → Follows begun j k
         around-at j k h l q (yes y) (yes z) = rw (y, z) here
         around-at j k h l q (yes y) (no n) =
-            let x = f .first k (omega arith) in
+            let x = low k (omega (arith, n)) in
             let u : i ≡ classOf heads k = sym e ∙ ap (classOf heads) (sym y) ∙ q in
             absurd (omega (arith, x, u, n))
         around-at j k h l q (no n) (yes z) =
-            let x = f .first j (omega arith) in
+            let x = low j (omega (arith, n)) in
             let u : classOf heads j ≡ i = q ∙ ap (classOf heads) z ∙ e in
             absurd (omega (arith, x, u, n))
         around-at j k h l q (no m) (no n) =
             begun-follows (omega (arith, m)) (c .around j k (omega (arith, m)) (omega (arith, n)) q)
 
-  -- a node with another head
-  module _ (h : ℕ) (e : h ≡ classOf heads i) (d : h ≡ i → ⊥) where
+  -- a node with another head, which is before it and its own
+  module _ (h : ℕ) (head-before : h < i) (e : classOf heads i ≡ h) (own : classOf heads h ≡ h) where
     abbrev put : List ℕ
     put = set (set next i (word next h)) h i
 
-    head-before : h < i
-    head-before = let x = f .first i b in omega (arith, x, e, d)
-
     head-own : classOf heads h ≡ classOf heads i
-    head-own = ap (classOf heads) e ∙ f .own i b
+    head-own = own ∙ sym e
 
     put-head : word put h ≡ i
     put-head =
@@ -127,7 +124,7 @@ module _ (heads next : List ℕ) (i : ℕ) (b : i < length heads) (few : length 
     put-here : word put i ≡ word next h
     put-here =
         let l = c .size in
-        getD-set-other (set next i (word next h)) h i i 0 (λ z. d (sym z)) ∙ getD-set-same next i (word next h) 0 (omega (arith, l, few))
+        getD-set-other (set next i (word next h)) h i i 0 (λ z. omega (arith, z, head-before)) ∙ getD-set-same next i (word next h) 0 (omega (arith, l, few))
 
     put-other : (k : ℕ) → k < i → (k ≡ h → ⊥) → word put k ≡ word next k
     put-other k l n =
@@ -148,7 +145,7 @@ module _ (heads next : List ℕ) (i : ℕ) (b : i < length heads) (few : length 
             onward r′
 
     -- it is put behind its head
-    pub circle-grows : CirclesBefore heads (set (set next i (word next h)) h i) (i + 1)
+    circle-grows : CirclesBefore heads (set (set next i (word next h)) h i) (i + 1)
     circle-grows =
         record {
           size = length-set (set next i (word next h)) h i ∙ length-set next i (word next h) ∙ c .size;
@@ -195,3 +192,48 @@ module _ (heads next : List ℕ) (i : ℕ) (b : i < length heads) (few : length 
             follows-on r (onward t)
         around-at j k l m q (no n) (no o) =
             put-follows (omega (arith, n)) (c .around j k (omega (arith, n)) (omega (arith, o)) q)
+
+-- Node i is given head h.
+module _ (heads next : List ℕ) (i h : ℕ) (b : i < length heads) (few : length heads ≤ maxNodes) (c : CirclesBefore heads next i) where
+  headed-here : classOf (set heads i h) i ≡ h
+  headed-here = getD-set-same heads i h 0 b
+
+  headed-other : (k : ℕ) → k < i → classOf (set heads i h) k ≡ classOf heads k
+  headed-other k l = getD-set-other heads i k h 0 (λ z. omega (arith, z, l))
+
+  headed-few : length (set heads i h) ≤ maxNodes
+  headed-few = let x = length-set heads i h in omega (arith, x, few)
+
+  headed-inside : i < length (set heads i h)
+  headed-inside = let x = length-set heads i h in omega (arith, x, b)
+
+  -- the nodes before it are in their circles as before
+  circles-headed : CirclesBefore (set heads i h) next i
+  circles-headed =
+      record {
+        size = c .size;
+        below = c .below;
+        same = λ k l. headed-other (word next k) (c .below k l) ∙ c .same k l ∙ sym (headed-other k l);
+        around = λ j k l m q. c .around j k l m (sym (headed-other j l) ∙ q ∙ headed-other k m);
+        clear = c .clear;
+      }
+
+  -- it is its own head, and that of none before it
+  pub head-begins : ((k : ℕ) → k < i → classOf heads k ≤ k) → h ≡ i → PutHead heads next i h (set heads i h) (set next i i)
+  head-begins low e =
+      record {
+        headed = refl;
+        circles =
+            circle-begins (set heads i h) next i headed-inside headed-few circles-headed (headed-here ∙ e)
+            (λ k l. let x = headed-other k l in let y = low k l in omega (arith, x, y));
+      }
+
+  -- its head is before it and its own
+  pub head-grows : h ≤ i → (h < i → classOf heads h ≡ h) → (h ≡ i → ⊥) →
+      PutHead heads next i h (set heads i h) (set (set next i (word next h)) h i)
+  head-grows l own d =
+      let m : h < i = omega (arith, l, d) in
+      record {
+        headed = refl;
+        circles = circle-grows (set heads i h) next i headed-inside headed-few circles-headed h m headed-here (headed-other h m ∙ own m);
+      }

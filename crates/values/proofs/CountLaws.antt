@@ -1,6 +1,6 @@
 -- How many arguments of a node are looked at, counted node by node. Assumes nothing.
 use Prim.Native.Nat.{ℕ, _+_, _≤_, _<_}
-use mathlib.Core.Bool.{Bool, true, false}
+use mathlib.Core.Bool.{Bool, true, false, _&&_, false≢true}
 use mathlib.Core.List.{List}
 use mathlib.Core.Logic.{_⊎_, inl, inr}
 use mathlib.Core.Path.{_≡_, refl, sym, ap, _∙_}
@@ -14,39 +14,56 @@ use Rattle.unification.specs.Code.Sections.{Sections}
 use Rattle.nodes.specs.Code.Open.{IsClosed, closedTest, Counts, CountedAt}
 use Rattle.nodes.proofs.OpenLaws.{closed-true, closed-false}
 
--- The first j arguments of node i are closed applications.
-pub record ClosedUpTo (nodes arguments counts : List ℕ) (i j : ℕ) : Type 0 where
-  pub closed : (q : ℕ) → q < j → IsClosed nodes counts (argumentOf nodes arguments i q)
+-- Of the first j arguments of node i all are closed applications, or some one is not.
+pub record ClosedSoFar (nodes arguments counts : List ℕ) (i j : ℕ) (v : Bool) : Type 0 where
+  pub all : v ≡ true → (q : ℕ) → q < j → IsClosed nodes counts (argumentOf nodes arguments i q)
+  pub not-all : v ≡ false → (q : ℕ) × (q < j) × (IsClosed nodes counts (argumentOf nodes arguments i q) → ⊥)
 
 -- at first none is asked for
-pub closed-none : (nodes arguments counts : List ℕ) (i : ℕ) → ClosedUpTo nodes arguments counts i 0
-closed-none nodes arguments counts i = record { closed = λ q h. absurd (omega arith) }
+pub closed-none : (nodes arguments counts : List ℕ) (i : ℕ) → ClosedSoFar nodes arguments counts i 0 true
+closed-none nodes arguments counts i = record { all = λ e q h. absurd (omega arith); not-all = λ e. absurd (false≢true (sym e)) }
 
-module _ (nodes arguments counts : List ℕ) (i j a : ℕ) (v : Bool) (small : a < nodeCount nodes) (is : a ≡ argumentOf nodes arguments i j)
-    (e : v ≡ closedTest nodes counts a) where
-  -- one argument more is closed
-  pub closed-next : v ≡ true → ClosedUpTo nodes arguments counts i j → ClosedUpTo nodes arguments counts i (j + 1)
-  closed-next t b =
-      record {
-        closed =
-            below-more (λ q. IsClosed nodes counts (argumentOf nodes arguments i q)) j (b .closed)
-            (rw is at (closed-true nodes counts a small (sym e ∙ t)));
-      }
+-- one argument more
+pub closed-next : (nodes arguments counts : List ℕ) (i j a : ℕ) (v t : Bool) → a < nodeCount nodes → a ≡ argumentOf nodes arguments i j →
+    t ≡ closedTest nodes counts a → ClosedSoFar nodes arguments counts i j v → ClosedSoFar nodes arguments counts i (j + 1) (v && t)
+closed-next nodes arguments counts i j a v t small is e b = pick v t e b
+  where
+    still : ClosedSoFar nodes arguments counts i j false → ClosedSoFar nodes arguments counts i (j + 1) false
+    still b =
+        record {
+          all = λ z. absurd (false≢true z);
+          not-all = λ z. let r = b .not-all refl in (r .0, omega (arith, r .1), r .2);
+        }
+
+    pick : (v t : Bool) → t ≡ closedTest nodes counts a → ClosedSoFar nodes arguments counts i j v →
+        ClosedSoFar nodes arguments counts i (j + 1) (v && t)
+    pick true true e b =
+        record {
+          all = λ z.
+              below-more (λ q. IsClosed nodes counts (argumentOf nodes arguments i q)) j (b .all refl)
+              (rw is at (closed-true nodes counts a small (sym e)));
+          not-all = λ z. absurd (false≢true (sym z));
+        }
+    pick true false e b =
+        record { all = λ z. absurd (false≢true z); not-all = λ z. (j, omega arith, λ c. closed-false nodes counts a (sym e) (rw is c)) }
+    pick false true e b = still b
+    pick false false e b = still b
+
+module _ (nodes arguments counts : List ℕ) (i j n : ℕ) (v : Bool) (c : n ≡ countOf nodes i) (l : j ≤ n) (m : n ≤ j)
+    (b : ClosedSoFar nodes arguments counts i j v) where
+  -- all are closed, so none is looked at
+  pub counted-none : v ≡ true → CountedAt nodes arguments counts i 0
+  counted-none e = record { some = inl refl; below = λ z q h. b .all e q (omega arith); above = λ z. refl }
 
   -- one is not, so all are looked at
-  pub counted-some : (n : ℕ) → n ≡ countOf nodes i → j < n → v ≡ false → CountedAt nodes arguments counts i n
-  counted-some n c l f =
+  pub counted-some : v ≡ false → CountedAt nodes arguments counts i n
+  counted-some e =
+      let r = b .not-all e in
       record {
         some = inr c;
-        below = λ z. absurd (omega arith);
-        above = λ b. absurd (closed-false nodes counts a (sym e ∙ f) (rw is (b j (omega arith))));
+        below = λ z. absurd (omega (arith, r .1, l, z));
+        above = λ z. absurd (r .2 (z (r .0) (omega (arith, r .1, l, c))));
       }
-
--- all are closed, so none is looked at
-pub counted-none : (nodes arguments counts : List ℕ) (i j n : ℕ) → n ≡ countOf nodes i → n ≤ j → ClosedUpTo nodes arguments counts i j →
-    CountedAt nodes arguments counts i 0
-counted-none nodes arguments counts i j n c l b =
-    record { some = inl refl; below = λ z q h. b .closed q (omega arith); above = λ z. refl }
 
 -- no node is counted yet
 pub counts-none : (nodes arguments counts : List ℕ) → nodeCount nodes ≤ length counts → Counts nodes arguments counts 0

@@ -1,7 +1,6 @@
 -- What stays in a list where numbers are written from the last place down: one law for each way on. Assumes nothing.
 use Prim.Native.Nat.{ℕ, suc, _<_, _≤_}
 use mathlib.Core.List.{List}
-use mathlib.Core.Logic.{inl, inr}
 use mathlib.Core.Path.{_≡_, sym, ap, _∙_}
 use native.Mathlib.Decide.{ℕ-discrete}
 use native.Mathlib.Omega.{arith}
@@ -9,7 +8,7 @@ use lib.ListN.{length, set}
 use lib.Seq.{getD-set-same, getD-set-other}
 use Rattle.table.specs.Layout.{word}
 use Rattle.unification.specs.Words.{Least}
-use Rattle.values.specs.Code.Kept.{WrittenAt, Kept, Touched}
+use Rattle.values.specs.Code.Kept.{WrittenAt, Kept}
 
 module _ (P : ℕ → Type 0) (slot value : ℕ → ℕ) (n : ℕ) where
   -- nothing is written yet
@@ -48,17 +47,3 @@ module _ (P : ℕ → Type 0) (slot value : ℕ → ℕ) (n : ℕ) where
       go j a b q (no d) =
           let t = r .kept j (after j a d) b q in
           (t .0, record { holds = wider i (slot j) (t .0) (t .1 .holds); least = λ k w. t .1 .least k (after k (w .0) (λ e. d (sym (w .3) ∙ e)), w .1, w .2, w .3) }, getD-set-other by (slot i) (slot j) (value i) 0 d ∙ t .2)
-
-  -- a slot that is written, or not yet, where place i is passed over
-  pub touched-skip : (d i s : ℕ) (by : List ℕ) → Touched P slot d (suc i) n by s → Touched P slot d i n by s
-  touched-skip d i s by (inl e) = inl e
-  touched-skip d i s by (inr (k, w)) = inr (k, wider i s k w)
-
-  -- and where it is written
-  pub touched-set : (d i s : ℕ) (by : List ℕ) → i < n → P i → Touched P slot d (suc i) n by s → Touched P slot d i n (set by (slot i) (value i)) s
-  touched-set d i s by h p t = go (ℕ-discrete (slot i) s) t
-    where
-      go : Dec (slot i ≡ s) → Touched P slot d (suc i) n by s → Touched P slot d i n (set by (slot i) (value i)) s
-      go (yes e) u = inr (i, (omega arith, h, p, e))
-      go (no e) (inl q) = inl (getD-set-other by (slot i) s (value i) 0 (λ z. e (sym z)) ∙ q)
-      go (no e) (inr (k, w)) = inr (k, wider i s k w)

@@ -1,17 +1,18 @@
--- The least node of each variable: nodes are noted from the last down, so that the least one stays; those of the variables
--- present, in rising order, are then picked out. Assumes nothing.
-use Prim.Native.Nat.{ℕ, zero, suc, _+_, _-_, _<_, _≤_}
-use mathlib.Core.Bool.{Bool, true, false, cond, false≢true}
+-- The least node of each variable: nodes are noted from the first on, where none stands yet; those of the variables present, in rising
+-- order, are then picked out. Assumes nothing.
+use Prim.Native.Nat.{ℕ, zero, suc, _+_, _<_, _≤_}
+use mathlib.Core.Bool.{Bool, true, false, cond}
 use mathlib.Core.List.{List, [], _∷_, _++_, map, append-nil, map-append, List·Memᴰ, List·Memᴰ·head, List·Memᴰ·not-nil, List·Memᴰ·eq-of-singleton}
-use mathlib.Core.Logic.{inl, inr}
+use mathlib.Core.Logic.{_⊎_, inl, inr}
 use mathlib.Core.Path.{_≡_, refl, sym, ap, _∙_}
 use native.Mathlib.Decide.{ℕ-discrete}
 use native.Mathlib.Omega.{arith}
 use native.Mathlib.Numerals.{add-one}
-use borrow.Author.Tests.{eq-eqb, ne-eqb, lt-ltb, le-ltb, ltb-true}
+use borrow.Author.Tests.{eqb-false, lt-ltb, le-ltb, ltb-true}
+use borrow.Author.Count.{below-more}
 use lib.Dec.{eqb, ltb}
-use lib.ListN.{length, set, take, length-set, length-map}
-use lib.Seq.{take-suc-set, length-take-le}
+use lib.ListN.{length, set, take, drop, length-set, length-drop, length-map}
+use lib.Seq.{take-suc-set, length-take-le, drop-set-add, getD-set-same, getD-set-other}
 use Rattle.table.specs.Layout.{word, kindOf, nameOf, nodeCount}
 use Rattle.unification.specs.Node.{Node, variable, nodeAt, Present, nodesFrom}
 use Rattle.unification.specs.Words.{Rising, end, before}
@@ -25,195 +26,224 @@ use Rattle.unification.proofs.VariableLaws.{variables-one}
 use Rattle.unification.proofs.PresentLaws.{present-or-not}
 use Rattle.unification.proofs.FirstLaws.{node-of, node-of-none}
 use Rattle.unification.proofs.SectionLaws.{nodes-long, section-variable}
-use Rattle.values.specs.Code.Kept.{Kept, Touched}
-use Rattle.values.specs.Code.Present.{variableNames, noted, Passes, LeastByName, NoneFrom, presentBelow, KeepsVariable, ListsPresent, leastNodes}
-use Rattle.values.proofs.KeptLaws.{kept-none, kept-skip, kept-set, touched-skip, touched-set}
+use Rattle.values.specs.Code.Present.{variableNames, LeastBefore, LeastNoted, stood, noted-here, LeastByName, NoneFrom, KeepsOthers}
+use Rattle.values.specs.Code.Present.{presentBelow, KeepsVariable, ListsPresent, leastNodes}
 
--- a variable is noted at its number
-pub noted-variable : (nodes least : List ℕ) (i x : ℕ) → eqb (kindOf nodes i) 0 ≡ true → x ≡ nameOf nodes i → set least x i ≡ noted nodes least i
-unfolding noted
-noted-variable nodes least i x k e = rw (k, e)
-
--- an application is not
-pub noted-other : (nodes least : List ℕ) (i : ℕ) → eqb (kindOf nodes i) 0 ≡ false → least ≡ noted nodes least i
-unfolding noted
-noted-other nodes least i k = rw k
-
--- Node k is a variable.
-abbrev IsVariable : List ℕ → ℕ → Type 0
-IsVariable nodes k = kindOf nodes k ≡ 0
-
--- The nodes from i on are noted.
-pub record NotedFrom (nodes least : List ℕ) (i : ℕ) : Type 0 where
-  pub long : length least ≡ variableNames
-  pub kept : Kept (IsVariable nodes) (nameOf nodes) (λ k. k) i (nodeCount nodes) least
-  pub touched : (x : ℕ) → x < variableNames → Touched (IsVariable nodes) (nameOf nodes) (nodeCount nodes) i (nodeCount nodes) least x
-
--- none is noted yet
-pub noted-none : (nodes least : List ℕ) (i : ℕ) → nodeCount nodes ≡ i → length least ≡ variableNames →
-    ((x : ℕ) → x < variableNames → word least x ≡ nodeCount nodes) → NotedFrom nodes least i
-noted-none nodes least i e l h =
+-- no node is noted yet
+pub least-none : (nodes least : List ℕ) → length least ≡ variableNames → ((x : ℕ) → x < variableNames → word least x ≡ nodeCount nodes) →
+    LeastBefore nodes least 0 0
+least-none nodes least l e =
     record {
       long = l;
-      kept = kept-none (IsVariable nodes) (nameOf nodes) (λ k. k) (nodeCount nodes) i (omega arith) least;
-      touched = λ x b. inl (h x b);
+      within = omega arith;
+      found = λ x h. inl (e x h);
+      first = λ k h. absurd (omega arith);
+      names = λ k h. absurd (omega arith);
     }
 
-module _ (nodes arguments : List ℕ) (s : Sections nodes arguments) where
-  noted-next : (least : List ℕ) (i : ℕ) → i < nodeCount nodes → NotedFrom nodes least (suc i) → NotedFrom nodes (noted nodes least i) i
-  unfolding noted
-  noted-next least i h r = pick (ℕ-discrete (kindOf nodes i) 0)
+-- What stands for variable x: nothing, or a node of it among the nodes before node i.
+abbrev Found : List ℕ → List ℕ → ℕ → ℕ → Type 0
+Found nodes least i x =
+    (word least x ≡ nodeCount nodes) ⊎ ((word least x < i) × (kindOf nodes (word least x) ≡ 0) × (nameOf nodes (word least x) ≡ x))
+
+found-more : (nodes least : List ℕ) (i x : ℕ) → Found nodes least i x → Found nodes least (i + 1) x
+found-more nodes least i x (inl e) = inl e
+found-more nodes least i x (inr w) = inr (let a = w .0 in omega (arith, a), w .1, w .2)
+
+-- a node that is no variable adds nothing
+pub least-other : (nodes least : List ℕ) (i past : ℕ) → eqb (kindOf nodes i) 0 ≡ false → LeastBefore nodes least i past →
+    LeastBefore nodes least (i + 1) past
+least-other nodes least i past q b =
+    record {
+      long = b .long;
+      within = b .within;
+      found = λ x h. found-more nodes least i x (b .found x h);
+      first = below-more (λ k. kindOf nodes k ≡ 0 → word least (nameOf nodes k) ≤ k) i (b .first) (λ k. absurd (never k));
+      names = below-more (λ k. kindOf nodes k ≡ 0 → nameOf nodes k < past) i (b .names) (λ k. absurd (never k));
+    }
+  where
+    never : kindOf nodes i ≡ 0 → ⊥
+    never k = eqb-false _ _ q k
+
+-- a variable has a number that it can have
+pub name-within : (nodes arguments : List ℕ) (i x : ℕ) → Sections nodes arguments → i < nodeCount nodes → kindOf nodes i ≡ 0 → x ≡ nameOf nodes i →
+    x < variableNames
+name-within nodes arguments i x s h k e = let b = s .variable-name i h k in omega (arith, b, e)
+
+-- Node i is the next, and one of variable x.
+module _ (nodes least : List ℕ) (i past x n : ℕ) (b : LeastBefore nodes least i past) (h : i < nodeCount nodes) (k : kindOf nodes i ≡ 0)
+    (e : x ≡ nameOf nodes i) (y : x < variableNames) (m : n ≡ nodeCount nodes) where
+  -- what is answered is the variable's least node
+  pub least-noted : (r : ℕ) (least′ : List ℕ) → LeastNoted least x i n r least′ →
+      (r ≤ i) × (kindOf nodes r ≡ 0) × (nameOf nodes r ≡ x) × ((j : ℕ) → j < i → kindOf nodes j ≡ 0 → nameOf nodes j ≡ x → r ≤ j)
+  least-noted r least′ (stood l q d) =
+      let w = there (b .found x y) in
+      let a = w .0 in
+      (omega (arith, a), rw q (w .1), rw q (w .2), λ j g z o. let f = b .first j g z in let p = ap (word least) o in omega (arith, f, p))
     where
-      n : ℕ
-      n = nodeCount nodes
+      there : Found nodes least i x → (word least x < i) × (kindOf nodes (word least x) ≡ 0) × (nameOf nodes (word least x) ≡ x)
+      there (inl z) = absurd (omega (arith, z))
+      there (inr w) = w
+  least-noted r least′ (noted-here l q d) =
+      (omega arith, rw q k, rw q (sym e), λ j g z o. let f = b .first j g z in let p = ap (word least) o in absurd (omega (arith, f, p)))
 
-      pick : Dec (kindOf nodes i ≡ 0) → NotedFrom nodes (cond (eqb (kindOf nodes i) 0) (set least (nameOf nodes i) i) least) i
-      pick (yes k) =
-          let b = s .variable-name i h k in
-          let l = r .long in
-          rw (eq-eqb (kindOf nodes i) 0 k)
-          (record {
-            long = length-set least (nameOf nodes i) i ∙ r .long;
-            kept = kept-set (IsVariable nodes) (nameOf nodes) (λ j. j) (nodeCount nodes) i least h k (omega (arith, b, l)) (r .kept);
-            touched =
-                λ x z. touched-set (IsVariable nodes) (nameOf nodes) (λ j. j) (nodeCount nodes) (nodeCount nodes) i x least h k (r .touched x z);
-          })
-      pick (no k) =
-          rw (ne-eqb (kindOf nodes i) 0 k)
-          (record {
-            long = r .long;
-            kept = kept-skip (IsVariable nodes) (nameOf nodes) (λ j. j) (nodeCount nodes) i least k (r .kept);
-            touched = λ x z. touched-skip (IsVariable nodes) (nameOf nodes) (λ j. j) (nodeCount nodes) (nodeCount nodes) i x least (r .touched x z);
-          })
-
-  -- one node more
-  pub noted-down : (least : List ℕ) (i : ℕ) → 0 < i → i ≤ nodeCount nodes → NotedFrom nodes least i →
-      NotedFrom nodes (noted nodes least (i - 1)) (i - 1)
-  noted-down least i h l r =
-      let e : i ≡ suc (i - 1) = omega arith in
-      noted-next least (i - 1) (omega arith) (rw e at r)
-
-  -- what stands at x is the least node of variable x
-  noted-right : (least : List ℕ) → NotedFrom nodes least 0 → (x : ℕ) → x < variableNames → word least x ≡ nodeOf (nodesFrom nodes arguments) x
-  noted-right least r x b = go (r .touched x b)
+  -- one node more is noted
+  pub least-next : (r : ℕ) (least′ : List ℕ) (past′ : ℕ) → LeastNoted least x i n r least′ → (past ≤ past′) × (x < past′) × (past′ ≤ variableNames) →
+      LeastBefore nodes least′ (i + 1) past′
+  least-next r least′ past′ t (u, v, w) = go t
     where
-      go : Touched (IsVariable nodes) (nameOf nodes) (nodeCount nodes) 0 (nodeCount nodes) least x →
-          word least x ≡ nodeOf (nodesFrom nodes arguments) x
-      go (inl e) =
-          e ∙ sym (nodes-long nodes arguments) ∙ sym (node-of-none (nodesFrom nodes arguments) x never)
+      names-next : (j : ℕ) → j < i + 1 → kindOf nodes j ≡ 0 → nameOf nodes j < past′
+      names-next =
+          below-more (λ j. kindOf nodes j ≡ 0 → nameOf nodes j < past′) i (λ j g z. let a = b .names j g z in omega (arith, a)) (λ z. omega arith)
+
+      go : LeastNoted least x i n r least′ → LeastBefore nodes least′ (i + 1) past′
+      go (stood l q d) =
+          rw d
+          (record {
+            long = b .long;
+            within = w;
+            found = λ z g. found-more nodes least i z (b .found z g);
+            first = below-more (λ j. kindOf nodes j ≡ 0 → word least (nameOf nodes j) ≤ j) i (b .first) (λ z. here (b .found x y));
+            names = names-next;
+          })
         where
-          never : (i : ℕ) → i < length (nodesFrom nodes arguments) → nodeAt (nodesFrom nodes arguments) i ≡ variable x → ⊥
-          never i h d =
-              let g : i < nodeCount nodes = rw (nodes-long nodes arguments) at h in
-              let v = section-variable nodes arguments s i g x .0 d in
-              let k = r .kept .kept i (omega arith) g (v .0) in
-              let m : k .0 < nodeCount nodes = k .1 .holds .1 in
-              let q : word least x ≡ k .0 = ap (word least) (v .1) ∙ k .2 in
-              omega (arith, q)
-      go (inr (i, w)) =
-          let k = r .kept .kept i (omega arith) (w .1) (w .2) in
-          let q : word least x ≡ k .0 = ap (word least) (sym (w .3)) ∙ k .2 in
-          let a : k .0 < length (nodesFrom nodes arguments) = rw (nodes-long nodes arguments) (k .1 .holds .1) in
-          let d : nodeAt (nodesFrom nodes arguments) (k .0) ≡ variable x = section-variable nodes arguments s (k .0) (k .1 .holds .1) x .1 (k .1 .holds .2, sym (w .3) ∙ sym (k .1 .holds .3)) in
-          let l = node-of (nodesFrom nodes arguments) x (k .0, a, d) in
-          let c : nodeOf (nodesFrom nodes arguments) x < nodeCount nodes = rw (nodes-long nodes arguments) at (l .holds .0) in
-          let v = section-variable nodes arguments s (nodeOf (nodesFrom nodes arguments) x) c x .0 (l .holds .1) in
-          let y : nodeOf (nodesFrom nodes arguments) x ≤ k .0 = l .least (k .0) (a, d) in
-          let z : k .0 ≤ nodeOf (nodesFrom nodes arguments) x = k .1 .least (nodeOf (nodesFrom nodes arguments) x) (omega arith, c, v .0, sym (v .1) ∙ sym (w .3)) in
-          omega (arith, q)
+          here : Found nodes least i x → word least (nameOf nodes i) ≤ i
+          here (inl z) = absurd (omega (arith, z))
+          here (inr f) = let a = f .0 in let p = ap (word least) e in omega (arith, a, p)
+      go (noted-here l q d) =
+          rw d
+          (record {
+            long = length-set least x i ∙ b .long;
+            within = w;
+            found = λ z g. found-at z g (ℕ-discrete z x);
+            first =
+                below-more (λ j. kindOf nodes j ≡ 0 → word (set least x i) (nameOf nodes j) ≤ j) i
+                (λ j g z. first-at j g z (ℕ-discrete (nameOf nodes j) x))
+                (λ z. let p = ap (word (set least x i)) (sym e) ∙ here in omega (arith, p));
+            names = names-next;
+          })
+        where
+          here : word (set least x i) x ≡ i
+          here = let a = b .long in getD-set-same least x i 0 (omega (arith, a))
 
-  -- what stands at x is a node or the number of nodes
-  noted-within : (least : List ℕ) → NotedFrom nodes least 0 → (x : ℕ) → x < variableNames → word least x ≤ nodeCount nodes
-  noted-within least r x b = go (r .touched x b)
-    where
-      go : Touched (IsVariable nodes) (nameOf nodes) (nodeCount nodes) 0 (nodeCount nodes) least x → word least x ≤ nodeCount nodes
-      go (inl e) = omega arith
-      go (inr (i, w)) =
-          let k = r .kept .kept i (omega arith) (w .1) (w .2) in
-          let q : word least x ≡ k .0 = ap (word least) (sym (w .3)) ∙ k .2 in
-          let m : k .0 < nodeCount nodes = k .1 .holds .1 in
-          omega (arith, q)
+          found-at : (z : ℕ) → z < variableNames → Dec (z ≡ x) → Found nodes (set least x i) (i + 1) z
+          found-at z g (yes o) =
+              let p : word (set least x i) z ≡ i = ap (word (set least x i)) o ∙ here in
+              inr (omega (arith, p), rw p k, rw p (sym e ∙ sym o))
+          found-at z g (no o) = rw (getD-set-other least x z i 0 o) (found-more nodes least i z (b .found z g))
 
-  -- all are noted
-  pub noted-all : (least : List ℕ) (i : ℕ) → i ≤ 0 → NotedFrom nodes least i → LeastByName nodes arguments least
-  noted-all least i z t =
-      let e : i ≡ 0 = omega arith in
-      let r = rw e at t in
-      record { long = r .long; within = noted-within least r; right = noted-right least r }
+          first-at : (j : ℕ) → j < i → kindOf nodes j ≡ 0 → Dec (nameOf nodes j ≡ x) → word (set least x i) (nameOf nodes j) ≤ j
+          first-at j g z (yes o) = let f = b .first j g z in let p = ap (word least) o in absurd (omega (arith, f, p))
+          first-at j g z (no o) = rw (getD-set-other least x (nameOf nodes j) i 0 o) (b .first j g z)
 
--- a variable of which the number is not below e is passed by the next one
-pub passed-here : (nodes : List ℕ) (e i x : ℕ) → x ≡ nameOf nodes i → e ≤ x → x < variableNames → Passes nodes e i (x + 1)
-passed-here nodes e i x q l h =
-    record { more = omega arith; within = omega arith; past = λ k. omega arith }
+-- the nodes gone over are all nodes
+pub least-counted : (nodes least : List ℕ) (i past n : ℕ) → i ≤ n → n ≤ i → n ≡ nodeCount nodes → LeastBefore nodes least i past →
+    LeastBefore nodes least (nodeCount nodes) past
+least-counted nodes least i past n h l e b =
+    let z : i ≡ nodeCount nodes = omega arith in
+    rw z at b
 
--- another is passed by e
-pub passed-before : (nodes : List ℕ) (e i x : ℕ) → x ≡ nameOf nodes i → x < e → e ≤ variableNames → Passes nodes e i e
-passed-before nodes e i x q l h = record { more = omega arith; within = h; past = λ k. omega arith }
-
--- an application has none to pass
-pub passed-other : (nodes : List ℕ) (e i : ℕ) → eqb (kindOf nodes i) 0 ≡ false → e ≤ variableNames → Passes nodes e i e
-passed-other nodes e i q h =
-    record { more = omega arith; within = h; past = λ k. absurd (false≢true (sym q ∙ eq-eqb (kindOf nodes i) 0 k)) }
-
--- The variables of the nodes from i on have numbers below e.
-pub record NamesBelow (nodes : List ℕ) (e i : ℕ) : Type 0 where
-  pub within : e ≤ variableNames
-  pub below : (k : ℕ) → i ≤ k → k < nodeCount nodes → kindOf nodes k ≡ 0 → nameOf nodes k < e
-
--- there is no node yet
-pub names-none : (nodes : List ℕ) (i : ℕ) → nodeCount nodes ≡ i → NamesBelow nodes 0 i
-names-none nodes i e = record { within = omega arith; below = λ k l h z. absurd (omega arith) }
-
--- one node more
-pub names-down : (nodes : List ℕ) (e i r : ℕ) → NamesBelow nodes e i → Passes nodes e (i - 1) r → NamesBelow nodes r (i - 1)
-names-down nodes e i r b p =
-    record { within = p .within; below = λ k l h z. pick k h z (ℕ-discrete k (i - 1)) l }
+-- once all nodes are noted, what stands at x is the least node of variable x
+pub least-all : (nodes arguments least : List ℕ) (past : ℕ) → Sections nodes arguments → LeastBefore nodes least (nodeCount nodes) past →
+    LeastByName nodes arguments least
+least-all nodes arguments least past s b =
+    record { long = b .long; within = λ x h. inside x (b .found x h); right = λ x h. right x (b .found x h) }
   where
-    pick : (k : ℕ) → k < nodeCount nodes → kindOf nodes k ≡ 0 → Dec (k ≡ i - 1) → i - 1 ≤ k → nameOf nodes k < r
-    pick k h z (yes q) l = rw q (p .past (rw q at z))
-    pick k h z (no q) l =
-        let a : i ≤ k = omega (arith, q) in
-        let c = b .below k a h z in
-        let d = p .more in
-        omega (arith, c, d)
+    inside : (x : ℕ) → Found nodes least (nodeCount nodes) x → word least x ≤ nodeCount nodes
+    inside x (inl e) = omega (arith, e)
+    inside x (inr w) = let a = w .0 in omega (arith, a)
 
--- what stands past the numbers of all nodes is the number of nodes
-pub noted-end : (nodes least : List ℕ) (e i : ℕ) → i ≤ 0 → NotedFrom nodes least i → NamesBelow nodes e i → NoneFrom least (nodeCount nodes) e
-noted-end nodes least e i z t b =
-    record { within = b .within; none = λ x l h. pick x l (t .touched x h) }
+    right : (x : ℕ) → Found nodes least (nodeCount nodes) x → word least x ≡ nodeOf (nodesFrom nodes arguments) x
+    right x (inl e) = e ∙ sym (nodes-long nodes arguments) ∙ sym (node-of-none (nodesFrom nodes arguments) x never)
+      where
+        never : (i : ℕ) → i < length (nodesFrom nodes arguments) → nodeAt (nodesFrom nodes arguments) i ≡ variable x → ⊥
+        never i h d =
+            let g : i < nodeCount nodes = rw (nodes-long nodes arguments) at h in
+            let v = section-variable nodes arguments s i g x .0 d in
+            let f = b .first i g (v .0) in
+            let q : word least x ≡ word least (nameOf nodes i) = ap (word least) (v .1) in
+            omega (arith, e, f, q)
+    right x (inr (a, k, e)) =
+        let c : word least x < length (nodesFrom nodes arguments) = rw (nodes-long nodes arguments) a in
+        let d = section-variable nodes arguments s (word least x) a x .1 (k, sym e) in
+        let l = node-of (nodesFrom nodes arguments) x (word least x, c, d) in
+        let g : nodeOf (nodesFrom nodes arguments) x < nodeCount nodes = rw (nodes-long nodes arguments) at (l .holds .0) in
+        let v = section-variable nodes arguments s (nodeOf (nodesFrom nodes arguments) x) g x .0 (l .holds .1) in
+        let y : nodeOf (nodesFrom nodes arguments) x ≤ word least x = l .least (word least x) (c, d) in
+        let f = b .first (nodeOf (nodesFrom nodes arguments) x) g (v .0) in
+        let q : word least x ≡ word least (nameOf nodes (nodeOf (nodesFrom nodes arguments) x)) = ap (word least) (v .1) in
+        omega (arith, y, f, q)
+
+-- and no variable past the last number has a node
+pub least-end : (nodes least : List ℕ) (past : ℕ) → LeastBefore nodes least (nodeCount nodes) past → NoneFrom least (nodeCount nodes) past
+least-end nodes least past b = record { within = b .within; none = λ x l h. pick x l (b .found x h) }
   where
-    pick : (x : ℕ) → e ≤ x → Touched (IsVariable nodes) (nameOf nodes) (nodeCount nodes) i (nodeCount nodes) least x → word least x ≡ nodeCount nodes
-    pick x l (inl q) = q
-    pick x l (inr (k, w)) =
-        let c = b .below k (w .0) (w .1) (w .2) in
-        let d = w .3 in
-        absurd (omega (arith, c, d))
+    pick : (x : ℕ) → past ≤ x → Found nodes least (nodeCount nodes) x → word least x ≡ nodeCount nodes
+    pick x l (inl e) = e
+    pick x l (inr (a, k, e)) = let c = b .names (word least x) a k in absurd (omega (arith, c, e))
 
 -- the number of nodes by another name
 pub none-named : (least : List ℕ) (n m e : ℕ) → n ≡ m → NoneFrom least m e → NoneFrom least n e
 none-named least n m e q o = record { within = o .within; none = λ x l h. o .none x l h ∙ sym q }
 
-module _ (least : List ℕ) (n : ℕ) (list : List ℕ) (count x : ℕ) where
+-- nothing has changed
+others-same : (counts : List ℕ) → KeepsOthers counts counts
+others-same counts = record { long = refl; before = λ k h. refl; behind = λ k h. refl }
+
+-- one change after the other
+others-on : {counts counts₁ counts₂ : List ℕ} → KeepsOthers counts counts₁ → KeepsOthers counts₁ counts₂ → KeepsOthers counts counts₂
+others-on a b =
+    record {
+      long = b .long ∙ a .long;
+      before = λ k h. b .before k h ∙ a .before k h;
+      behind = λ k h. b .behind k h ∙ a .behind k h;
+    }
+
+module _ (least : List ℕ) (n : ℕ) (counts : List ℕ) (count x : ℕ) where
   -- a variable that has a node is kept
-  pub kept-variable : (v : ℕ) → v ≡ word least x → v < n → count < length list → KeepsVariable least n list count x (count + 1) (set list count v)
-  kept-variable v e l h =
+  pub kept-variable : (v : ℕ) → v ≡ word least x → v < n → 512 + count < length counts → count < variableNames →
+      KeepsVariable least n counts count x (count + 1) (set counts (512 + count) v)
+  kept-variable v e l h f =
       let b : ltb (word least x) n ≡ true = lt-ltb (word least x) n (omega arith) in
+      let d = length-drop 512 counts in
       record {
         more = omega arith;
-        long = length-set list count v;
-        kept = rw (b, add-one count, ← e) (take-suc-set list count v h);
+        others = record {
+          long = length-set counts (512 + count) v;
+          before = λ k q. getD-set-other counts (512 + count) k v 0 (λ z. omega (arith, z, q));
+          behind = λ k q. getD-set-other counts (512 + count) k v 0 (λ z. omega (arith, z, q, f));
+        };
+        kept = ap (take (count + 1)) (drop-set-add 512 counts count v)
+            ∙ rw (b, add-one count, ← e) (take-suc-set (drop 512 counts) count v (omega (arith, d, h)));
       }
 
   -- one that has none is not
-  pub passed-variable : (v : ℕ) → v ≡ word least x → n ≤ v → KeepsVariable least n list count x count list
+  pub passed-variable : (v : ℕ) → v ≡ word least x → n ≤ v → KeepsVariable least n counts count x count counts
   passed-variable v e l =
       let b : ltb (word least x) n ≡ false = le-ltb (word least x) n (omega arith) in
-      record { more = omega arith; long = refl; kept = rw b (sym (append-nil (take count list))) }
+      record { more = omega arith; others = others-same counts; kept = rw b (sym (append-nil (take count (drop 512 counts)))) }
+
+-- What is listed of the variables below x.
+pub record PresentBefore (least : List ℕ) (n : ℕ) (counts₀ counts : List ℕ) (count x : ℕ) : Type 0 where
+  pub few : count ≤ x
+  pub others : KeepsOthers counts₀ counts
+  pub listed : take count (drop 512 counts) ≡ presentBelow least n x
+
+-- at first nothing
+pub present-none : (least : List ℕ) (n : ℕ) (counts : List ℕ) → PresentBefore least n counts counts 0 0
+unfolding presentBelow gather
+present-none least n counts = record { few = omega arith; others = others-same counts; listed = refl }
 
 -- one variable more
-pub present-next : (least : List ℕ) (n x : ℕ) (list list′ : List ℕ) (count r : ℕ) → take count list ≡ presentBelow least n x → KeepsVariable least n list count x r list′ → take r list′ ≡ presentBelow least n (x + 1)
+pub present-next : (least : List ℕ) (n x : ℕ) (counts₀ counts counts′ : List ℕ) (count r : ℕ) → PresentBefore least n counts₀ counts count x →
+    KeepsVariable least n counts count x r counts′ → PresentBefore least n counts₀ counts′ r (x + 1)
 unfolding presentBelow gather
-present-next least n x list list′ count r e k = k .kept ∙ rw (e, add-one x)
+present-next least n x counts₀ counts counts′ count r p k =
+    record {
+      few = let a = k .more in let b = p .few in omega (arith, a, b);
+      others = others-on (p .others) (k .others);
+      listed = let e = p .listed in k .kept ∙ rw (e, add-one x);
+    }
 
 -- the variables that have no node add nothing
 present-more : (least : List ℕ) (n e x : ℕ) → NoneFrom least n e → e ≤ x → x ≤ variableNames → presentBelow least n e ≡ presentBelow least n x
@@ -230,12 +260,21 @@ present-more least n e (suc x) o l h = pick (λ k. present-more least n e x o k 
         r k ∙ rw b (sym (append-nil (presentBelow least n x)))
 
 -- all variables
-pub present-all : (least : List ℕ) (n e x count : ℕ) (list : List ℕ) → NoneFrom least n e → x ≤ e → e ≤ x → count ≤ x → length list ≡ variableNames → take count list ≡ presentBelow least n x → ListsPresent least n count list
-present-all least n e x count list o h k l m t =
+pub present-all : (least : List ℕ) (n e x count : ℕ) (counts₀ counts : List ℕ) → NoneFrom least n e → x ≤ e → e ≤ x → 576 ≤ length counts₀ →
+    PresentBefore least n counts₀ counts count x → ListsPresent least n counts₀ count counts
+present-all least n e x count counts₀ counts o h k m p =
     let z : x ≡ e = omega arith in
     let w = o .within in
-    let d = t ∙ ap (presentBelow least n) z ∙ present-more least n e variableNames o w (omega arith) in
-    record { within = omega arith; counted = sym (length-take-le count list (omega arith)) ∙ ap length d; listed = d }
+    let f = p .few in
+    let l = p .others .long in
+    let g = length-drop 512 counts in
+    let d = p .listed ∙ ap (presentBelow least n) z ∙ present-more least n e variableNames o w (omega arith) in
+    record {
+      within = omega (arith, f, w, z);
+      counted = sym (length-take-le count (drop 512 counts) (omega (arith, f, w, z, l, g, m))) ∙ ap length d;
+      others = p .others;
+      listed = d;
+    }
 
 -- a rising list rises from place to place
 pub rising-places : (xs : List ℕ) → Rising _<_ xs → (j k : ℕ) → j < k → k < length xs → word xs j < word xs k

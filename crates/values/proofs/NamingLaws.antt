@@ -10,15 +10,14 @@ use native.Mathlib.Omega.{arith}
 use borrow.Author.Tests.{eqb-true, eqb-false}
 use borrow.Author.Count.{below-more}
 use lib.Dec.{eqb}
-use lib.ListN.{length, set, replicate, length-set, length-replicate, getD-replicate}
+use lib.ListN.{length, set, length-set}
 use lib.Seq.{getD-set-same, getD-set-other}
 use Rattle.table.specs.Limits.{maxNodes}
 use Rattle.table.specs.Layout.{word, kindOf, countOf, nodeCount, argumentOf}
 use Rattle.unification.specs.Computed.Classes.{classOf}
-use Rattle.unification.specs.Code.Sections.{Sections}
 use Rattle.unification.specs.Code.Heads.{Partition}
 use Rattle.nodes.specs.Code.Named.{valueName, Readable, Alike, Applied}
-use Rattle.values.specs.Code.Naming.{Nameable, IsPlaced, Compounds, WholeOrder, all, compounds, keys, keyOf, keyAt, Representative, Represented, NamedBefore, Naming, NamedEarlier, NamedAlong, Found}
+use Rattle.values.specs.Code.Naming.{Nameable, IsPlaced, Compounds, keys, keyOf, keyAt, Representative, Represented, NamedBefore, Naming, NamedEarlier, NamedAlong, Found}
 use Rattle.nodes.specs.Code.Formed.{IsConstant}
 use Rattle.values.proofs.AlikeLaws.{NamesKept, alike-same, alike-back, alike-on, alike-kept, alike-was, key-kept}
 use Rattle.values.proofs.ChainLaws.{chained-skip, chained-add}
@@ -38,17 +37,17 @@ module _ (nodes arguments heads order : List ℕ) (o : Nameable nodes arguments 
     same-names q l j m =
         getD-set-other names (word order p) (classOf heads (argumentOf nodes arguments (word order q) j)) v 0 (o .first p q j l inside m)
 
-    whole-kept : WholeOrder nodes heads order names → WholeOrder nodes heads order news
-    whole-kept (all w) = all w
-    whole-kept (compounds w) =
-        compounds
-        (record {
+    whole-kept : Compounds nodes heads order names → Compounds nodes heads order news
+    whole-kept w =
+        record {
           compound = w .compound;
           placed = w .placed;
           itself = λ i h z.
-              getD-set-other names (word order p) i v 0 (λ e. let k = w .compound p inside in let y : countOf nodes (word order p) ≡ 0 = rw (← e) z in omega (arith, k, y)) ∙ w .itself i h z;
+              getD-set-other names (word order p) i v 0
+              (λ e. let k = w .compound p inside in let y : countOf nodes (word order p) ≡ 0 = rw (← e) z in omega (arith, k, y))
+              ∙ w .itself i h z;
           constants = w .constants;
-        })
+        }
 
     representative-kept : (q : ℕ) → q < p → Representative nodes order names q → Representative nodes order news q
     representative-kept q l r = record { application = r .application; itself = name-kept q l ∙ r .itself }
@@ -254,33 +253,9 @@ module _ (nodes arguments heads order : List ℕ) (o : Nameable nodes arguments 
                 let a = key-given k b in
                 rw (x, y, w, e) (naming-new applied (rw z at t) k (a .1) (a .2))
 
--- Before the first place nothing is named, and the table is empty.
-pub naming-start : (nodes arguments heads order names : List ℕ) → Sections nodes arguments → Partition (nodeCount nodes) heads →
-    Nameable nodes arguments heads order → length names ≡ nodeCount nodes → WholeOrder nodes heads order names →
-    Naming nodes arguments heads order names (replicate keys 0) (replicate maxNodes 0) 0
-naming-start nodes arguments heads order names s p o l w =
-    record {
-      readable = record { sections = s; partition = p; long = l };
-      ordered = o;
-      whole = w;
-      buckets-long = length-replicate {A = ℕ} keys 0;
-      earlier-long = length-replicate {A = ℕ} maxNodes 0;
-      named = record {
-        variable = λ q h. absurd (omega arith);
-        application = λ q h. absurd (omega arith);
-        apart = λ q r h. absurd (omega arith);
-      };
-      chained = record {
-        bucket-reaches = λ q h. absurd (omega arith);
-        bucket-is = λ x b h e. let y = getD-replicate {A = ℕ} keys x 0 0 h in absurd (omega (arith, y, e));
-        earlier-reaches = λ r q l h. absurd (omega arith);
-        earlier-is = λ q b h. absurd (omega arith);
-      };
-    }
-
 -- At the end every class is named.
 module _ (nodes arguments heads order names : List ℕ) (o : Nameable nodes arguments heads order) (t : Partition (nodeCount nodes) heads)
-    (w : WholeOrder nodes heads order names) (s : NamedBefore nodes arguments heads order names (length order)) where
+    (w : Compounds nodes heads order names) (s : NamedBefore nodes arguments heads order names (length order)) where
   -- The class of node i has the name of a representative that is alike.
   record ClassNamed (i : ℕ) : Type 0 where
     place : ℕ
@@ -301,16 +276,11 @@ module _ (nodes arguments heads order names : List ℕ) (o : Nameable nodes argu
     outside : Bare i → PlacedOrBare i
 
   standing : (i : ℕ) → i < nodeCount nodes → PlacedOrBare i
-  standing i h = go w
+  standing i h = pick (ℕ-discrete (countOf nodes (classOf heads i)) 0)
     where
-      pick : Compounds nodes heads order names → Dec (countOf nodes (classOf heads i) ≡ 0) → PlacedOrBare i
-      pick x (yes z) =
-          outside (record { bare = z; itself = x .itself (classOf heads i) (t .below i h) z; others = x })
-      pick x (no n) = at (x .placed i h (omega (arith, n)))
-
-      go : WholeOrder nodes heads order names → PlacedOrBare i
-      go (all x) = at (x i h)
-      go (compounds x) = pick x (ℕ-discrete (countOf nodes (classOf heads i)) 0)
+      pick : Dec (countOf nodes (classOf heads i) ≡ 0) → PlacedOrBare i
+      pick (yes z) = outside (record { bare = z; itself = w .itself (classOf heads i) (t .below i h) z; others = w })
+      pick (no n) = at (w .placed i h (omega (arith, n)))
 
   -- a class of an application whose head stands in the order
   class-named : (i : ℕ) → IsPlaced order (classOf heads i) → Applied nodes heads i → ClassNamed i

@@ -1,4 +1,4 @@
--- What binding words need: the open applications are listed behind the counts, and the closed ones behind a table of them. A list goes on
+-- What binding words need: the open applications are listed behind the counts, and the closed ones with a table of them. A list goes on
 -- with the next number that has its property. Assumes nothing.
 use Prim.Native.Nat.{ℕ, zero, suc, _+_, _-_, _≤_, _<_}
 use mathlib.Core.Bool.{Bool, true, false, not, _&&_, false≢true}
@@ -11,8 +11,8 @@ use native.Mathlib.Omega.{arith}
 use borrow.Author.Tests.{eq-eqb, ne-eqb, eqb-true, eqb-false, not-true}
 use borrow.Author.Count.{below-more}
 use lib.Dec.{eqb}
-use lib.ListN.{length, set, take, drop, length-set, length-drop}
-use lib.Seq.{getD-set-same, getD-set-other, getD-take, getD-drop, length-take-le, take-set-le, take-set-lt, drop-set-lt, drop-set-add}
+use lib.ListN.{length, set, take, drop, replicate, length-set, length-drop, length-replicate, getD-replicate}
+use lib.Seq.{getD-set-same, getD-set-other, getD-take, getD-drop, length-take-le}
 use Rattle.table.specs.Limits.{maxNodes}
 use Rattle.table.specs.Layout.{word, kindOf, countOf, nodeCount, argumentOf}
 use Rattle.table.proofs.BoolLaws.{and-true-left, and-true-right}
@@ -21,10 +21,11 @@ use Rattle.unification.specs.Code.Heads.{Partition}
 use Rattle.unification.specs.Code.Sections.{Sections}
 use Rattle.unification.proofs.SectionLaws.{counted-application}
 use Rattle.nodes.specs.Code.Open.{IsClosed, closedTest, Counts, CountedAt, OpenListed, closedHeadTest}
-use Rattle.nodes.specs.Code.Named.{valueName, Themselves}
+use Rattle.nodes.specs.Code.Named.{Themselves}
 use Rattle.values.specs.Code.Naming.{keys, keyUpTo, keyOf, keyAt, Representative, Chained}
-use Rattle.values.specs.Code.Prepared.{preparedWords, CountNoted, none-looked-at, some-looked-at, closedNoted, ListsClosed}
+use Rattle.values.specs.Code.Prepared.{Gathered, IsOpen, OpenBefore, CountNoted, none-looked-at, some-looked-at, ClosedNoted, ListsClosed}
 use Rattle.nodes.proofs.OpenLaws.{closed-true, closed-test, looked-at}
+use Rattle.values.proofs.AlikeLaws.{key-kept}
 use Rattle.values.proofs.ChainLaws.{chained-add}
 use Rattle.values.proofs.CountLaws.{counts-none, counts-next, counts-kept, counts-end}
 
@@ -38,18 +39,6 @@ part-long start n l h =
 part-at : (start n p : ℕ) (l : List ℕ) → p < n → word (take n (drop start l)) p ≡ word l (start + p)
 part-at start n p l h = getD-take n (drop start l) p 0 h ∙ getD-drop start l p 0
 
--- what is written behind it does not change it
-part-before : (start n j a : ℕ) (l : List ℕ) → n ≤ j → take n (drop start (set l (start + j) a)) ≡ take n (drop start l)
-part-before start n j a l h = ap (take n) (drop-set-add start l j a) ∙ take-set-le n (drop start l) j a h
-
--- The words from a start on are the numbers below i with a property, in rising order.
-pub record Gathered (P : ℕ → Type 0) (start : ℕ) (prepared : List ℕ) (count i : ℕ) : Type 0 where
-  pub few : count ≤ i
-  pub below : (p : ℕ) → p < count → word prepared (start + p) < i
-  pub has : (p : ℕ) → p < count → P (word prepared (start + p))
-  pub rising : (p q : ℕ) → p < q → q < count → word prepared (start + p) < word prepared (start + q)
-  pub whole : (k : ℕ) → k < i → P k → (p : ℕ) × (p < count) × (word prepared (start + p) ≡ k)
-
 -- at first there are none
 gathered-none : (P : ℕ → Type 0) (start : ℕ) (prepared : List ℕ) → Gathered P start prepared 0 0
 gathered-none P start prepared =
@@ -62,7 +51,7 @@ gathered-none P start prepared =
     }
 
 -- the same numbers have another property, and stand in another list
-gathered-same : (P P′ : ℕ → Type 0) (start : ℕ) (prepared prepared′ : List ℕ) (count i : ℕ) → ((k : ℕ) → k < i → P k → P′ k) →
+pub gathered-same : (P P′ : ℕ → Type 0) (start : ℕ) (prepared prepared′ : List ℕ) (count i : ℕ) → ((k : ℕ) → k < i → P k → P′ k) →
     ((k : ℕ) → k < i → P′ k → P k) → ((p : ℕ) → p < count → word prepared′ (start + p) ≡ word prepared (start + p)) →
     Gathered P start prepared count i → Gathered P′ start prepared′ count i
 gathered-same P P′ start prepared prepared′ count i there back kept g =
@@ -115,18 +104,6 @@ module _ (P : ℕ → Type 0) (start : ℕ) (prepared : List ℕ) (count i : ℕ
           let y = kept q v in
           let r = g .rising p q l v in
           omega (arith, x, y, r)
-
--- Arguments of node k are looked at.
-abbrev IsOpen : List ℕ → ℕ → Type 0
-IsOpen counts k = 0 < word counts k
-
--- Of the nodes before node i, the arguments that are looked at are counted, and the open applications listed behind the counts. Node 0 is none.
-pub record OpenBefore (nodes arguments counts₀ counts : List ℕ) (opens i : ℕ) : Type 0 where
-  pub size : length counts ≡ length counts₀
-  pub counted : Counts nodes arguments counts i
-  pub gathered : Gathered (IsOpen counts) 256 counts opens i
-  pub fewer : opens ≤ i - 1
-  pub behind : (k : ℕ) → 512 ≤ k → word counts k ≡ word counts₀ k
 
 -- at first there are none
 pub open-none : (nodes arguments counts : List ℕ) → Sections nodes arguments → 512 ≤ length counts → OpenBefore nodes arguments counts counts 0 0
@@ -276,25 +253,6 @@ open-all nodes arguments counts₀ counts opens i n s l e m a b o = (
         let w = o .gathered .whole k (omega arith) q in
         (w .0, rw long (w .1), part-at 256 opens (w .0) counts (w .1) ∙ w .2)
 
--- the key of a node depends on the names of its arguments
-key-same-up-to : (nodes arguments heads heads′ names names′ : List ℕ) (h : ℕ) →
-    ((j : ℕ) → j < countOf nodes h → valueName heads′ names′ (argumentOf nodes arguments h j) ≡ valueName heads names
-    (argumentOf nodes arguments h j)) →
-    (j : ℕ) → j ≤ countOf nodes h → keyUpTo nodes arguments heads′ names′ h j ≡ keyUpTo nodes arguments heads names h j
-unfolding keyUpTo
-key-same-up-to nodes arguments heads heads′ names names′ h s zero l = refl
-key-same-up-to nodes arguments heads heads′ names names′ h s (suc j) l =
-    rw (key-same-up-to nodes arguments heads heads′ names names′ h s j (omega arith), s j (omega arith))
-
--- so it is the same where these are
-key-same : (nodes arguments heads heads′ names names′ : List ℕ) (h : ℕ) →
-    ((j : ℕ) → j < countOf nodes h → valueName heads′ names′ (argumentOf nodes arguments h j) ≡ valueName heads names
-    (argumentOf nodes arguments h j)) →
-    keyOf nodes arguments heads′ names′ h ≡ keyOf nodes arguments heads names h
-unfolding keyOf
-key-same nodes arguments heads heads′ names names′ h s =
-    key-same-up-to nodes arguments heads heads′ names names′ h s (countOf nodes h) (omega arith)
-
 key-up-to-small : (nodes arguments heads names : List ℕ) (h j : ℕ) → keyUpTo nodes arguments heads names h j < keys
 unfolding keyUpTo
 key-up-to-small nodes arguments heads names h zero = mod-lt _ (omega arith)
@@ -337,15 +295,17 @@ head-false nodes counts heads i e m =
           (m .own),
     ))
 
--- what the words are after a closed application was noted: the key is below the place that is written first
-pub noted-read : (nodes arguments heads names prepared : List ℕ) (place i k : ℕ) → k ≡ keyOf nodes arguments heads names i → k < keys →
-    set (set (set prepared (512 + place) i) (256 + place) (word (set prepared (512 + place) i) k)) k (place + 1) ≡ closedNoted nodes arguments heads
-    names prepared place i
-unfolding closedNoted
-noted-read nodes arguments heads names prepared place i k e h =
-    ap (λ (x : ℕ). set (set (set prepared (512 + place) i) (256 + place) x) k (place + 1))
-    (getD-set-other prepared (512 + place) k i 0 (λ z. omega (arith, z, h)))
-    ∙ rw e refl
+-- a closed application is noted by its key
+pub closed-noted : (nodes arguments heads names order buckets earlier : List ℕ) (place i k : ℕ) → k ≡ keyOf nodes arguments heads names i →
+    {order′ buckets′ earlier′ : List ℕ} → order′ ≡ set order place i → buckets′ ≡ set buckets k (place + 1) →
+    earlier′ ≡ set earlier place (word buckets k) →
+    ClosedNoted nodes arguments heads names order buckets earlier place i order′ buckets′ earlier′
+closed-noted nodes arguments heads names order buckets earlier place i k e x y z =
+    record {
+      placed = x;
+      bucket = y ∙ ap (λ (j : ℕ). set buckets j (place + 1)) e;
+      chain = z ∙ ap (λ (j : ℕ). set earlier place (word buckets j)) e;
+    }
 
 -- a representative depends on the node at its place
 representative-same : (nodes l l′ names : List ℕ) (q : ℕ) → word l′ q ≡ word l q → Representative nodes l names q → Representative nodes l′ names q
@@ -356,110 +316,83 @@ key-at-same : (nodes arguments heads l l′ names : List ℕ) (q : ℕ) → word
 unfolding keyAt
 key-at-same nodes arguments heads l l′ names q e = ap (keyOf nodes arguments heads names) e
 
+-- what stands in the first places of a list
+first-at : (n p : ℕ) (l : List ℕ) → p < n → word (take n l) p ≡ word l (0 + p)
+first-at n p l h = getD-take n l p 0 h ∙ ap (word l) (let e : p ≡ 0 + p = omega arith in e)
+
 -- Of the nodes before node i, the closed applications with arguments that are heads are listed, and stand in the table.
-pub record ClosedBefore (nodes arguments counts heads prepared₀ prepared : List ℕ) (count i : ℕ) : Type 0 where
-  pub size : length prepared ≡ length prepared₀
-  pub gathered : Gathered (IsClosedHead nodes counts heads) 512 prepared count i
+pub record ClosedBefore (nodes arguments counts heads order buckets earlier : List ℕ) (count i : ℕ) : Type 0 where
+  pub order-long : length order ≡ maxNodes
+  pub buckets-long : length buckets ≡ keys
+  pub earlier-long : length earlier ≡ maxNodes
+  pub gathered : Gathered (IsClosedHead nodes counts heads) 0 order count i
   pub chained : (names : List ℕ) → length names ≡ nodeCount nodes → Themselves names →
-      Chained (Representative nodes (take count (drop 512 prepared)) names) (keyAt nodes arguments heads (take count (drop 512 prepared)) names)
-      (take 256 prepared) (take 256 (drop 256 prepared)) count
+      Chained (Representative nodes (take count order) names) (keyAt nodes arguments heads (take count order) names) buckets earlier count
 
 -- at first there are none
-pub closed-list-none : (nodes arguments counts heads prepared : List ℕ) → ((k : ℕ) → k < 256 → word prepared k ≡ 0) →
-    ClosedBefore nodes arguments counts heads prepared prepared 0 0
-closed-list-none nodes arguments counts heads prepared z =
+pub closed-list-none : (nodes arguments counts heads order buckets earlier : List ℕ) → length order ≡ maxNodes → buckets ≡ replicate keys 0 →
+    length earlier ≡ maxNodes → ClosedBefore nodes arguments counts heads order buckets earlier 0 0
+closed-list-none nodes arguments counts heads order buckets earlier a z b =
     record {
-      size = refl;
-      gathered = gathered-none (IsClosedHead nodes counts heads) 512 prepared;
+      order-long = a;
+      buckets-long = ap length z ∙ length-replicate {A = ℕ} keys 0;
+      earlier-long = b;
+      gathered = gathered-none (IsClosedHead nodes counts heads) 0 order;
       chained = λ names l t.
           record {
             bucket-reaches = λ q h. absurd (omega arith);
-            bucket-is = λ x b h e.
-                let y : word (take 256 prepared) x ≡ 0 = getD-take 256 prepared x 0 h ∙ z x h in
+            bucket-is = λ x c h e.
+                let y : word buckets x ≡ 0 = rw z (getD-replicate {A = ℕ} keys x 0 0 h) in
                 absurd (omega (arith, e, y));
             earlier-reaches = λ r q l h. absurd (omega arith);
-            earlier-is = λ q b h. absurd (omega arith);
+            earlier-is = λ q c h. absurd (omega arith);
           };
     }
 
-module _ (nodes arguments counts heads prepared₀ prepared : List ℕ) (count i : ℕ)
-    (o : ClosedBefore nodes arguments counts heads prepared₀ prepared count i) where
+module _ (nodes arguments counts heads order buckets earlier : List ℕ) (count i : ℕ)
+    (o : ClosedBefore nodes arguments counts heads order buckets earlier count i) where
   -- a node that is none
-  pub closed-list-skip : (v : Bool) → v ≡ closedHeadTest nodes counts heads i → v ≡ false → {prepared′ : List ℕ} {count′ : ℕ} →
-      prepared′ ≡ prepared → count′ ≡ count → ClosedBefore nodes arguments counts heads prepared₀ prepared′ count′ (i + 1)
-  closed-list-skip v e f x y =
-      rw (x, y)
+  pub closed-list-skip : (v : Bool) → v ≡ closedHeadTest nodes counts heads i → v ≡ false → {order′ buckets′ earlier′ : List ℕ} {count′ : ℕ} →
+      order′ ≡ order → buckets′ ≡ buckets → earlier′ ≡ earlier → count′ ≡ count →
+      ClosedBefore nodes arguments counts heads order′ buckets′ earlier′ count′ (i + 1)
+  closed-list-skip v e f x y z w =
+      rw (x, y, z, w)
       (record {
-        size = o .size;
-        gathered = gathered-skip (IsClosedHead nodes counts heads) 512 prepared count i (o .gathered) (head-false nodes counts heads i (sym e ∙ f));
+        order-long = o .order-long;
+        buckets-long = o .buckets-long;
+        earlier-long = o .earlier-long;
+        gathered = gathered-skip (IsClosedHead nodes counts heads) 0 order count i (o .gathered) (head-false nodes counts heads i (sym e ∙ f));
         chained = o .chained;
       })
 
   module _ (names : List ℕ) (p : Partition (nodeCount nodes) heads) (s : Sections nodes arguments) (long : length names ≡ nodeCount nodes)
-      (themselves : Themselves names) (h : i < nodeCount nodes) (l : length prepared₀ ≡ preparedWords) (few : count < maxNodes) where
+      (themselves : Themselves names) (h : i < nodeCount nodes) (few : count < maxNodes) where
     abbrev k : ℕ
     k = keyOf nodes arguments heads names i
 
     abbrev noted : List ℕ
-    noted = set (set (set prepared (512 + count) i) (256 + count) (word prepared k)) k (count + 1)
+    noted = set order count i
 
-    small : k < 256
-    small = key-small nodes arguments heads names i
-
-    size : length prepared ≡ 768
-    size = o .size ∙ l
-
-    -- what is not written stays
-    noted-other : (m : ℕ) → (m ≡ 512 + count → ⊥) → (m ≡ 256 + count → ⊥) → (m ≡ k → ⊥) → word noted m ≡ word prepared m
-    noted-other m a b c =
-        getD-set-other (set (set prepared (512 + count) i) (256 + count) (word prepared k)) k m (count + 1) 0 c
-        ∙ getD-set-other (set prepared (512 + count) i) (256 + count) m (word prepared k) 0 b
-        ∙ getD-set-other prepared (512 + count) m i 0 a
-
-    noted-here : word noted (512 + count) ≡ i
+    noted-here : word noted (0 + count) ≡ i
     noted-here =
-        getD-set-other (set (set prepared (512 + count) i) (256 + count) (word prepared k)) k (512 + count) (count + 1) 0
-        (λ z. omega (arith, z, small))
-        ∙ getD-set-other (set prepared (512 + count) i) (256 + count) (512 + count) (word prepared k) 0 (λ z. omega (arith, z))
-        ∙ getD-set-same prepared (512 + count) i 0 (omega (arith, size, few))
+        let e : 0 + count ≡ count = omega arith in
+        let l = o .order-long in
+        ap (word noted) e ∙ getD-set-same order count i 0 (omega (arith, l, few))
 
-    noted-list : (q : ℕ) → q < count → word noted (512 + q) ≡ word prepared (512 + q)
-    noted-list q b = noted-other (512 + q) (λ z. omega (arith, z, b)) (λ z. omega (arith, z, b, few)) (λ z. omega (arith, z, small))
+    noted-list : (q : ℕ) → q < count → word noted (0 + q) ≡ word order (0 + q)
+    noted-list q b = getD-set-other order count (0 + q) i 0 (λ z. omega (arith, z, b))
 
     -- the list so far, as a part
-    list-kept : (q : ℕ) → q < count → word (take (count + 1) (drop 512 noted)) q ≡ word (take count (drop 512 prepared)) q
-    list-kept q b =
-        part-at 512 (count + 1) q noted (omega arith) ∙ noted-list q b ∙ sym (part-at 512 count q prepared b)
+    list-kept : (q : ℕ) → q < count → word (take (count + 1) noted) q ≡ word (take count order) q
+    list-kept q b = first-at (count + 1) q noted (omega arith) ∙ noted-list q b ∙ sym (first-at count q order b)
 
-    list-here : word (take (count + 1) (drop 512 noted)) count ≡ i
-    list-here = part-at 512 (count + 1) count noted (omega arith) ∙ noted-here
-
-    -- the two parts of the table
-    noted-buckets : take 256 noted ≡ set (take 256 prepared) k (count + 1)
-    noted-buckets =
-        take-set-lt 256 (set (set prepared (512 + count) i) (256 + count) (word prepared k)) k (count + 1) small
-        ∙ ap (λ (t : List ℕ). set t k (count + 1))
-        (take-set-le 256 (set prepared (512 + count) i) (256 + count) (word prepared k) (omega arith)
-        ∙ take-set-le 256 prepared (512 + count) i (omega arith))
-
-    noted-earlier : take 256 (drop 256 noted) ≡ set (take 256 (drop 256 prepared)) count (word (take 256 prepared) k)
-    noted-earlier =
-        ap (take 256)
-        (drop-set-lt 256 (set (set prepared (512 + count) i) (256 + count) (word prepared k)) k (count + 1) small
-        ∙ drop-set-add 256 (set prepared (512 + count) i) count (word prepared k))
-        ∙ take-set-lt 256 (drop 256 (set prepared (512 + count) i)) count (word prepared k) few
-        ∙ ap (λ (t : List ℕ). set t count (word prepared k)) far
-        ∙ ap (set (take 256 (drop 256 prepared)) count) (sym (getD-take 256 prepared k 0 small))
-      where
-        far : take 256 (drop 256 (set prepared (512 + count) i)) ≡ take 256 (drop 256 prepared)
-        far =
-            let e : 512 + count ≡ 256 + (256 + count) = omega arith in
-            rw e (part-before 256 256 (256 + count) i prepared (omega arith))
+    list-here : word (take (count + 1) noted) count ≡ i
+    list-here = first-at (count + 1) count noted (omega arith) ∙ noted-here
 
     -- a key does not depend on which names there are
     one-key : (names′ : List ℕ) → length names′ ≡ nodeCount nodes → Themselves names′ → keyOf nodes arguments heads names′ i ≡ k
     one-key names′ m t =
-        key-same nodes arguments heads heads names names′ i
+        key-kept nodes arguments heads names names′ i
         (λ j q.
         let a = s .smaller i j h q in
         let b = p .below (argumentOf nodes arguments i j) (omega (arith, a, h)) in
@@ -468,51 +401,47 @@ module _ (nodes arguments counts heads prepared₀ prepared : List ℕ) (count i
 
     -- one more is put into the table
     chained-put : IsClosedHead nodes counts heads i → (names′ : List ℕ) → length names′ ≡ nodeCount nodes → Themselves names′ →
-        Chained (Representative nodes (take (count + 1) (drop 512 noted)) names′)
-        (keyAt nodes arguments heads (take (count + 1) (drop 512 noted)) names′) (take 256 noted) (take 256 (drop 256 noted)) (count + 1)
+        Chained (Representative nodes (take (count + 1) noted) names′) (keyAt nodes arguments heads (take (count + 1) noted) names′)
+        (set buckets k (count + 1)) (set earlier count (word buckets k)) (count + 1)
     unfolding keyAt
     chained-put c names′ m t =
-        rw (noted-buckets, noted-earlier)
-        (chained-add (Representative nodes before names′) (Representative nodes after names′) (keyAt nodes arguments heads before names′)
-        (keyAt nodes arguments heads after names′) (take 256 prepared) (take 256 (drop 256 prepared)) count
+        chained-add (Representative nodes before names′) (Representative nodes after names′) (keyAt nodes arguments heads before names′)
+        (keyAt nodes arguments heads after names′) buckets earlier count
         (λ q b. representative-same nodes before after names′ q (list-kept q b))
         (λ q b. representative-same nodes after before names′ q (sym (list-kept q b)))
         (λ q b. key-at-same nodes arguments heads before after names′ q (list-kept q b)) (o .chained names′ m t) k
         (record { application = rw list-here (c .is-closed .applied); itself = rw list-here (t .itself i (omega (arith, m, h))) })
-        (ap (keyOf nodes arguments heads names′) list-here ∙ one-key names′ m t) small (length-take-le 256 prepared (omega (arith, size)))
-        (let z : length (take 256 (drop 256 prepared)) ≡ 256 = part-long 256 256 prepared (omega (arith, size)) in omega (arith, z, few)))
+        (ap (keyOf nodes arguments heads names′) list-here ∙ one-key names′ m t) (key-small nodes arguments heads names i) (o .buckets-long)
+        (let z = o .earlier-long in omega (arith, z, few))
       where
         before : List ℕ
-        before = take count (drop 512 prepared)
+        before = take count order
 
         after : List ℕ
-        after = take (count + 1) (drop 512 noted)
+        after = take (count + 1) noted
 
     -- one that is
-    pub closed-list-put : (v : Bool) → v ≡ closedHeadTest nodes counts heads i → v ≡ true → (after : List ℕ) →
-        after ≡ closedNoted nodes arguments heads names prepared count i → {prepared′ : List ℕ} {count′ : ℕ} → prepared′ ≡ after →
-        count′ ≡ count + 1 → ClosedBefore nodes arguments counts heads prepared₀ prepared′ count′ (i + 1)
-    unfolding closedNoted
-    closed-list-put v e f after d x y =
+    pub closed-list-put : (v : Bool) → v ≡ closedHeadTest nodes counts heads i → v ≡ true → (order₁ buckets₁ earlier₁ : List ℕ) →
+        ClosedNoted nodes arguments heads names order buckets earlier count i order₁ buckets₁ earlier₁ →
+        {order′ buckets′ earlier′ : List ℕ} {count′ : ℕ} → order′ ≡ order₁ → buckets′ ≡ buckets₁ → earlier′ ≡ earlier₁ → count′ ≡ count + 1 →
+        ClosedBefore nodes arguments counts heads order′ buckets′ earlier′ count′ (i + 1)
+    closed-list-put v e f order₁ buckets₁ earlier₁ d x y z w =
         let c = head-true nodes counts heads i h (sym e ∙ f) in
-        rw (x, y, d)
+        rw (x, y, z, w, d .placed, d .bucket, d .chain)
         (record {
-          size =
-              length-set (set (set prepared (512 + count) i) (256 + count) (word prepared k)) k (count + 1)
-              ∙ length-set (set prepared (512 + count) i) (256 + count) (word prepared k)
-              ∙ length-set prepared (512 + count) i
-              ∙ o .size;
-          gathered = gathered-put (IsClosedHead nodes counts heads) 512 prepared count i (o .gathered) noted c noted-list noted-here;
+          order-long = length-set order count i ∙ o .order-long;
+          buckets-long = length-set buckets k (count + 1) ∙ o .buckets-long;
+          earlier-long = length-set earlier count (word buckets k) ∙ o .earlier-long;
+          gathered = gathered-put (IsClosedHead nodes counts heads) 0 order count i (o .gathered) noted c noted-list noted-here;
           chained = chained-put c;
         })
 
 -- the closed applications of all nodes
-pub closed-list-all : (nodes arguments counts heads prepared₀ prepared : List ℕ) (count i n : ℕ) → length prepared₀ ≡ preparedWords →
-    n ≡ nodeCount nodes → n ≤ maxNodes → i ≤ n → n ≤ i → ClosedBefore nodes arguments counts heads prepared₀ prepared count i →
-    ListsClosed nodes arguments counts heads prepared₀ count prepared
-closed-list-all nodes arguments counts heads prepared₀ prepared count i n l e m a b o =
+pub closed-list-all : (nodes arguments counts heads order buckets earlier : List ℕ) (count i n : ℕ) →
+    n ≡ nodeCount nodes → n ≤ maxNodes → i ≤ n → n ≤ i → ClosedBefore nodes arguments counts heads order buckets earlier count i →
+    ListsClosed nodes arguments counts heads count order buckets earlier
+closed-list-all nodes arguments counts heads order buckets earlier count i n e m a b o =
     record {
-      size = o .size;
       few = few;
       listed = record {
         is-closed = λ p h. rw (at p h) (o .gathered .has p (rw long at h) .is-closed);
@@ -520,30 +449,27 @@ closed-list-all nodes arguments counts heads prepared₀ prepared count i n l e 
         own = λ p h. rw (at p h) (o .gathered .has p (rw long at h) .own);
         rising = λ p q g h.
             let u : q < count = rw long at h in
-            let x = part-at 512 count p prepared (omega (arith, g, u)) in
-            let y = part-at 512 count q prepared u in
+            let x = first-at count p order (omega (arith, g, u)) in
+            let y = first-at count q order u in
             let r = o .gathered .rising p q g u in
             omega (arith, x, y, r);
         whole = λ k c f d.
             let v = c .node in
             let w = o .gathered .whole k (omega (arith, v)) (record { is-closed = c; compound = f; own = d }) in
-            (w .0, rw long (w .1), part-at 512 count (w .0) prepared (w .1) ∙ w .2);
+            (w .0, rw long (w .1), first-at count (w .0) order (w .1) ∙ w .2);
       };
       chained = record {
-        buckets-long = length-take-le 256 prepared (omega (arith, size));
-        earlier-long = part-long 256 256 prepared (omega (arith, size));
+        buckets-long = o .buckets-long;
+        earlier-long = o .earlier-long;
         chained = λ names h t. rw long (o .chained names h t);
       };
     }
   where
-    size : length prepared ≡ 768
-    size = o .size ∙ l
-
     few : count ≤ maxNodes
     few = let f = o .gathered .few in omega (arith, f)
 
-    long : length (take count (drop 512 prepared)) ≡ count
-    long = part-long 512 count prepared (omega (arith, size, few))
+    long : length (take count order) ≡ count
+    long = length-take-le count order (let z = o .order-long in omega (arith, z, few))
 
-    at : (p : ℕ) → p < length (take count (drop 512 prepared)) → word (take count (drop 512 prepared)) p ≡ word prepared (512 + p)
-    at p h = part-at 512 count p prepared (rw long at h)
+    at : (p : ℕ) → p < length (take count order) → word (take count order) p ≡ word order (0 + p)
+    at p h = first-at count p order (rw long at h)

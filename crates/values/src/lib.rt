@@ -1,6 +1,4 @@
 // Names for the values of classes.
-use present::VARIABLE_NAMES;
-
 // Bytes put into others.
 pub mod bytes;
 
@@ -15,9 +13,3 @@ pub mod prepared;
 
 // Names for the values of classes.
 pub mod names;
-
-// The variables present: the least node of each, in rising order of variable number.
-pub struct Variables {
-    pub count: usize,
-    pub nodes: [u8; VARIABLE_NAMES],
-}

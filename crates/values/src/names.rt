@@ -4,26 +4,23 @@ ghost use Prim.Native.Nat.{_+_, _≤_, _<_};
 ghost use lib.ListN.{length, set};
 ghost use Rattle.table.specs.Limits.{maxNodes};
 ghost use Rattle.table.specs.Layout.{word, countOf, nodeCount, argumentOf};
-ghost use Rattle.unification.specs.Code.Sections.{Sections};
-ghost use Rattle.unification.specs.Code.Heads.{Partition};
 ghost use Rattle.nodes.specs.Code.Named.{valueName, Readable, Themselves};
-ghost use Rattle.values.specs.Code.Naming.{Nameable, WholeOrder, keys, keyOf, Compared, Naming, NamedAlong, Found};
+ghost use Rattle.values.specs.Code.Naming.{keys, keyOf, Compared, Naming, NamedAlong, Found};
 use nodes::lists;
 use nodes::sections;
 use table::Node;
 use table::layout;
 use table::layout::index;
-use table::limits::MAX_NODES;
 
 // How many keys the table of applications has.
 pub const KEYS: usize = 256;
 
 // 2^16 over the golden ratio: the upper eight of the 16 bits of a name's product with it spread names that lie at equal distances.
-const NAME_FACTOR: usize = 40503;
+pub const NAME_FACTOR: usize = 40503;
 
 // 2^8 over the golden ratio, about: the place of an argument counts in the key. One more than it is not a multiple of 4, so that terms
 // with the same argument twice have many keys.
-const ARGUMENT_FACTOR: usize = 157;
+pub const ARGUMENT_FACTOR: usize = 157;
 
 // The name of the value of argument j of a node.
 fn argument_name(
@@ -130,7 +127,7 @@ fn put(names: &mut [u8], h: Node, name: Node)
 }
 
 // Puts place p in front of the representatives with key k.
-fn chain(buckets: &mut [u16], earlier: &mut [u16], p: usize, k: usize)
+pub fn chain(buckets: &mut [u16], earlier: &mut [u16], p: usize, k: usize)
     requires { ⌜ (k < length (now buckets)) × (p < length (now earlier)) × (p < maxNodes) ⌝ }
     ensures { λ r. ⌜ (now (buckets .exit) ≡ set (now (buckets .entry)) k (p + 1)) × (now (earlier .exit) ≡ set (now (earlier .entry)) p (word (now (buckets .entry)) k)) ⌝ }
 {
@@ -179,7 +176,7 @@ fn name_node(
 }
 
 // Names the nodes of an order from place `start` on; those before it are named, and stand in the table.
-fn name_all(
+pub fn name_all(
     nodes: &[u32],
     arguments: &[u32],
     heads: &[u8],
@@ -198,92 +195,4 @@ fn name_all(
         name_node(nodes, arguments, heads, order, names, buckets, earlier, p);
         p += 1;
     }
-}
-
-// Names the values of the classes.
-pub fn name_values(nodes: &[u32], arguments: &[u32], heads: &[u8], order: &[u8], names: &mut [u8])
-    requires { ⌜ Sections (now nodes) (now arguments) ⌝ }
-    requires { ⌜ Partition (nodeCount (now nodes)) (now heads) ⌝ }
-    requires { ⌜ Nameable (now nodes) (now arguments) (now heads) (now order) ⌝ }
-    requires { ⌜ (length (now names) ≡ nodeCount (now nodes)) × WholeOrder (now nodes) (now heads) (now order) (now names) ⌝ }
-    ensures { λ r. ⌜ NamedAlong (now (nodes .entry)) (now (arguments .entry)) (now (heads .entry)) (now (order .entry)) (now (names .exit)) ⌝ }
-{
-    let mut buckets = [0u16; KEYS];
-    let mut earlier = [0u16; MAX_NODES];
-    name_all(
-        nodes,
-        arguments,
-        heads,
-        order,
-        0,
-        names,
-        &mut buckets,
-        &mut earlier,
-    );
-}
-
-// Copies half words.
-fn copy_table(from: &[u16], to: &mut [u16])
-    requires { ⌜ length (now from) ≡ length (now to) ⌝ }
-    ensures { λ r. ⌜ now (to .exit) ≡ now (from .entry) ⌝ }
-{
-    let mut i: usize = 0;
-    while i < from.len() {
-        to[i] = from[i];
-        i += 1;
-    }
-}
-
-// Names the nodes of an order from place `start` on, with a copy of the table of those before it.
-fn name_copied(
-    nodes: &[u32],
-    arguments: &[u32],
-    heads: &[u8],
-    order: &[u8],
-    start: usize,
-    buckets: &[u16],
-    earlier: &[u16],
-    names: &mut [u8],
-    slots: &mut [u16],
-    links: &mut [u16],
-)
-    requires { ⌜ Naming (now nodes) (now arguments) (now heads) (now order) (now names) (now buckets) (now earlier) start ⌝ }
-    requires { ⌜ start ≤ length (now order) ⌝ }
-    requires { ⌜ (length (now buckets) ≡ length (now slots)) × (length (now earlier) ≡ length (now links)) ⌝ }
-    ensures { λ r. ⌜ NamedAlong (now (nodes .entry)) (now (arguments .entry)) (now (heads .entry)) (now (order .entry)) (now (names .exit)) ⌝ }
-{
-    copy_table(buckets, slots);
-    copy_table(earlier, links);
-    name_all(nodes, arguments, heads, order, start, names, slots, links);
-}
-
-// Names the values of the classes from place `start` of an order on; those before it are named, and stand in a table.
-pub fn name_after(
-    nodes: &[u32],
-    arguments: &[u32],
-    heads: &[u8],
-    order: &[u8],
-    start: usize,
-    buckets: &[u16],
-    earlier: &[u16],
-    names: &mut [u8],
-)
-    requires { ⌜ Naming (now nodes) (now arguments) (now heads) (now order) (now names) (now buckets) (now earlier) start ⌝ }
-    requires { ⌜ start ≤ length (now order) ⌝ }
-    ensures { λ r. ⌜ NamedAlong (now (nodes .entry)) (now (arguments .entry)) (now (heads .entry)) (now (order .entry)) (now (names .exit)) ⌝ }
-{
-    let mut buckets_after = [0u16; KEYS];
-    let mut earlier_after = [0u16; MAX_NODES];
-    name_copied(
-        nodes,
-        arguments,
-        heads,
-        order,
-        start,
-        buckets,
-        earlier,
-        names,
-        &mut buckets_after,
-        &mut earlier_after,
-    );
 }

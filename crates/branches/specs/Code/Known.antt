@@ -111,6 +111,6 @@ counted n m k l v known =
 abbrev pub putAt : ℕ → List ℕ → List ℕ → List ℕ
 putAt p words known = take p known ++ words ++ drop (p + length words) known
 
--- The two sides with k and l labels, and the least nodes of the variables, are put into what is known.
-pub record PutSides (left right : List ℕ) (k l : ℕ) (list known known′ : List ℕ) : Type 0 where
-  pub is : known′ ≡ putAt 592 right (putAt 584 left (counted (length left) (length right) k l (length list) (putAt 512 list known)))
+-- The two sides with k and l labels, and how many variables there are, are put into what is known.
+pub record PutSides (left right : List ℕ) (k l v : ℕ) (known known′ : List ℕ) : Type 0 where
+  pub is : known′ ≡ putAt 592 right (putAt 584 left (counted (length left) (length right) k l v known))

@@ -65,3 +65,8 @@ pub record Joins (nodes arguments counts heads next : List ℕ) (a b : ℕ) (fin
       ClosureUpTo (nodesFrom nodes arguments) ps heads′ todo
   pub clashes : fine ≡ false → (ps todo : List (ℕ × ℕ)) → ClosureUpTo (nodesFrom nodes arguments) ps heads ((a, b) ∷ todo) →
       Clash (nodesFrom nodes arguments) ps
+
+-- What joining nodes a and b at once comes to: the pair is done, or nothing has changed.
+pub record JoinsAtOnce (nodes arguments counts heads next : List ℕ) (a b : ℕ) (r : Bool) (heads′ next′ : List ℕ) : Type 0 where
+  pub joins : r ≡ true → Joins nodes arguments counts heads next a b true heads′ next′
+  pub same : r ≡ false → (heads′ ≡ heads) × (next′ ≡ next)

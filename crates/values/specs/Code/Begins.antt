@@ -9,17 +9,16 @@ use Rattle.unification.specs.Unifier.{Unifies}
 use Rattle.unification.specs.Computed.Unifying.{wordsOf}
 use Rattle.unification.specs.Computed.Variables.{variablesOf}
 use Rattle.unification.specs.Node.{nodesFrom}
-use Rattle.values.specs.declared.Variables.{Variables}
 use Rattle.nodes.specs.Code.Open.{Counts}
 use Rattle.nodes.specs.Code.Circle.{HeadsFirst}
 use Rattle.values.specs.Code.Present.{variableNames, leastNodes}
 use Rattle.nodes.specs.Code.Formed.{Formed, Stands}
 
--- The variables present, by their least nodes.
-pub record Lists (nodes arguments : List ℕ) (v : Variables) : Type 0 where
-  pub within : v .count ≤ variableNames
-  pub counted : v .count ≡ length (variablesOf (nodesFrom nodes arguments))
-  pub least : take (v .count) (v .nodes) ≡ leastNodes (nodesFrom nodes arguments)
+-- The variables present, by their least nodes, which are the first of a list.
+pub record Lists (nodes arguments : List ℕ) (count : ℕ) (list : List ℕ) : Type 0 where
+  pub within : count ≤ variableNames
+  pub counted : count ≡ length (variablesOf (nodesFrom nodes arguments))
+  pub least : take count list ≡ leastNodes (nodesFrom nodes arguments)
 
 -- The binding words stand in the lent words, before those past them, for whatever pairs the classes stand for.
 abbrev pub Leaves : List ℕ → List ℕ → List ℕ → List ℕ → List ℕ → Type 0
@@ -29,8 +28,8 @@ Leaves nodes arguments heads out out′ =
 
 -- What unifying begins with: the variables present, and classes in which nodes of one term are together. They stand for
 -- pairs of nodes of one term, which every substitution unifies.
-pub record BeginsShared (nodes arguments : List ℕ) (v : Variables) (heads : List ℕ) : Type 0 where
-  pub lists : Lists nodes arguments v
+pub record BeginsShared (nodes arguments : List ℕ) (count : ℕ) (list heads : List ℕ) : Type 0 where
+  pub lists : Lists nodes arguments count list
   pub formed : (counts : List ℕ) → Counts nodes arguments counts (nodeCount nodes) → Formed nodes arguments counts heads
   pub pairs : List (ℕ × ℕ)
   pub stands : Stands nodes arguments heads pairs

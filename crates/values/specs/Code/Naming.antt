@@ -30,11 +30,6 @@ pub record Compounds (nodes heads order names : List ℕ) : Type 0 where
   pub itself : (i : ℕ) → i < nodeCount nodes → countOf nodes i ≡ 0 → word names i ≡ i
   pub constants : OneConstant nodes heads
 
--- Which heads stand in the order: all, or those that have arguments.
-pub data WholeOrder (nodes heads order names : List ℕ) : Type 0 where
-  all : ((i : ℕ) → i < nodeCount nodes → IsPlaced order (classOf heads i)) → WholeOrder nodes heads order names
-  compounds : Compounds nodes heads order names → WholeOrder nodes heads order names
-
 -- How many keys the table has.
 abbrev pub keys : ℕ
 keys = 256
@@ -90,7 +85,7 @@ pub record NamedBefore (nodes arguments heads order names : List ℕ) (p : ℕ) 
 pub record Naming (nodes arguments heads order names buckets earlier : List ℕ) (p : ℕ) : Type 0 where
   pub readable : Readable nodes arguments heads names
   pub ordered : Nameable nodes arguments heads order
-  pub whole : WholeOrder nodes heads order names
+  pub whole : Compounds nodes heads order names
   pub buckets-long : length buckets ≡ keys
   pub earlier-long : length earlier ≡ maxNodes
   pub named : NamedBefore nodes arguments heads order names p

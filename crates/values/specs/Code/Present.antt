@@ -2,9 +2,10 @@
 use Prim.Native.Nat.{ℕ, _+_, _≤_, _<_}
 use mathlib.Core.Bool.{cond}
 use mathlib.Core.List.{List, [], _∷_, _++_, map}
+use mathlib.Core.Logic.{_⊎_}
 use mathlib.Core.Path.{_≡_}
-use lib.Dec.{eqb, ltb}
-use lib.ListN.{length, set, take}
+use lib.Dec.{ltb}
+use lib.ListN.{length, set, take, drop}
 use Rattle.table.specs.Limits.{maxVariable}
 use Rattle.table.specs.Layout.{word, kindOf, nameOf, nodeCount}
 use Rattle.unification.specs.Node.{Node, nodesFrom}
@@ -20,15 +21,19 @@ leastNodes ns = map (nodeOf ns) (variablesOf ns)
 abbrev pub variableNames : ℕ
 variableNames = maxVariable + 1
 
--- A list by variable number, after node i was noted in it.
-unfoldable pub noted : List ℕ → List ℕ → ℕ → List ℕ
-noted nodes least i = cond (eqb (kindOf nodes i) 0) (set least (nameOf nodes i) i) least
+-- The least node of each variable among the nodes before node i, by its number; the number of nodes where it has none. No variable from
+-- number `end` on has one.
+pub record LeastBefore (nodes least : List ℕ) (i end : ℕ) : Type 0 where
+  pub long : length least ≡ variableNames
+  pub within : end ≤ variableNames
+  pub found : (x : ℕ) → x < variableNames → (word least x ≡ nodeCount nodes) ⊎ ((word least x < i) × (kindOf nodes (word least x) ≡ 0) × (nameOf nodes (word least x) ≡ x))
+  pub first : (k : ℕ) → k < i → kindOf nodes k ≡ 0 → word least (nameOf nodes k) ≤ k
+  pub names : (k : ℕ) → k < i → kindOf nodes k ≡ 0 → nameOf nodes k < end
 
--- A number r that is past the variable of node i, if it is one, and not below `end`.
-pub record Passes (nodes : List ℕ) (end i r : ℕ) : Type 0 where
-  pub more : end ≤ r
-  pub within : r ≤ variableNames
-  pub past : kindOf nodes i ≡ 0 → nameOf nodes i < r
+-- What noting node i for variable x comes to: what stands there is the variable's least node, or node i is put there.
+pub data LeastNoted (least : List ℕ) (x i n r : ℕ) (least′ : List ℕ) : Type 0 where
+  stood : word least x < n → r ≡ word least x → least′ ≡ least → LeastNoted least x i n r least′
+  noted-here : n ≤ word least x → r ≡ i → least′ ≡ set least x i → LeastNoted least x i n r least′
 
 -- The least node of each variable, by its number; the number of nodes where it has none.
 pub record LeastByName (nodes arguments least : List ℕ) : Type 0 where
@@ -45,14 +50,21 @@ pub record NoneFrom (least : List ℕ) (n end : ℕ) : Type 0 where
 unfoldable pub presentBelow : List ℕ → ℕ → ℕ → List ℕ
 presentBelow least n x = gather x (λ y. cond (ltb (word least y) n) (word least y ∷ []) [])
 
--- What noting variable x in the list of least nodes comes to.
-pub record KeepsVariable (least : List ℕ) (n : ℕ) (list : List ℕ) (count x r : ℕ) (list′ : List ℕ) : Type 0 where
-  pub more : r ≤ count + 1
-  pub long : length list′ ≡ length list
-  pub kept : take r list′ ≡ take count list ++ cond (ltb (word least x) n) (word least x ∷ []) []
+-- All but the 64 words from 512 on is as before.
+pub record KeepsOthers (counts counts′ : List ℕ) : Type 0 where
+  pub long : length counts′ ≡ length counts
+  pub before : (k : ℕ) → k < 512 → word counts′ k ≡ word counts k
+  pub behind : (k : ℕ) → 576 ≤ k → word counts′ k ≡ word counts k
 
--- The first r of a list are the least nodes of the variables that have one of n nodes.
-pub record ListsPresent (least : List ℕ) (n r : ℕ) (list : List ℕ) : Type 0 where
+-- What noting variable x in the list of least nodes comes to.
+pub record KeepsVariable (least : List ℕ) (n : ℕ) (counts : List ℕ) (count x r : ℕ) (counts′ : List ℕ) : Type 0 where
+  pub more : r ≤ count + 1
+  pub others : KeepsOthers counts counts′
+  pub kept : take r (drop 512 counts′) ≡ take count (drop 512 counts) ++ cond (ltb (word least x) n) (word least x ∷ []) []
+
+-- The first r of the list are the least nodes of the variables that have one of n nodes.
+pub record ListsPresent (least : List ℕ) (n : ℕ) (counts : List ℕ) (r : ℕ) (counts′ : List ℕ) : Type 0 where
   pub within : r ≤ variableNames
   pub counted : r ≡ length (presentBelow least n variableNames)
-  pub listed : take r list ≡ presentBelow least n variableNames
+  pub others : KeepsOthers counts counts′
+  pub listed : take r (drop 512 counts′) ≡ presentBelow least n variableNames

@@ -5,9 +5,6 @@ use Rattle.branches.proofs.SidesLaws.{sides-put}
 use Rattle.branches.proofs.known.put_sides.Statement.{statement}
 use Rattle.branches.proofs.known.put_sides.Tie as tie
 
-put-bytes-requires : tie.Need-put-bytes-requires
-put-bytes-requires c κs = search needs
-
 put-counts-requires : tie.Need-put-counts-requires
 put-counts-requires c κs = search needs
 
@@ -22,15 +19,13 @@ same-length c = search needs
 
 returns : tie.Need-returns
 returns c =
-    sides-put (c .before .before .before .before .before .before .before .before .before .before .before .before .before .before .put-bytes .ensures)
-    (c .before .before .before .before .before .before .before .before .before .before .put-counts .ensures)
+    sides-put (c .before .before .before .before .before .before .before .before .before .before .put-counts .ensures)
     (c .before .before .before .before .before .before .put-terms .ensures) (c .before .before .put-terms2 .ensures)
 
 pub put-sides-spec : {M : Type 1} → statement M
 put-sides-spec =
     tie.close
     (tie.spec
-    put-bytes-requires
     put-counts-requires
     put-terms-requires
     put-terms-requires-2

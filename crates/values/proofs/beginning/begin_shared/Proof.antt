@@ -1,12 +1,12 @@
--- `values::beginning::begin_shared` meets its contract: the variables present are listed, and nodes of one term are put together.
--- Assumes nothing.
-use mathlib.Core.Path.{_∙_}
-use lib.ListN.{getD-replicate}
-use Rattle.unification.proofs.ListLaws.{first-long}
-use Rattle.values.proofs.LeastLaws.{none-named}
-use Rattle.values.proofs.StartLaws.{present-lists}
-use Rattle.values.proofs.SharedLaws.{begun-shared}
+-- `values::beginning::begin_shared` meets its contract: nodes of one term are put together, and the variables present are listed behind the
+-- open applications. Assumes nothing.
+use native.Mathlib.Omega.{arith}
 use borrow.Author.Needs.{needs}
+use Rattle.values.proofs.LeastLaws.{least-all, least-end, none-named}
+use Rattle.values.proofs.PresentLaws.{present-lists}
+use Rattle.values.proofs.CirclesBeginLaws.{circles-none}
+use Rattle.values.proofs.SharedLaws.{shared-together, begun-shared}
+use Rattle.values.proofs.BeginLaws.{sharing-none, none-noted, all-trailed, all-counted}
 use Rattle.values.proofs.beginning.begin_shared.Statement.{statement}
 use Rattle.values.proofs.beginning.begin_shared.Tie as tie
 
@@ -16,67 +16,54 @@ node-count-requires c κs = search needs
 cast-least : tie.Need-cast-least
 cast-least c = search needs
 
-slice-aggregate-note-variables : tie.Need-slice-aggregate-note-variables
-slice-aggregate-note-variables c = search needs
+slice-aggregate-share-nodes : tie.Need-slice-aggregate-share-nodes
+slice-aggregate-share-nodes c = search needs
 
-note-variables-requires : tie.Need-note-variables-requires
-note-variables-requires c κs =
-    let n = c .before .node-count in
-    (c .before .before .before .before .before .pre .0, (search needs, λ x h. getD-replicate 64 x (n .result) 0 h ∙ n .ensures .0))
+slice-aggregate-share-nodes-2 : tie.Need-slice-aggregate-share-nodes-2
+slice-aggregate-share-nodes-2 c = search needs
+
+slice-aggregate-share-nodes-3 : tie.Need-slice-aggregate-share-nodes-3
+slice-aggregate-share-nodes-3 c = search needs
+
+share-nodes-requires : tie.Need-share-nodes-requires
+share-nodes-requires c κs =
+    let p = c .before .before .before .before .before .before .before .before .before .before .before .before .pre in
+    let n = c .before .before .before .before .before .before .node-count in
+    ((sharing-none _ _ _ (p .0) (p .1 .0), none-noted _ _ (n .ensures .0)), (circles-none _ _ (p .1 .1), omega (arith, p .1 .2)))
 
 slice-aggregate-list-variables : tie.Need-slice-aggregate-list-variables
 slice-aggregate-list-variables c = search needs
 
-slice-aggregate-list-variables-2 : tie.Need-slice-aggregate-list-variables-2
-slice-aggregate-list-variables-2 c = search needs
-
 list-variables-requires : tie.Need-list-variables-requires
 list-variables-requires c κs =
-    (search needs, none-named _ _ _ _ (c .before .before .before .before .before .node-count .ensures .0) (c .before .before .before .note-variables .ensures .1))
-
-slice-aggregate-share : tie.Need-slice-aggregate-share
-slice-aggregate-share c = search needs
-
-sub-share : tie.Need-sub-share
-sub-share c = search needs
-
-part-starts-start : tie.Need-part-starts-start
-part-starts-start c = search needs
-
-part-starts-end : tie.Need-part-starts-end
-part-starts-end c = search needs
-
-sub-share-2 : tie.Need-sub-share-2
-sub-share-2 c = search needs
-
-part-order-start : tie.Need-part-order-start
-part-order-start c = search needs
-
-part-order-end : tie.Need-part-order-end
-part-order-end c = search needs
-
-sub-share-3 : tie.Need-sub-share-3
-sub-share-3 c = search needs
-
-part-names-start : tie.Need-part-names-start
-part-names-start c = search needs
-
-part-names-end : tie.Need-part-names-end
-part-names-end c = search needs
-
-share-requires : tie.Need-share-requires
-share-requires c κs =
-    let s = c .before .before .before .before .before .before .before .before .before .before .before .before .before .before .before .before in
-    let n = c .before .before .before .before .before .before .before .before .before .before .before .before .node-count in
-    let l = first-long (n .result) (n .ensures .1) ∙ n .ensures .0 in
-    (s .pre .0, (c .before .before .before .before .before .before .before .before .before .before .note-variables .ensures .0, ((l, l), (l, s .pre .1))))
+    let p = c .before .before .before .before .before .before .before .before .before .before .before .before .before .before .before .before .before
+    .before .before .before .before .before .before .before .pre in
+    let n = c .before .before .before .before .before .before .before .before .before .before .before .before .before .before .before .before .before
+    .before .node-count in
+    let e = c .before .before .before .before .before .before .before .before .before .before .before .share-nodes .ensures in
+    ((e .1 .0 .0 .long, omega (arith, p .1 .2, e .1 .1 .size), n .ensures .1), none-named _ _ _ _ (n .ensures .0) (least-end _ _ _ (e .1 .0 .0)))
 
 same-length : tie.Need-same-length
 same-length c = search needs
 
+same-length-2 : tie.Need-same-length-2
+same-length-2 c = search needs
+
+same-length-3 : tie.Need-same-length-3
+same-length-3 c = search needs
+
 returns : tie.Need-returns
 returns c =
-    begun-shared (present-lists _ _ _ _ (c .before .before .before .before .before .before .before .before .before .before .before .before .before .before .before .before .before .before .before .before .before .before .pre .0) (c .before .before .before .before .before .before .before .before .before .before .before .before .before .before .before .before .note-variables .ensures .0) (c .before .before .before .before .before .before .before .before .before .before .before .before .before .before .before .before .before .before .node-count .ensures .0) (c .before .before .before .before .before .before .before .before .before .before .before .before .list-variables .ensures)) (c .before .before .before .before .before .share .ensures)
+    let p = c .before .before .before .before .before .before .before .before .before .before .before .before .before .before .before .before .before
+    .before .before .before .before .before .before .before .before .before .before .pre in
+    let n = c .before .before .before .before .before .before .before .before .before .before .before .before .before .before .before .before .before
+    .before .before .before .before .node-count in
+    let e = c .before .before .before .before .before .before .before .before .before .before .before .before .before .before .share-nodes .ensures in
+    let v = c .before .before .list-variables .ensures in
+    let l = present-lists _ _ _ _ _ _ _ (p .0) (least-all _ _ _ _ (p .0) (e .1 .0 .0)) (n .ensures .0) v in (
+      begun-shared l (shared-together _ _ _ (e .0)),
+      (all-trailed _ _ _ _ (e .0) (e .1 .0 .1), all-counted _ _ _ _ _ _ (p .0) (p .1 .2) (e .1 .1) (v .others)),
+    )
 
 pub begin-shared-spec : {M : Type 1} → statement M
 begin-shared-spec =
@@ -84,21 +71,13 @@ begin-shared-spec =
     (tie.spec
     node-count-requires
     cast-least
-    slice-aggregate-note-variables
-    note-variables-requires
+    slice-aggregate-share-nodes
+    slice-aggregate-share-nodes-2
+    slice-aggregate-share-nodes-3
+    share-nodes-requires
     slice-aggregate-list-variables
-    slice-aggregate-list-variables-2
     list-variables-requires
-    slice-aggregate-share
-    sub-share
-    part-starts-start
-    part-starts-end
-    sub-share-2
-    part-order-start
-    part-order-end
-    sub-share-3
-    part-names-start
-    part-names-end
-    share-requires
     same-length
+    same-length-2
+    same-length-3
     returns)
