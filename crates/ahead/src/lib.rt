@@ -1,4 +1,5 @@
 // What is looked at before the walk.
+#![tactic(auto)]
 
 // What can still be completed: a bit for each left term and each set of paired right terms.
 pub mod plan;

@@ -48,7 +48,7 @@ fn seen(nodes: &[u32], arguments: &[u32], known: &[u8], heads: &[u8], a: Node, b
 }
 
 // The right terms that a left term may be paired with, and how many of them are to be joined with it.
-#[derive(Drop)]
+#[derive(Clone, Copy)]
 pub struct Row {
     pub may: usize,
     pub joins: usize,

@@ -1,4 +1,5 @@
 // Branches of the walk over the choices: what is known before it, and what is read and stored on the way.
+#![tactic(auto)]
 
 // What the walk does not change, in bytes.
 pub mod known;

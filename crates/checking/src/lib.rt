@@ -1,4 +1,6 @@
 // Checking a problem table.
+#![tactic(auto)]
+
 ghost use Rattle.std.specs.Prelude.{◌≡◌};
 ghost use Rattle.table.specs.Refusal.{refusal};
 ghost use Rattle.table.specs.Answer.{told};

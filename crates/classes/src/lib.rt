@@ -1,4 +1,5 @@
 // Classes of nodes, as slices of heads and circles, extended by one pair more.
+#![tactic(auto)]
 
 // Joins that can be undone: `undo`.
 pub mod trail;
@@ -13,7 +14,7 @@ pub mod order;
 pub mod settle;
 
 // What extending classes by a pair comes to.
-#[derive(Drop)]
+#[derive(Clone, Copy)]
 pub enum Extended {
     Unified,
     Clash,

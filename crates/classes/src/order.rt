@@ -14,7 +14,7 @@ use table::Node;
 use table::limits::MAX_NODES;
 
 // Some head leads to itself, or how many heads are put into the order.
-#[derive(Drop)]
+#[derive(Clone, Copy)]
 pub enum Placed {
     Cycle,
     Count(usize),

@@ -3,6 +3,8 @@
 // A prover that holds two multisets to be equal can give up a branch where no assignment makes them equal. It needs no unifier for
 // that, so it lends no words. A listing is then finished with 0 entries where there is none. Where there is an entry it is full, as
 // the entry needs words, or finished with the entry, if that has no words: no terms, no variables.
+#![tactic(auto)]
+
 ghost use Rattle.std.specs.Prelude.{◌≡◌, true, false};
 ghost use Rattle.table.specs.Refusal.{refusal};
 ghost use Rattle.multiset_unification.specs.Problem.{problem_of};

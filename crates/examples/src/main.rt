@@ -1,5 +1,7 @@
 // Checks the tables of its input, unifies two of their nodes, or lists them. A line is a name, a colon and the table's words; the answer is printed after the name.
 // A name that begins `unify A B with L lent` asks for a unification and one that begins `list with L lent` for a listing, with L words lent; they are printed after the answer.
+#![tactic(auto)]
+
 ghost use Rattle.std.specs.Prelude.{◌≡◌, ◌+◌, ◌≤◌, ◌<◌, length};
 
 use libc::{STDIN_FILENO, STDOUT_FILENO};
@@ -17,14 +19,14 @@ const MOST_WORDS: usize = 2048;
 const MOST_LENT: usize = 2048;
 
 // A number that was read, and where the text goes on.
-#[derive(Drop)]
+#[derive(Clone, Copy)]
 struct Digits {
     value: u32,
     next: usize,
 }
 
 // A place of a text, and how many numbers stand before it.
-#[derive(Drop)]
+#[derive(Clone, Copy)]
 struct Place {
     at: usize,
     count: usize,

@@ -1,4 +1,6 @@
 // The program `list`: lists the unifiers of the two sides of the table on its standard input.
+#![tactic(auto)]
+
 use libc::{STDIN_FILENO, STDOUT_FILENO};
 use print::{MAX_PRINTED, print};
 use text::input::MAX_BYTES;

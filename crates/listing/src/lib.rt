@@ -1,4 +1,6 @@
 // Listing the unifiers of a table's two sides.
+#![tactic(auto)]
+
 ghost use Rattle.std.specs.Prelude.{◌≡◌, cond, eqb, length};
 ghost use Rattle.table.specs.Refusal.{conditions, refusal};
 ghost use Rattle.multiset_unification.specs.Problem.{problem_of};

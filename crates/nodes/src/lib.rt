@@ -1,4 +1,5 @@
 // Nodes, as the code of unification reads them.
+#![tactic(auto)]
 
 // The nodes of a checked table, their arguments and symbols.
 pub mod sections;

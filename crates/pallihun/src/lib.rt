@@ -1,4 +1,6 @@
 // The library for callers in other languages: the functions that include/pallihun.h declares.
+#![tactic(auto)]
+
 ghost use Rattle.std.specs.Prelude.{◌≡◌, cond, eqb, length};
 ghost use Rattle.table.specs.Refusal.{conditions, refusal};
 ghost use Rattle.unification.specs.Answer.{Answer, unification, lent_after};
@@ -17,7 +19,7 @@ mod numbers;
 // What listing a table answers, in numbers: 0 for finished, 10 for full, or the refusal; and the number of entries left in the
 // lent words.
 #[repr(C)]
-#[derive(Drop)]
+#[derive(Clone, Copy)]
 pub struct PallihunListing {
     pub answer: u32,
     pub entries: u64,

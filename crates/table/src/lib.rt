@@ -1,4 +1,6 @@
 // The problem table of document 01: its limits, how it is read, and why it is refused.
+#![tactic(auto)]
+
 ghost use Rattle.std.specs.Prelude.{◌≡◌};
 ghost use Rattle.table.specs.Answer.{number_of};
 
@@ -9,19 +11,19 @@ pub mod limits;
 pub mod layout;
 
 // The number of a node.
-#[derive(Drop)]
+#[derive(Clone, Copy)]
 pub struct Node(pub u32);
 
 // The number of a variable.
-#[derive(Drop)]
+#[derive(Clone, Copy)]
 pub struct Variable(pub u32);
 
 // A label: document 000's multiset variable. It and a variable of equal number are unrelated.
-#[derive(Drop)]
+#[derive(Clone, Copy)]
 pub struct Label(pub u32);
 
 // Why a call is refused, in document 01's order: the first seven by any operation that takes a table.
-#[derive(Drop)]
+#[derive(Clone, Copy)]
 pub enum Refusal {
     TooFewWords,
     BrokenPair,
@@ -35,7 +37,7 @@ pub enum Refusal {
 }
 
 // What checking a table answers.
-#[derive(Drop)]
+#[derive(Clone, Copy)]
 pub enum Checked {
     Accepted,
     Refused(Refusal),

@@ -1,4 +1,5 @@
 // Numbers and lines as bytes, and words as four bytes each: what a program reads and writes.
+#![tactic(auto)]
 
 // Bytes, and the words that they stand for: `read_words`.
 pub mod input;

@@ -1,4 +1,6 @@
 // Unifying two terms of a table.
+#![tactic(auto)]
+
 ghost use Rattle.std.specs.Prelude.{◌≡◌, length};
 ghost use Rattle.unification.specs.Answer.{told, unification, lent_after};
 ghost use Rattle.unification.specs.Decided.{Decided};

@@ -64,7 +64,7 @@ fn share_variable(
 }
 
 // The key of an application in the table, and how many of its arguments are looked at.
-#[derive(Drop)]
+#[derive(Clone, Copy)]
 pub struct Looked {
     pub key: usize,
     pub count: u8,
@@ -168,7 +168,7 @@ fn share_application(
 }
 
 // How many open applications there are, and a number past every variable.
-#[derive(Drop)]
+#[derive(Clone, Copy)]
 pub struct Counted {
     pub opens: usize,
     pub end: usize,
@@ -240,7 +240,7 @@ fn share_nodes(
 }
 
 // How many open applications and variables there are.
-#[derive(Drop)]
+#[derive(Clone, Copy)]
 pub struct Begun {
     pub opens: usize,
     pub variables: usize,

@@ -1,5 +1,7 @@
 // Names for the values of classes.
 // Bytes put into others.
+#![tactic(auto)]
+
 pub mod bytes;
 
 // The variables present.

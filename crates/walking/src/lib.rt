@@ -1,4 +1,5 @@
 // The walk over the choices.
+#![tactic(auto)]
 
 // The walk, and the entries that it writes.
 pub mod walk;

@@ -18,7 +18,7 @@ use entries::writing;
 use entries::writing::FULL;
 
 // Where a walk stands: the left term whose digit is next, the least digit to try, and the set of right terms that are paired.
-#[derive(Drop)]
+#[derive(Clone, Copy)]
 pub struct Position {
     pub term: usize,
     pub least: usize,
