@@ -70,7 +70,7 @@ fn wrong_run(nodes: &[u32], arguments: &[u32], node: Node) -> bool
     let count = index(layout::count(nodes, node));
     let mut j: usize = 0;
     while j < count {
-        let argument = layout::node_at_lem(arguments, first + j);
+        let argument = layout::node_at(arguments, first + j);
         if argument.0 >= node.0 {
             return true;
         }

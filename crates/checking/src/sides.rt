@@ -13,7 +13,7 @@ pub fn wrong_terms(terms: &[u32], n: u32) -> bool
 {
     let mut i: usize = 0;
     while i < terms.len() {
-        let term = layout::node_at_lem(terms, i);
+        let term = layout::node_at(terms, i);
         if term.0 >= n {
             return true;
         }

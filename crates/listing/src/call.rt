@@ -148,8 +148,8 @@ pub fn list_accepted(table: &[u32], out: &mut [u32]) -> Listing
         return list_single(
             nodes,
             arguments,
-            layout::node_at_lem(left, 0),
-            layout::node_at_lem(right, 0),
+            layout::node_at(left, 0),
+            layout::node_at(right, 0),
             out,
         );
     }

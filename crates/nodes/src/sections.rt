@@ -48,7 +48,7 @@ pub fn argument(nodes: &[u32], arguments: &[u32], node: Node, j: usize) -> Node
     ensures { (result.0 ≡ argument_of nodes.now arguments.now node.0 j) × (result.0 < node.0) }
 {
     let first = index(layout::first(nodes, node));
-    layout::node_at_lem(arguments, first + j)
+    layout::node_at(arguments, first + j)
 }
 
 // Whether two applications have one symbol.

@@ -52,7 +52,7 @@ fn first_may(nodes: &[u32], arguments: &[u32], a: Node, others: &[u32]) -> usize
 {
     let mut j: usize = 0;
     while j < others.len() {
-        if may(nodes, arguments, a, layout::node_at_lem(others, j)) {
+        if may(nodes, arguments, a, layout::node_at(others, j)) {
             return j;
         }
         j += 1;
@@ -72,7 +72,7 @@ fn lefts_may(nodes: &[u32], arguments: &[u32], left: &[u32], right: &[u32]) -> u
     let mut met: usize = 0;
     let mut i: usize = 0;
     while i < left.len() {
-        let j = first_may(nodes, arguments, layout::node_at_lem(left, i), right);
+        let j = first_may(nodes, arguments, layout::node_at(left, i), right);
         if j == m {
             return NONE;
         }
@@ -94,7 +94,7 @@ fn rights_may(nodes: &[u32], arguments: &[u32], left: &[u32], right: &[u32], met
     let mut j: usize = 0;
     while j < right.len() {
         if (met >> j) % 2 == 0 {
-            if first_may(nodes, arguments, layout::node_at_lem(right, j), left) == n {
+            if first_may(nodes, arguments, layout::node_at(right, j), left) == n {
                 return false;
             }
         }

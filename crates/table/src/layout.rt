@@ -96,7 +96,7 @@ pub fn count(nodes: &[u32], node: Node) -> u32
 }
 
 // The node at a place of the arguments section, or of a section of terms.
-pub fn node_at_lem(words: &[u32], i: usize) -> Node
+pub fn node_at(words: &[u32], i: usize) -> Node
     requires { i < length words.now }
     ensures { result.0 ≡ word words.now i }
 {
