@@ -97,6 +97,7 @@ reordered_same empty t = refl
 reordered_same (placed {t} {us} vs ws r) u = same_placed t us vs ws (λ v. reordered_same r v) u
 
 split : (t : Term) (us : List Term) → Memᴰ t us → (vs : List Term) × (ws : List Term) × (us ≡ vs ++ t ∷ ws)
+split t [] x = elim x [ ]
 split t (u ∷ us) (Memᴰ.head e) = ([], us, ap (λ (x : Term). x ∷ us) (sym e))
 split t (u ∷ us) (Memᴰ.tail m) = let r = split t us m in (u ∷ r.0, r.1, ap (u ∷◌) r.2)
 

@@ -25,6 +25,7 @@ matched_by f (x ∷ xs) h = next (h x (Memᴰ.head refl)) (matched_by f xs (λ y
 
 -- two relations at the place of one number
 pub matched_both : {R S : ℕ → ℕ → Type 0} {xs ws : List ℕ} → Matched R xs ws → Matched S xs ws → (x : ℕ) → Memᴰ x xs → (w : ℕ) × R x w × S x w
+matched_both {R = R} {S = S} none _ x x12 = elim x12 [ ]
 matched_both {R} {S} (next {x = y} {w = w} r m) (next s n) x (Memᴰ.head e) =
     (w, rw (← e) at r, rw (← e) at s)
 matched_both (next r m) (next s n) x (Memᴰ.tail k) = matched_both m n x k

@@ -58,6 +58,7 @@ each_equal u v (a ∷ us) (b ∷ vs) l h =
 -- a member is no larger than the whole
 pub each_size : (v : ℕ → Term) (us : List ℕ) (a : ℕ) → Memᴰ a us → size (v a) ≤ sizes (each v us)
 unfolding each sizes
+each_size v [] a x = elim x [ ]
 each_size v (b ∷ us) a (Memᴰ.head e) = let q : size (v a) ≡ size (v b) = ap (λ (c : ℕ). size (v c)) e in omega arith
 each_size v (b ∷ us) a (Memᴰ.tail m) = let r : size (v a) ≤ sizes (each v us) = each_size v us a m in omega arith
 

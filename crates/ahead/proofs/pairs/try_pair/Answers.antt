@@ -1,0 +1,69 @@
+-- A pair that clashes or makes a cycle never joins; otherwise the joins are undone.
+use mathlib.Core.Bool.{false≢true}
+use mathlib.Core.Path.{refl, sym, ◌∙◌}
+use native.Mathlib.Omega.{arith}
+use Rattle.classes.proofs.TrailLaws.{merges_since, merges_back}
+use Rattle.classes.proofs.ExtensionLaws.{clash_back, occurs_back}
+use Rattle.ahead.proofs.StruckLaws.{clash_never, occurs_never}
+use Rattle.ahead.proofs.pairs.try_pair.Goals as goal
+
+pub returns-then-g-h : goal.returns-then-g-h
+returns-then-g-h c = record {
+  never_joins = (λ z. absurd (false≢true (sym z)));
+  heads_unchanged = (refl, refl);
+}
+
+pub joins-requires : goal.joins-requires
+joins-requires c =
+    let x = c.requires.formed.0.partition.below c.args.a.0 c.requires.a_bound.0 in
+    let y = c.requires.formed.0.partition.below c.args.b.0 c.requires.a_bound.1 in
+    let d = c.node_in-g.ensures.0 in
+    let e = c.node_in-h.ensures.0 in record {
+  known_of = (c.requires.known_of, c.requires.formed.0);
+  g_bound = (omega (arith, x, d), omega (arith, y, e));
+}
+
+pub returns-then-joins : goal.returns-then-joins
+returns-then-joins c = record {
+  never_joins = (λ z. absurd (false≢true (sym z)));
+  heads_unchanged = (refl, refl);
+}
+
+pub bounds-next-256 : goal.bounds-next-256
+bounds-next-256 c =
+    let l = c.requires.formed.1.size in
+    omega (arith, l)
+
+pub extend-requires : goal.extend-requires
+extend-requires c =
+    let p = c.requires in record {
+  sections = (p.known_of.sections, p.known_of.counts);
+  formed = p.formed;
+  a_bound = p.a_bound;
+}
+
+pub undo-requires : goal.undo-requires
+undo-requires c =
+    let x = c.extend in
+    merges_since c.requires.formed.1 (x.auto.1.1.1.0 ∙ c.requires.formed.0.partition.size) x.ensures.merges
+
+pub returns-in-Clash : goal.returns-in-Clash
+returns-in-Clash c =
+    let x = c.extend.ensures in record {
+  never_joins = (λ z. clash_never _ _ _ c.requires.known_of.sections _ c.requires.formed.0 c.args.a.0 c.args.b.0 c.requires.a_bound.0 c.requires.a_bound.1 _ _ _ _ c.enum_told-1.given.1 x);
+  heads_unchanged = clash_back c.enum_told-1.given.1 x;
+}
+
+pub returns-in-Occurs : goal.returns-in-Occurs
+returns-in-Occurs c =
+    let x = c.extend.ensures in record {
+  never_joins = (λ z. occurs_never _ _ _ c.requires.known_of.sections _ c.requires.formed.0 c.args.a.0 c.args.b.0 c.requires.a_bound.0 c.requires.a_bound.1 _ _ _ _ c.enum_told-in-Occurs-1.given.1 x);
+  heads_unchanged = occurs_back c.enum_told-in-Occurs-1.given.1 x;
+}
+
+pub returns-in-Unified : goal.returns-in-Unified
+returns-in-Unified c =
+    let x = c.extend in record {
+  never_joins = (λ z. absurd (false≢true (sym z)));
+  heads_unchanged = merges_back (x.auto.1.1.1.0 ∙ c.requires.formed.0.partition.size) x.ensures.merges c.undo.ensures;
+}

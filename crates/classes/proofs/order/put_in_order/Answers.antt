@@ -1,0 +1,91 @@
+-- The heads of the nodes of the list so far are done, if arguments of theirs are looked at, and no node is open. As there is an order, no class leads to itself.
+use Prim.Native.Nat.{◌-◌}
+use mathlib.Core.Logic.{⊎_elim}
+use mathlib.Core.Path.{sym, ◌∙◌}
+use native.Mathlib.Omega.{arith}
+use borrow.Author.Rules.{rules}
+use Rattle.table.specs.Layout.{word}
+use Rattle.classes.proofs.OrderLaws.{due_some, not_due, sweep_node, sweep_next, swept_none, swept, swept_over, swept_all}
+use Rattle.classes.proofs.OrderedLaws.{ordered_unlooped}
+use Rattle.classes.proofs.order.put_in_order.Goals as goal
+
+pub loop-i-init : goal.loop-i-init
+loop-i-init c = (search rules, swept_none c.requires.starting)
+
+pub node_in-h-requires : goal.node_in-h-requires
+node_in-h-requires c =
+    let s = c.requires in
+    let l = c.loop-i in
+    let n = s.open_listed.node l.i c.loop-i-test.true in
+    omega (arith, c.node_in-g.ensures.0, n, s.formed.partition.size)
+
+pub is_due-requires : goal.is_due-requires
+is_due-requires c =
+    let s = c.requires in
+    let l = c.loop-i.invariant.1 in
+    let g = c.node_in-g in
+    let h = c.node_in-h in
+    let n = sweep_node s.sections.0 s.sections.1 s.formed.partition s.open_listed l c.loop-i-test.true g.result.0
+    g.ensures.0 h.result.0 h.ensures.0 in
+    (omega (arith, n, s.sections.1.enough), omega (arith, n, l.ordering.marks_size))
+
+pub visit-requires : goal.visit-requires
+visit-requires c =
+    let c = c
+    in
+    let l = c.loop-i in
+    let g = c.node_in-g in
+    let h = c.node_in-h in
+    let a = due_some (word c.args.counts.now) l.marks h.result.0 _ c.is_due.ensures
+    c.if-is_due.true in
+    sweep_next c.requires.sections.0 c.requires.sections.1 c.requires.formed.partition c.requires.open_listed l.invariant.1
+    c.loop-i-test.true g.result.0 g.ensures.0 h.result.0
+    h.ensures.0 a
+
+pub shape_of-marks-in_default : goal.shape_of-marks-in_default
+shape_of-marks-in_default c =
+    let k = c.visit.auto.1.1.1.1.0 in
+    let o = c.loop-i.invariant.1.ordering in
+    k ∙ o.marks_size ∙ sym c.requires.starting.marks_size
+
+pub shape_of-order-in_default : goal.shape_of-order-in_default
+shape_of-order-in_default c =
+    let k = c.visit.auto.1.1.1.1.1.0 in
+    let o = c.loop-i.invariant.1.ordering in
+    k ∙ o.order_size ∙ sym c.requires.starting.order_size
+
+pub returns-in_default : goal.returns-in_default
+returns-in_default c =
+    let s = c.requires in
+    absurd (ordered_unlooped _ _ s.sections.0 _ s.sections.1 _ s.formed.partition _ s.formed.ordered
+    (c.visit.ensures.cycle c.enum_told-1.given.1))
+
+pub loop-i-preserved : goal.loop-i-preserved
+loop-i-preserved c =
+    let l = c.loop-i in
+    let b = c.loop-i-test.true in
+    let g = c.node_in-g in
+    let h = c.node_in-h in (
+      search rules,
+      ⊎_elim
+          (λ w. swept c.requires.sections.0 c.requires.sections.1 c.requires.formed.partition c.requires.open_listed l.invariant.1 b g.result.0 g.ensures.0
+          h.result.0 h.ensures.0 _ _ _ (w.3.ensures.counted _ w.9.given.1) w.11 w.12 w.13)
+          (λ w. swept_over c.requires.sections.0 c.requires.sections.1 c.requires.formed.partition c.requires.open_listed l.invariant.1 b g.result.0 g.ensures.0
+          h.result.0 h.ensures.0 (not_due (word c.args.counts.now) l.marks h.result.0 _ c.is_due.ensures w.0.left)
+          w.1 w.2 w.3)
+          c.if-is_due.branch,
+    )
+
+pub shape_of-marks : goal.shape_of-marks
+shape_of-marks c = c.loop-i.invariant.1.ordering.marks_size
+    ∙ sym c.requires.starting.marks_size
+
+pub shape_of-order : goal.shape_of-order
+shape_of-order c = c.loop-i.invariant.1.ordering.order_size
+    ∙ sym c.requires.starting.order_size
+
+pub returns : goal.returns
+returns c =
+    let s = c.requires in
+    let e = c.loop-i-test.false in
+    swept_all s.formed.partition s.open_listed c.loop-i.invariant.1 e

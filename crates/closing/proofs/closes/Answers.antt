@@ -1,0 +1,22 @@
+-- `closes` meets its contract, by what `list` ensures and nothing else of it: page 14 where the listing is finished, and the answer where it is full or the table refused.
+use mathlib.Core.Path.{refl, sym, ap, ◌∙◌}
+use Rattle.multiset_unification.specs.declared.Listing.{Listing}
+use Rattle.multiset_unification.specs.Answer.{Told, told}
+use Rattle.closing.proofs.ClosingLaws.{finished_promised, full_promised, refused_promised}
+use Rattle.closing.proofs.closes.Goals as goal
+
+pub returns-in-Finished : goal.returns-in-Finished
+returns-in-Finished c =
+    let page14 = c.list.ensures.page14 in
+    let answer = ap (λ (r : Listing). told r) c.entries-1.given.1 in
+    finished_promised _ _ _ (rw answer at page14 refl)
+
+pub returns-in-Full : goal.returns-in-Full
+returns-in-Full c =
+    let answer = c.list.ensures.result_value in
+    full_promised _ _ (ap (λ (w : Told). w.answer) (sym answer ∙ ap told c.enum_told-1.given.1))
+
+pub returns-in-Refused : goal.returns-in-Refused
+returns-in-Refused c =
+    let answer = c.list.ensures.result_value in
+    refused_promised _ _ c.enum_told-in-Refused-1.given.0.0 (ap (λ (w : Told). w.answer) (sym answer ∙ ap told c.enum_told-in-Refused-1.given.1))

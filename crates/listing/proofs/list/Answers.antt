@@ -1,0 +1,20 @@
+-- A refused table gets its refusal, an accepted one is listed, and page 14 follows.
+use mathlib.Core.Path.{refl, sym, ap, ◌∙◌}
+use Rattle.table.specs.Answer.{told}
+use Rattle.table.proofs.AcceptedLaws.{accepted}
+use Rattle.listing.proofs.CallingLaws.{refused_table, accepted_table}
+use Rattle.listing.proofs.list.Goals as goal
+
+pub list_accepted-requires : goal.list_accepted-requires
+list_accepted-requires c =
+    (accepted _).0 (sym c.check.ensures ∙ ap told c.enum_told-1.given.1)
+
+pub returns-in-Refused : goal.returns-in-Refused
+returns-in-Refused c =
+    let e = sym (ap told c.refusal-1.given.1) ∙ c.check.ensures in
+    refused_table _ _ _ _ c.refusal-1.given.0.0 e refl refl
+
+pub returns-in-Accepted : goal.returns-in-Accepted
+returns-in-Accepted c =
+    let g = (accepted _).0 (sym c.check.ensures ∙ ap told c.enum_told-1.given.1) in
+    accepted_table _ _ _ _ g c.list_accepted.ensures

@@ -1,0 +1,16 @@
+-- The words so far, and those of the bytes that are left, are the words of all bytes.
+use Prim.Native.Nat.{◌-◌}
+use mathlib.Core.Path.{refl}
+use borrow.Author.Rules.{rules}
+use Rattle.text.proofs.InputLaws.{reading_goes_on, reading_ends}
+use Rattle.text.proofs.input.read_words.Goals as goal
+
+pub loop-i-preserved : goal.loop-i-preserved
+loop-i-preserved c =
+    let v = c.loop-i.invariant in
+    (search rules, search rules, search rules, search rules, reading_goes_on _ _ _ _ _ (search rules) (search rules) c.word_at.ensures refl v.4)
+
+pub returns : goal.returns
+returns c =
+    let v = c.loop-i.invariant in
+    (search rules, reading_ends _ _ _ _ v.0 v.1 (search rules) v.4)

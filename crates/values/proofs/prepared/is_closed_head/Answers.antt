@@ -1,0 +1,12 @@
+-- values::prepared::is_closed_head
+use native.Mathlib.Omega.{arith}
+use Rattle.nodes.specs.Code.Open.{closed_head_test}
+use Rattle.values.proofs.prepared.is_closed_head.Goals as goal
+
+pub overflow_cast-head : goal.overflow_cast-head
+overflow_cast-head c =
+    omega (arith, c.shared_slice_known-5-1.given c.args.i)
+
+pub returns : goal.returns
+unfolding closed_head_test
+returns c = rw (c.is_closed.ensures, c.arity.ensures.0)
