@@ -28,6 +28,7 @@ found d (e ∷ es) q = pick (eqb d e) refl (found d es)
 
 find : (d : ℕ) (es : List ℕ) → Memᴰ d es → among d es ≡ true
 unfolding among
+find d [] x = elim x [ ]
 find d (e ∷ es) (mathlib.Core.List.Memᴰ.head q) = rw (eq-eqb d e q)
 find d (e ∷ es) (mathlib.Core.List.Memᴰ.tail m) = pick (eqb d e) refl (find d es m)
   where
@@ -102,7 +103,7 @@ rights_from k used j (suc r) ds m = pick (among (suc j) used) refl (λ es. right
     pick true q f n = mated ((among_member (suc j) used).0 q) f (branch_from 0 1 (λ d. rights k used (suc j) r) ds n)
     pick false q f n = alone (λ u. false≢true (sym q ∙ (among_member (suc j) used).1 u)) f (branch_from 1 k (λ d. rights k used (suc j) r) ds n)
 
-in_rights : {k j r : ℕ} {used ds : List ℕ} → IsRights k used j r ds → Memᴰ ds (rights k used j r)
+in_rights : {k : ℕ} {used : List ℕ} {j r : ℕ} {ds : List ℕ} → IsRights k used j r ds → Memᴰ ds (rights k used j r)
 unfolding rights
 in_rights none = mathlib.Core.List.Memᴰ.head refl
 in_rights {k} {used = used} (paired {j} {r} {ds} u s) =
@@ -194,6 +195,8 @@ pub record Smaller (ds es : List ℕ) : Type 0 where
   pub alike : (j : ℕ) → j < place → word ds j ≡ word es j
 
 to_smaller : (ds es : List ℕ) → Before ds es → Smaller ds es
+to_smaller [] es x = elim x [ ]
+to_smaller (d ∷ ds) [] x = elim x [ ]
 to_smaller (d ∷ ds) (e ∷ es) (here h) =
     record { place = 0; in_first = omega arith; in_second = omega arith; smaller = h; alike = λ j q. absurd (omega arith) }
 to_smaller (d ∷ ds) (e ∷ es) (later b) = go (to_smaller ds es b)
@@ -224,12 +227,21 @@ from_place (d ∷ ds) (e ∷ es) (suc i) a b h f =
 pub before_means : (ds es : List ℕ) → Before ds es ↔ Smaller ds es
 before_means ds es = (to_smaller ds es, λ s. from_place ds es s.place s.in_first s.in_second s.smaller s.alike)
 
+first_digits : (d e : ℕ) (ds es : List ℕ) → Before (d ∷ ds) (e ∷ es) → (d < e) ⊎ ((d ≡ e) × Before ds es)
+first_digits d e ds es (here h) = inl h
+first_digits d e ds es (later b) = inr (refl, b)
+
 -- of two strings of digits at most one comes before the other
 pub before_one_way : (ds es : List ℕ) → Before ds es → Before es ds → ⊥
-before_one_way (d ∷ ds) (e ∷ es) (here a) (here b) = omega arith
-before_one_way (d ∷ ds) (e ∷ es) (here a) (later b) = omega arith
-before_one_way (d ∷ ds) (e ∷ es) (later a) (here b) = omega arith
-before_one_way (d ∷ ds) (e ∷ es) (later a) (later b) = before_one_way ds es a b
+before_one_way [] es x _ = elim x [ ]
+before_one_way (d ∷ ds) [] x _ = elim x [ ]
+before_one_way (d ∷ ds) (e ∷ es) a b = go (first_digits d e ds es a) (first_digits e d es ds b) (before_one_way ds es)
+  where
+    go : (d < e) ⊎ ((d ≡ e) × Before ds es) → (e < d) ⊎ ((e ≡ d) × Before es ds) → (Before ds es → Before es ds → ⊥) → ⊥
+    go (inl p) (inl q) f = omega arith
+    go (inl p) (inr q) f = omega (arith, q.0)
+    go (inr p) (inl q) f = omega (arith, p.0)
+    go (inr p) (inr q) f = f p.1 q.1
 
 -- a rising list of exactly the choices is the list of choices
 pub choices_one : (n m k l : ℕ) (dss : List (List ℕ)) → Rising Before dss → ((ds : List ℕ) → Memᴰ ds dss ↔ IsChoice n m k l ds) → dss ≡ choices n m k l

@@ -48,7 +48,7 @@ less_rights k used j r d ds s =
       nought = λ i q b p. s.nought (suc i) q (omega arith) (omega arith);
     }
 
-to_rights : {k j r : ℕ} {used ds : List ℕ} → IsRights k used j r ds → Rights k used j r ds
+to_rights : {k : ℕ} {used : List ℕ} {j r : ℕ} {ds : List ℕ} → IsRights k used j r ds → Rights k used j r ds
 to_rights none = record { long = refl; range = λ i b. absurd (omega arith); nought = λ i q b p. absurd (omega arith) }
 to_rights {k} {used = used} (paired {j} {r} {ds} m s) = more_rights k used j r 0 ds (omega arith) ((λ e. m), (λ n. refl)) (to_rights s)
 to_rights {k} {used = used} (placed {j} {r} {d} {ds} n p b s) = more_rights k used j r d ds b ((λ e. absurd (omega arith)), (λ m. absurd (n m))) (to_rights s)

@@ -69,6 +69,7 @@ module _ {A B : Type 0} (o : A → Outcome) (f : A → B) where
   -- and each of these is kept
   pub in_kept : (xs : List A) (x : A) → Memᴰ x xs → o x ≡ unified → Memᴰ (f x) (keep xs)
   unfolding flat_map kept
+  in_kept [] x x4 e = elim x4 [ ]
   in_kept (y ∷ xs) x (Memᴰ.head q) e = rw (← q) (rw e (Memᴰ.head refl))
   in_kept (y ∷ xs) x (Memᴰ.tail m) e = Memᴰ.append_right (kept (o y) (f y)) (in_kept xs x m e)
 

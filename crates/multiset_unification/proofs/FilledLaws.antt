@@ -19,6 +19,7 @@ use Rattle.multiset_unification.proofs.BalanceLaws.{left_digit, right_digit}
 -- what is in one of several lists is in all together
 flattened : {A : Type 0} (x : A) (xs : List A) (xss : List (List A)) → Memᴰ xs xss → Memᴰ x xs → Memᴰ x (flatten xss)
 unfolding flatten
+flattened {A = A} x xs [] x3 m = elim x3 [ ]
 flattened x xs (ys ∷ xss) (Memᴰ.head e) m = Memᴰ.append_left (flatten xss) (rw e at m)
 flattened x xs (ys ∷ xss) (Memᴰ.tail n) m = Memᴰ.append_right ys (flattened x xs xss n m)
 

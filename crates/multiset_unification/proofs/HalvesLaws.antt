@@ -34,6 +34,7 @@ shares_first h hs ds es e =
 -- every half has a share of the digits
 pub share_of : (hs : List Half) (ds : List ℕ) (h : Half) → Memᴰ h hs → (es : List ℕ) × Memᴰ (h, es) (shares hs ds)
 unfolding shares
+share_of [] ds h x = elim x [ ]
 share_of (g ∷ hs) ds h (Memᴰ.head e) =
     (take (half_digits g) ds, Memᴰ.head (ap (λ (x : Half). (x, take (half_digits g) ds)) e))
 share_of (g ∷ hs) ds h (Memᴰ.tail m) = let r = share_of hs (drop (half_digits g) ds) h m in (r.0, Memᴰ.tail r.1)

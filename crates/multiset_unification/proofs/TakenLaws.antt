@@ -16,6 +16,7 @@ use Rattle.multiset_unification.proofs.PutLaws.{with_digit_lem, without_digit}
 
 -- a list without one of its terms
 without : (u : Term) (us : List Term) → Memᴰ u us → (vs : List Term) × ((t : Term) → occurrences t us ≡ occurrences t (u ∷ []) + occurrences t vs)
+without u [] x = elim x [ ]
 without u (x ∷ us) (Memᴰ.head e) = (us, λ t. ap (λ (y : Term). occurrences t (y ∷ us)) (sym e) ∙ occurrences_append t (u ∷ []) us)
 without u (x ∷ us) (Memᴰ.tail m) =
     let r = without u us m in (
