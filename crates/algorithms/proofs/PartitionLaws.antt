@@ -87,6 +87,7 @@ partitions_are (a ∷ ts) k p = ((λ m. there ((in_flat (in_each a) (ordered_par
     there (r, m, n) are = placed r n ((are r).0 m)
 
     back : (qs : List ℕ) → Placing k (a ∷ ts) qs → p ≡ parts k (a ∷ ts) qs → Are → Memᴰ p (flat_map (in_each a) (ordered_partitions ts k))
+    back [] x e are = elim x [ ]
     back (q ∷ qs) (put h l) e are =
         (in_flat (in_each a) (ordered_partitions ts k) p).1
         (parts k ts qs, (are (parts k ts qs)).1 (qs, l, refl), rw e (in_each_lem a k q (λ i. with_digit i ts qs) (λ i. with_digit i (a ∷ ts) (q ∷ qs)) h (digit_added a q ts qs)))

@@ -63,6 +63,7 @@ module _ {rs fs : List ℕ} {l : ℕ} where
 
 -- any way to pair and put left terms has its digits
 pub split_lefts : (rs : List ℕ) (l : ℕ) (fs : List ℕ) {F T R : List ℕ} → Split F T R → (S qs : List ℕ) → length T ≡ length S → ((x : ℕ) → Memᴰ x S → Memᴰ x rs) → Placing l R qs → (ds : List ℕ) × Lefts rs l fs F ds T S R qs
+split_lefts rs l fs (left {a = a} {F = F} {T = T} {R = R} c) S [] e h p = elim p [ ]
 split_lefts rs l fs none [] qs e h none = (fs, none)
 split_lefts rs l fs none (s ∷ S) qs e h p = absurd (omega (arith, e))
 split_lefts rs l fs (chosen c) [] qs e h p = absurd (omega (arith, e))
@@ -98,5 +99,7 @@ rights_put (put {b} {p = o} {G} {fs} {R = R} {ps = ps} h r) p = pick (ℕ_discre
 
 pub split_rights : (k : ℕ) {G S R : List ℕ} → Split G S R → (ps : List ℕ) → Placing k R ps → (fs : List ℕ) × Rights k G fs S R ps
 split_rights k none [] none = ([], none)
+split_rights k none (o ∷ ps) p = elim p [ ]
+split_rights k (left c) [] p = elim p [ ]
 split_rights k (chosen c) ps p = let i = split_rights k c ps p in (0 ∷ i.0, pair i.1)
 split_rights k (left c) (o ∷ ps) (put b p) = let i = split_rights k c ps p in (suc o ∷ i.0, put b i.1)

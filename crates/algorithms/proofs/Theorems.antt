@@ -128,6 +128,7 @@ soundness t z σ m = unifies t σ ((algorithm_page14 t z (assignment_of σ)).1 (
 -- what one label holds is no more than what all hold together
 in_all : (g : ℕ → List Term) (Ms : List ℕ) (M : ℕ) → Memᴰ M Ms → (u : Term) → occurrences u (g M) ≤ occurrences u (flat_map g Ms)
 unfolding flat_map
+in_all g [] M x u = elim x [ ]
 in_all g (N ∷ Ms) M (Memᴰ.head e) u =
     let a = occurrences_append u (g N) (flat_map g Ms) in
     rw e (omega (arith, a))

@@ -8,15 +8,15 @@ use Rattle.closing.proofs.closes.Goals as goal
 pub returns-in-Finished : goal.returns-in-Finished
 returns-in-Finished c =
     let page14 = c.list.ensures.page14 in
-    let answer = ap (λ (r : Listing). told r) c.entries-1.given.1 in
+    let answer = ap (λ (r : Listing). told r) c.in-Finished.is in
     finished_promised _ _ _ (rw answer at page14 refl)
 
 pub returns-in-Full : goal.returns-in-Full
 returns-in-Full c =
     let answer = c.list.ensures.result_value in
-    full_promised _ _ (ap (λ (w : Told). w.answer) (sym answer ∙ ap told c.enum_told-1.given.1))
+    full_promised _ _ (ap (λ (w : Told). w.answer) (sym answer ∙ ap told c.in-Full.is))
 
 pub returns-in-Refused : goal.returns-in-Refused
 returns-in-Refused c =
     let answer = c.list.ensures.result_value in
-    refused_promised _ _ c.enum_told-in-Refused-1.given.0.0 (ap (λ (w : Told). w.answer) (sym answer ∙ ap told c.enum_told-in-Refused-1.given.1))
+    refused_promised _ _ c.enum_told-in-Refused-1.given.0.0 (ap (λ (w : Told). w.answer) (sym answer ∙ ap told c.in-Refused.is))

@@ -7,7 +7,7 @@ use Rattle.listing.proofs.entry_words.Goals as goal
 
 pub accepted_words-requires : goal.accepted_words-requires
 accepted_words-requires c =
-    (accepted _).0 (sym c.check.ensures ∙ ap told c.enum_told-in-Accepted-1.given.1)
+    (accepted _).0 (sym c.check.ensures ∙ ap told c.in-Accepted.is)
 
 pub returns-in-Refused : goal.returns-in-Refused
 returns-in-Refused c =
@@ -16,4 +16,4 @@ returns-in-Refused c =
 
 pub returns-in-Accepted : goal.returns-in-Accepted
 returns-in-Accepted c =
-    c.accepted_words.ensures ∙ accepted_all _ _ (sym c.check.ensures ∙ ap told c.enum_told-in-Accepted-1.given.1)
+    c.accepted_words.ensures ∙ accepted_all _ _ (sym c.check.ensures ∙ ap told c.in-Accepted.is)

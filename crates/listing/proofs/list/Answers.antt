@@ -11,10 +11,10 @@ list_accepted-requires c =
 
 pub returns-in-Refused : goal.returns-in-Refused
 returns-in-Refused c =
-    let e = sym (ap told c.refusal-1.given.1) ∙ c.check.ensures in
+    let e = sym (ap told c.in-Refused.is) ∙ c.check.ensures in
     refused_table _ _ _ _ c.refusal-1.given.0.0 e refl refl
 
 pub returns-in-Accepted : goal.returns-in-Accepted
 returns-in-Accepted c =
-    let g = (accepted _).0 (sym c.check.ensures ∙ ap told c.enum_told-1.given.1) in
+    let g = (accepted _).0 (sym c.check.ensures ∙ ap told c.in-Accepted.is) in
     accepted_table _ _ _ _ g c.list_accepted.ensures

@@ -12,9 +12,9 @@ unify_accepted-requires c =
 
 pub returns-in-Refused : goal.returns-in-Refused
 returns-in-Refused c =
-    refused_promised _ _ _ _ _ c.refusal-1.given.0.0 c.check.ensures c.refusal-1.given.1
+    refused_promised _ _ _ _ _ c.refusal-1.given.0.0 c.check.ensures c.in-Refused.is
 
 pub returns-in-Accepted : goal.returns-in-Accepted
 returns-in-Accepted c =
-    let g = (accepted _).0 (sym c.check.ensures ∙ ap told c.enum_told-1.given.1) in
+    let g = (accepted _).0 (sym c.check.ensures ∙ ap told c.in-Accepted.is) in
     accepted_promised _ _ _ _ _ _ g c.unify_accepted.ensures

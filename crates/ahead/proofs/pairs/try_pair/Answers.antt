@@ -45,25 +45,25 @@ extend-requires c =
 pub undo-requires : goal.undo-requires
 undo-requires c =
     let x = c.extend in
-    merges_since c.requires.formed.1 (x.auto.1.1.1.0 ∙ c.requires.formed.0.partition.size) x.ensures.merges
+    merges_since c.requires.formed.1 (x.auto.heads ∙ c.requires.formed.0.partition.size) x.ensures.merges
 
 pub returns-in-Clash : goal.returns-in-Clash
 returns-in-Clash c =
     let x = c.extend.ensures in record {
-  never_joins = (λ z. clash_never _ _ _ c.requires.known_of.sections _ c.requires.formed.0 c.args.a.0 c.args.b.0 c.requires.a_bound.0 c.requires.a_bound.1 _ _ _ _ c.enum_told-1.given.1 x);
-  heads_unchanged = clash_back c.enum_told-1.given.1 x;
+  never_joins = (λ z. clash_never _ _ _ c.requires.known_of.sections _ c.requires.formed.0 c.args.a.0 c.args.b.0 c.requires.a_bound.0 c.requires.a_bound.1 _ _ _ _ c.in-Clash.is x);
+  heads_unchanged = clash_back c.in-Clash.is x;
 }
 
 pub returns-in-Occurs : goal.returns-in-Occurs
 returns-in-Occurs c =
     let x = c.extend.ensures in record {
-  never_joins = (λ z. occurs_never _ _ _ c.requires.known_of.sections _ c.requires.formed.0 c.args.a.0 c.args.b.0 c.requires.a_bound.0 c.requires.a_bound.1 _ _ _ _ c.enum_told-in-Occurs-1.given.1 x);
-  heads_unchanged = occurs_back c.enum_told-in-Occurs-1.given.1 x;
+  never_joins = (λ z. occurs_never _ _ _ c.requires.known_of.sections _ c.requires.formed.0 c.args.a.0 c.args.b.0 c.requires.a_bound.0 c.requires.a_bound.1 _ _ _ _ c.in-Occurs.is x);
+  heads_unchanged = occurs_back c.in-Occurs.is x;
 }
 
 pub returns-in-Unified : goal.returns-in-Unified
 returns-in-Unified c =
     let x = c.extend in record {
   never_joins = (λ z. absurd (false≢true (sym z)));
-  heads_unchanged = merges_back (x.auto.1.1.1.0 ∙ c.requires.formed.0.partition.size) x.ensures.merges c.undo.ensures;
+  heads_unchanged = merges_back (x.auto.heads ∙ c.requires.formed.0.partition.size) x.ensures.merges c.undo.ensures;
 }

@@ -9,5 +9,5 @@ returns-then-not-closed c = ends_none _ _ _ _ c.if-not-closed.true
 
 pub returns : goal.returns
 returns c =
-    ends_whole _ c.clear_row.new.0 _ _ _ _ _ _ c.if-not-closed.false
-    c.clear_row.auto.0 c.requires.1 c.requires.0 refl refl refl
+    ends_whole _ c.clear_row.new.can _ _ _ _ _ _ c.if-not-closed.false
+    c.clear_row.auto.can c.requires.1 c.requires.0 refl refl refl

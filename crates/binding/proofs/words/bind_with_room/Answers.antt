@@ -21,7 +21,7 @@ bind_named-requires c =
   sections = p.sections;
   formed = p.formed;
   list_value = p.list_value;
-  names_len = (t.auto.0 ∙ p.names_len.0, t.ensures, p.names_len.1);
+  names_len = (t.auto.names ∙ p.names_len.0, t.ensures, p.names_len.1);
 }
 
 pub find_words-requires : goal.find_words-requires
@@ -30,7 +30,7 @@ find_words-requires c =
     let t = c.name_themselves in
     let z = none_leads _ _ _ _ p.formed.1 p.formed.0.partition
     (c.some_leads.ensures c.if-some_leads.false) in
-    let m = themselves_named _ _ p.sections.0 _ _ p.sections.1 p.formed.0 t.new.0 (t.auto.0 ∙ p.names_len.0) t.ensures z in record {
+    let m = themselves_named _ _ p.sections.0 _ _ p.sections.1 p.formed.0 t.new.names (t.auto.names ∙ p.names_len.0) t.ensures z in record {
   head_names = m.0;
   are_applied = open_applied _ _ _ p.formed.1;
   are_nodes = (least_nodes_lem _ _ _ p.list_value.0, p.names_len.1, p.list_value.1);
@@ -43,6 +43,6 @@ returns c =
     let z = none_leads _ _ _ _ p.formed.1 p.formed.0.partition
     (c.some_leads.ensures
     c.if-some_leads.false) in
-    let m = themselves_named _ _ p.sections.0 _ _ p.sections.1 p.formed.0 t.new.0 (t.auto.0 ∙ p.names_len.0) t.ensures z in
+    let m = themselves_named _ _ p.sections.0 _ _ p.sections.1 p.formed.0 t.new.names (t.auto.names ∙ p.names_len.0) t.ensures z in
     found_leaves _ _ _ _ _ _ _ _ _ c.find_words.ensures m.0 m.1 p.sections.1 p.formed.1 p.formed.0
     p.list_value.0

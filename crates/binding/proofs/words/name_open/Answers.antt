@@ -16,37 +16,37 @@ pub overflow_add-end : goal.overflow_add-end
 overflow_add-end c =
     let p = c.requires in
     let d = c.list_closed-start in
-    let l = d.auto.1.1.1.1.1.0 ∙ p.order_len.0 in
+    let l = d.auto.order ∙ p.order_len.0 in
     let few = prefix_few _ _ p.sections.0 _ _ p.sections.1 p.formed _ _ d.ensures.listed p.ordered in
-    let m = first_few d.new.1.1.1.1.1.0 d.result l d.ensures.few in
+    let m = first_few d.new.order d.result l d.ensures.few in
     omega (arith, few, m)
 
 pub put_bytes-requires : goal.put_bytes-requires
 put_bytes-requires c =
     let p = c.requires in
     let d = c.list_closed-start in
-    let l = d.auto.1.1.1.1.1.0 ∙ p.order_len.0 in
+    let l = d.auto.order ∙ p.order_len.0 in
     let few = prefix_few _ _ p.sections.0 _ _ p.sections.1 p.formed _ _ d.ensures.listed p.ordered in
-    let m = first_few d.new.1.1.1.1.1.0 d.result l d.ensures.few in
+    let m = first_few d.new.order d.result l d.ensures.few in
     omega (arith, few, m, l)
 
 pub slice_bounds-name_all-end : goal.slice_bounds-name_all-end
 slice_bounds-name_all-end c =
     let p = c.requires in
     let d = c.list_closed-start in
-    let l = d.auto.1.1.1.1.1.0 ∙ p.order_len.0 in
+    let l = d.auto.order ∙ p.order_len.0 in
     let few = prefix_few _ _ p.sections.0 _ _ p.sections.1 p.formed _ _ d.ensures.listed p.ordered in
-    let m = first_few d.new.1.1.1.1.1.0 d.result l d.ensures.few in
-    let b = c.put_bytes.auto.1.0 in
+    let m = first_few d.new.order d.result l d.ensures.few in
+    let b = c.put_bytes.auto.to in
     omega (arith, few, m, l, b)
 
 pub name_all-requires : goal.name_all-requires
 name_all-requires c =
     let p = c.requires in
     let d = c.list_closed-start in
-    let l = d.auto.1.1.1.1.1.0 ∙ p.order_len.0 in
+    let l = d.auto.order ∙ p.order_len.0 in
     let b = c.put_bytes in
-    let e = order_put c.args.placed.now d.new.1.1.1.1.1.0 b.new.1.0 d.result _ l d.ensures.few refl b.ensures in
+    let e = order_put c.args.placed.now d.new.order b.new.to d.result _ l d.ensures.few refl b.ensures in
     let m = e.1 in
     let n = prefix_naming _ _ p.sections.0 _ _ p.sections.1 p.formed _ _ d.ensures.listed p.ordered _ e.0 _ p.names_len.0 p.names_len.1
     _ _ d.ensures.chained in
@@ -58,6 +58,6 @@ returns c =
     let d = c.list_closed-start in
     let l = d.kept.1.1.1.1.1.0 ∙ p.order_len.0 in
     let b = c.put_bytes in
-    let e = order_put c.args.placed.now d.last.1.1.1.1.1.0 b.new.1.0 d.result _ l d.ensures.few refl b.ensures in
+    let e = order_put c.args.placed.now d.last.1.1.1.1.1.0 b.new.to d.result _ l d.ensures.few refl b.ensures in
     let m = c.name_all.ensures in
     (m.named, prefix_least _ _ p.sections.0 _ _ p.sections.1 p.formed _ _ d.ensures.listed p.ordered _ e.0 _ m)

@@ -46,18 +46,18 @@ returns-in-Unified c =
     rw (
       sym c.node_in-a.ensures.0,
       sym c.node_in-b.ensures.0,
-    ) (joined_unified c.extend.ensures c.enum_told-1.given.1)
+    ) (joined_unified c.extend.ensures c.in-Unified.is)
 
 pub returns-in-Clash : goal.returns-in-Clash
 returns-in-Clash c =
     rw (
       sym c.node_in-a.ensures.0,
       sym c.node_in-b.ensures.0,
-    ) (joined_clash c.extend.ensures c.enum_told-in-Clash-1.given.1)
+    ) (joined_clash c.extend.ensures c.in-Clash.is)
 
 pub returns-in-Occurs : goal.returns-in-Occurs
 returns-in-Occurs c =
     rw (
       sym c.node_in-a.ensures.0,
       sym c.node_in-b.ensures.0,
-    ) (joined_occurs c.extend.ensures c.enum_told-in-Occurs-1.given.1)
+    ) (joined_occurs c.extend.ensures c.in-Occurs.is)

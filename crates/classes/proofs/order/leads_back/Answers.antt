@@ -5,7 +5,9 @@ use borrow.Author.Rules.{rules}
 use Rattle.table.specs.Layout.{word}
 use Rattle.classes.proofs.OrderLaws.{head_inside, searched_leaf}
 use Rattle.classes.proofs.FollowLaws.{nodes_few, head_own, followed_start, followed_end, followed_back, followed_next, followed_noted, searched_head}
+use mathlib.Core.Logic.{inl, inr}
 use Rattle.classes.proofs.order.leads_back.Goals as goal
+use Rattle.classes.proofs.order.leads_back.Goals.{then-steps-eq0, else-steps-eq0}
 
 pub bounds-counts-start : goal.bounds-counts-start
 bounds-counts-start c =
@@ -73,7 +75,10 @@ loop-steps-preserved c =
     let i = c.loop-steps.invariant in
     let o = c.only_open-i.ensures c.if-i-eq-SEVERAL.false in
     let d = c.if-i-eq-NONE.false in
-    (search rules, followed_next i.1 o d, followed_noted (followed_next i.2 o d) c.if-steps-eq0.branch)
+    (search rules, followed_next i.1 o d, elim c.if-steps-eq0.branch [
+      then-steps-eq0 w ↦ followed_noted {B = Unit {0}} (followed_next i.2 o d) (inl (w.if-steps-eq0.true, w.mark-is))
+    | else-steps-eq0 w ↦ followed_noted {A = Unit {0}} (followed_next i.2 o d) (inr (w.if-steps-eq0.false, w.mark-is))
+    ])
 
 pub search-requires-2 : goal.search-requires-2
 search-requires-2 c =

@@ -8,6 +8,7 @@ use Rattle.table.specs.Layout.{word}
 use Rattle.classes.proofs.OrderLaws.{due_some, not_due, sweep_node, sweep_next, swept_none, swept, swept_over, swept_all}
 use Rattle.classes.proofs.OrderedLaws.{ordered_unlooped}
 use Rattle.classes.proofs.order.put_in_order.Goals as goal
+use Rattle.classes.proofs.order.put_in_order.Goals.{then-is_due+in-Count, else-is_due}
 
 pub loop-i-init : goal.loop-i-init
 loop-i-init c = (search rules, swept_none c.requires.starting)
@@ -31,8 +32,6 @@ is_due-requires c =
 
 pub visit-requires : goal.visit-requires
 visit-requires c =
-    let c = c
-    in
     let l = c.loop-i in
     let g = c.node_in-g in
     let h = c.node_in-h in
@@ -44,13 +43,13 @@ visit-requires c =
 
 pub shape_of-marks-in_default : goal.shape_of-marks-in_default
 shape_of-marks-in_default c =
-    let k = c.visit.auto.1.1.1.1.0 in
+    let k = c.visit.auto.marks in
     let o = c.loop-i.invariant.1.ordering in
     k ∙ o.marks_size ∙ sym c.requires.starting.marks_size
 
 pub shape_of-order-in_default : goal.shape_of-order-in_default
 shape_of-order-in_default c =
-    let k = c.visit.auto.1.1.1.1.1.0 in
+    let k = c.visit.auto.order in
     let o = c.loop-i.invariant.1.ordering in
     k ∙ o.order_size ∙ sym c.requires.starting.order_size
 
@@ -58,7 +57,7 @@ pub returns-in_default : goal.returns-in_default
 returns-in_default c =
     let s = c.requires in
     absurd (ordered_unlooped _ _ s.sections.0 _ s.sections.1 _ s.formed.partition _ s.formed.ordered
-    (c.visit.ensures.cycle c.enum_told-1.given.1))
+    (c.visit.ensures.cycle c.in_default.is))
 
 pub loop-i-preserved : goal.loop-i-preserved
 loop-i-preserved c =
@@ -67,13 +66,12 @@ loop-i-preserved c =
     let g = c.node_in-g in
     let h = c.node_in-h in (
       search rules,
-      ⊎_elim
-          (λ w. swept c.requires.sections.0 c.requires.sections.1 c.requires.formed.partition c.requires.open_listed l.invariant.1 b g.result.0 g.ensures.0
-          h.result.0 h.ensures.0 _ _ _ (w.3.ensures.counted _ w.9.given.1) w.11 w.12 w.13)
-          (λ w. swept_over c.requires.sections.0 c.requires.sections.1 c.requires.formed.partition c.requires.open_listed l.invariant.1 b g.result.0 g.ensures.0
-          h.result.0 h.ensures.0 (not_due (word c.args.counts.now) l.marks h.result.0 _ c.is_due.ensures w.0.left)
-          w.1 w.2 w.3)
-          c.if-is_due.branch,
+      elim c.if-is_due.branch [
+        then-is_due+in-Count w ↦ swept c.requires.sections.0 c.requires.sections.1 c.requires.formed.partition c.requires.open_listed l.invariant.1 b g.result.0 g.ensures.0
+          h.result.0 h.ensures.0 _ _ _ (w.visit.ensures.counted _ w.in-Count.is) w.marks-is w.order-is w.count-is
+      | else-is_due w ↦ swept_over c.requires.sections.0 c.requires.sections.1 c.requires.formed.partition c.requires.open_listed l.invariant.1 b g.result.0 g.ensures.0
+          h.result.0 h.ensures.0 (not_due (word c.args.counts.now) l.marks h.result.0 _ c.is_due.ensures w.if-is_due.false) w.marks-is w.order-is w.count-is
+      ],
     )
 
 pub shape_of-marks : goal.shape_of-marks

@@ -12,9 +12,9 @@ visit-requires c =
     n.ensures.1) s.h_bound.0 s.h_bound.2
 
 pub returns-in-Cycle : goal.returns-in-Cycle
-returns-in-Cycle c = searched_cycle (c.visit.ensures.cycle c.enum_told-1.given.1)
+returns-in-Cycle c = searched_cycle (c.visit.ensures.cycle c.in-Cycle.is)
 
 pub returns-in-Count : goal.returns-in-Count
 returns-in-Count c =
     let s = c.requires in
-    searched_passed s.h_bound.1 s.h_bound.0 (c.visit.ensures.counted _ c.enum_told-in-Count-1.given.1)
+    searched_passed s.h_bound.1 s.h_bound.0 (c.visit.ensures.counted _ c.in-Count.is)

@@ -54,7 +54,7 @@ relabel-requires c =
 
 pub shape_of-next : goal.shape_of-next
 shape_of-next c =
-    c.link.auto.0
+    c.link.auto.next
     ∙ length-set (set c.args.next.now (256 + c.args.k) 0) 256 (c.args.k - 1)
     ∙ length-set c.args.next.now (256 + c.args.k) 0
 

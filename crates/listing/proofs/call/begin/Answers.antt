@@ -35,7 +35,7 @@ overflow_add-result-2 c =
 pub shape_of-known : goal.shape_of-known
 shape_of-known c =
     let b = c.begin_shared-begun.ensures in
-    (simp length-set at c.put_sides.auto.1.1.1.1.1.0) ∙ b.by_index.1
+    (simp length-set at c.put_sides.auto.known) ∙ b.by_index.1
 
 pub returns : goal.returns
 returns c =

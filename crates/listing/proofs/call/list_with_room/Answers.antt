@@ -56,14 +56,14 @@ slice_bounds-entry-end c =
     let o = at-choice c in
     let a = at_ahead o.before in
     let w = at_words a in
-    width_room (at-begin w.before).begin.ensures a.look-ahead.ensures (not-false _ o.if2.left) w.if1.left
+    width_room (at-begin w.before).begin.ensures a.look-ahead.ensures (not-false _ o.if2.false) w.if1.false
 
 pub walk-used-requires : goal.walk-used-requires
 walk-used-requires c =
     let o = at-choice (goal.at.walk-used-requires c).After-walk-arg-2-1 in
     let a = at_ahead o.before in
     let w = at_words a in
-    first_walking (at-begin w.before).begin.ensures a.look-ahead.ensures (not-false _ o.if2.left) w.if1.left _
+    first_walking (at-begin w.before).begin.ensures a.look-ahead.ensures (not-false _ o.if2.false) w.if1.false _
 
 pub returns-then-used : goal.returns-then-used
 returns-then-used c =
@@ -72,10 +72,10 @@ returns-then-used c =
     let a = at_ahead o.before in
     let w = at_words a in
     let b = at-begin w.before in
-    let t = not-false _ o.if2.left in
-    let y = first_walked b.begin.ensures a.look-ahead.ensures t w.if1.left d.walk.ensures.0 in
-    let e = entries_wide b.begin.ensures a.look-ahead.ensures t w.if1.left in
-    written_full y (out-small (at-start b)) _ (omega (arith, w.if1.left)) e c.if-used.true
+    let t = not-false _ o.if2.false in
+    let y = first_walked b.begin.ensures a.look-ahead.ensures t w.if1.false d.walk.ensures.0 in
+    let e = entries_wide b.begin.ensures a.look-ahead.ensures t w.if1.false in
+    written_full y (out-small (at-start b)) _ (omega (arith, w.if1.false)) e c.if-used.true
 
 pub returns : goal.returns
 returns c =
@@ -84,7 +84,7 @@ returns c =
     let a = at_ahead o.before in
     let w = at_words a in
     let b = at-begin w.before in
-    let t = not-false _ o.if2.left in
-    let y = first_walked b.begin.ensures a.look-ahead.ensures t w.if1.left d.walk.ensures.0 in
-    let e = entries_wide b.begin.ensures a.look-ahead.ensures t w.if1.left in
-    written_finished y (out-small (at-start b)) _ (omega (arith, w.if1.left)) e c.if-used.false
+    let t = not-false _ o.if2.false in
+    let y = first_walked b.begin.ensures a.look-ahead.ensures t w.if1.false d.walk.ensures.0 in
+    let e = entries_wide b.begin.ensures a.look-ahead.ensures t w.if1.false in
+    written_finished y (out-small (at-start b)) _ (omega (arith, w.if1.false)) e c.if-used.false

@@ -33,7 +33,7 @@ bind-requires c =
     let b = c.begin_shared-begun in
     let g = b.ensures in
     let x = c.extend.ensures in
-    let e = c.enum_told-in-Unified-1.given.1 in
+    let e = c.in-Unified.is in
     let opens = opens_given _ b.last.1.1.1.1.0 b.result.opens g.open_listed in record {
   sections = (c.requires.sections, g.counts);
   formed = (x.formed e g.begins_shared.pairs g.begins_shared.stands, opens);
@@ -45,19 +45,19 @@ returns-in-Clash c =
     let g = c.begin_shared-begun.ensures in
     let f = c.if-out-v.false in
     let x = c.extend.ensures in
-    answers_clash _ _ c.requires.sections _ _ c.requires.a_bound _ _ _ _ g.begins_shared f _ _ _ _ _ x c.enum_told-1.given.1
+    answers_clash _ _ c.requires.sections _ _ c.requires.a_bound _ _ _ _ g.begins_shared f _ _ _ _ _ x c.in-Clash.is
 
 pub returns-in-Occurs : goal.returns-in-Occurs
 returns-in-Occurs c =
     let g = c.begin_shared-begun.ensures in
     let f = c.if-out-v.false in
     let x = c.extend.ensures in
-    answers_occurs _ _ c.requires.sections _ _ c.requires.a_bound _ _ _ _ g.begins_shared f _ _ _ _ _ x c.enum_told-in-Occurs-1.given.1
+    answers_occurs _ _ c.requires.sections _ _ c.requires.a_bound _ _ _ _ g.begins_shared f _ _ _ _ _ x c.in-Occurs.is
 
 pub returns-in-Unified : goal.returns-in-Unified
 returns-in-Unified c =
     let g = c.begin_shared-begun.ensures in
     let f = c.if-out-v.false in
     let x = c.extend.ensures in
-    let e = c.enum_told-in-Unified-1.given.1 in
+    let e = c.in-Unified.is in
     answers_unified _ _ c.requires.sections _ _ c.requires.a_bound _ _ _ _ g.begins_shared f _ _ _ _ _ x e _ c.bind.ensures

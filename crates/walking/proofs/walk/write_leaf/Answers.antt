@@ -21,7 +21,7 @@ write_rights-requires c =
     let w = leaf_paired g _ _ d c.at.ensures.0
     c.if-k-paired.false in
     let p = c.put_words in
-    let q = p.auto.1.1.1.1.0 in
+    let q = p.auto.entry in
     let e = c.at-n.ensures.0 in
     let f = c.at-2.ensures.0 in record {
   k_le_max_labels = omega ( arith, g.knows.left_labels_lem, g.knows.width, g.branching.size, g.room, d, e, f, q, c.if-out-at.false, );
@@ -34,5 +34,5 @@ returns c =
     let d = c.at-k.ensures.0 in
     let w = leaf_paired g _ _ d c.at.ensures.0 c.if-k-paired.false in
     let p = c.put_words in
-    read_written g w p.ensures p.auto.1.1.1.1.0 _ _ _ d c.at-n.ensures.0
+    read_written g w p.ensures p.auto.entry _ _ _ d c.at-n.ensures.0
     c.at-2.ensures.0 c.write_rights.ensures
