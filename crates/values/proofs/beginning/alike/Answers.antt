@@ -1,8 +1,6 @@
 -- The symbols are one, and the arguments so far have the same heads, which are their own.
-use Prim.Native.Nat.{◌-◌}
 use native.Mathlib.Omega.{arith}
 use borrow.Author.Rules.{rules}
-use borrow.Author.Tests.{not-true, not-false}
 use Rattle.values.proofs.AlikeLaws.{compare_symbols, compare_start, compare_next, compare_different, compare_end}
 use Rattle.values.proofs.SharingLaws.{argument_head}
 use Rattle.values.proofs.beginning.alike.Goals as goal

@@ -11,18 +11,18 @@ pub share_nodes-counted-requires : goal.share_nodes-counted-requires
 share_nodes-counted-requires c =
     let p = c.requires in
     let n = c.node_count-n in record {
-  sharing = (sharing_none _ _ _ p.sections p.heads_len.0, none_noted _ _ n.ensures.0);
-  circles_before = (circles_none _ _ p.heads_len.1, omega (arith, p.heads_len.2));
-}
+      sharing = (sharing_none _ _ _ p.sections p.heads_len.0, none_noted _ _ n.ensures.0);
+      circles_before = (circles_none _ _ p.heads_len.1, omega (arith, p.heads_len.2));
+    }
 
 pub list_variables-variables-requires : goal.list_variables-variables-requires
 list_variables-variables-requires c =
     let p = c.requires in
     let n = c.node_count-n in
     let e = c.share_nodes-counted.ensures in record {
-  least_len = (e.least_before.0.long, omega (arith, p.heads_len.2, e.open_before.size), n.ensures.1);
-  none_from = none_named _ _ _ _ n.ensures.0 (least_end _ _ _ e.least_before.0);
-}
+      least_len = (e.least_before.0.long, omega (arith, p.heads_len.2, e.open_before.size), n.ensures.1);
+      none_from = none_named _ _ _ _ n.ensures.0 (least_end _ _ _ e.least_before.0);
+    }
 
 pub returns : goal.returns
 returns c =
@@ -30,7 +30,12 @@ returns c =
     let n = c.node_count-n in
     let e = c.share_nodes-counted.ensures in
     let v = c.list_variables-variables.ensures in
-    let l = present_lists _ _ _ _ _ _ _ p.sections (least_all _ _ _ _ p.sections e.least_before.0) n.ensures.0 v in (
-      begun_shared l (shared_together _ _ _ e.heads_before),
-      (all_trailed _ _ _ _ e.heads_before e.least_before.1, all_counted _ _ _ _ _ _ p.sections p.heads_len.2 e.open_before v.others),
-    )
+    let l = present_lists _ _ _ _ _ _ _ p.sections (least_all _ _ _ _ p.sections e.least_before.0) n.ensures.0 v in
+    let o = all_counted _ _ _ _ _ _ p.sections p.heads_len.2 e.open_before v.others in record {
+      begins_shared = begun_shared l (shared_together _ _ _ e.heads_before);
+      trailed = all_trailed _ _ _ _ e.heads_before e.least_before.1;
+      counts = o.0;
+      opens_lt_max_nodes = o.1.0;
+      open_listed = o.1.1.0;
+      by_index = o.1.1.1;
+    }

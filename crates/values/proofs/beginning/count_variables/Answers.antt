@@ -14,9 +14,9 @@ note_variables-end-requires c = record {
 pub list_variables-requires : goal.list_variables-requires
 list_variables-requires c =
     let n = c.node_count-n in record {
-  least_len = search rules;
-  none_from = none_named _ _ _ _ n.ensures.0 (least_end _ _ _ c.note_variables-end.ensures);
-}
+      least_len = search rules;
+      none_from = none_named _ _ _ _ n.ensures.0 (least_end _ _ _ c.note_variables-end.ensures);
+    }
 
 pub returns : goal.returns
 returns c =

@@ -1,5 +1,4 @@
 -- The key is that of the symbol and the heads of the arguments so far, and it is known whether these are closed applications.
-use Prim.Native.Nat.{◌-◌}
 use mathlib.Core.Path.{◌∙◌}
 use native.Mathlib.Omega.{arith}
 use borrow.Author.Rules.{rules}
@@ -33,15 +32,15 @@ returns-then-closed c =
     let l = c.loop-j in
     let m = c.loop-j-test.false in
     let k = key_end _ _ _ _ _ l.key l.j _ l.invariant.3.0 l.invariant.0 l.invariant.2 m in record {
-  key_value = (k, l.invariant.3.1);
-  counted_at = counted_none _ _ _ _ l.j _ l.closed l.invariant.0 l.invariant.2 m l.invariant.4 c.if-closed.true;
-}
+      key_value = (k, l.invariant.3.1);
+      counted_at = counted_none _ _ _ _ l.j _ l.closed l.invariant.0 l.invariant.2 m l.invariant.4 c.if-closed.true;
+    }
 
 pub returns : goal.returns
 returns c =
     let l = c.loop-j in
     let m = c.loop-j-test.false in
     let k = key_end _ _ _ _ _ l.key l.j _ l.invariant.3.0 l.invariant.0 l.invariant.2 m in record {
-  key_value = (k, l.invariant.3.1);
-  counted_at = counted_some _ _ _ _ l.j _ l.closed l.invariant.0 l.invariant.2 m l.invariant.4 c.if-closed.false;
-}
+      key_value = (k, l.invariant.3.1);
+      counted_at = counted_some _ _ _ _ l.j _ l.closed l.invariant.0 l.invariant.2 m l.invariant.4 c.if-closed.false;
+    }

@@ -29,14 +29,14 @@ returns-then-h-i c =
     let p = c.put_head.ensures in
     let q = c.requires in
     let e = c.find-h.ensures in record {
-  sharing_2 = share_own _ _ _ _ _ _ q.sharing.0 q.sharing.1 _ e _ p.headed t q.sharing.2 _ q.k_value.0 q.k_value.1 _ _ h.0 h.1;
-  circles_before = p.circles;
-}
+      sharing_2 = share_own _ _ _ _ _ _ q.sharing.0 q.sharing.1 _ e _ p.headed t q.sharing.2 _ q.k_value.0 q.k_value.1 _ _ h.0 h.1;
+      circles_before = p.circles;
+    }
 
 pub returns-else-h-i : goal.returns-else-h-i
 returns-else-h-i c =
     let p = c.put_head.ensures in
     let q = c.requires in record {
-  sharing_2 = share_other _ _ _ _ _ _ q.sharing.0 q.sharing.1 _ c.find-h.ensures _ p.headed c.if-h-i.false;
-  circles_before = p.circles;
-}
+      sharing_2 = share_other _ _ _ _ _ _ q.sharing.0 q.sharing.1 _ c.find-h.ensures _ p.headed c.if-h-i.false;
+      circles_before = p.circles;
+    }

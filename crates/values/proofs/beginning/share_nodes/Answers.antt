@@ -1,5 +1,4 @@
 -- The nodes before i have their heads, are in circles and are counted.
-use Prim.Native.Nat.{◌-◌}
 use native.Mathlib.Omega.{arith}
 use borrow.Author.Rules.{rules}
 use Rattle.values.proofs.PreparedLaws.{open_none}
@@ -10,40 +9,37 @@ pub node_count-n-requires : goal.node_count-n-requires
 node_count-n-requires c = c.requires.sharing.0.before.sections
 
 pub loop-i-init : goal.loop-i-init
-loop-i-init c =
-    (
-      c.node_count-n.ensures.0,
-      search rules,
-      c.requires.sharing.0,
-      c.requires.sharing.1,
-      c.requires.circles_before.0,
-      open_none _ _ _ c.requires.sharing.0.before.sections c.requires.circles_before.1,
-    )
+loop-i-init c = (
+  c.node_count-n.ensures.0,
+  search rules,
+  c.requires.sharing.0,
+  c.requires.sharing.1,
+  c.requires.circles_before.0,
+  open_none _ _ _ c.requires.sharing.0.before.sections c.requires.circles_before.1,
+)
 
 pub share_node-counted-requires : goal.share_node-counted-requires
 share_node-counted-requires c =
     let l = c.loop-i in record {
-  sharing = (l.invariant.2, omega (arith, l.invariant.0, c.loop-i-test.true));
-  least_before = (l.invariant.3, l.invariant.4);
-  open_before = ( open_here l.invariant.5, omega (arith, l.invariant.5.size, c.requires.circles_before.1), );
-}
+      sharing = (l.invariant.2, omega (arith, l.invariant.0, c.loop-i-test.true));
+      least_before = (l.invariant.3, l.invariant.4);
+      open_before = (open_here l.invariant.5, omega (arith, l.invariant.5.size, c.requires.circles_before.1));
+    }
 
 pub loop-i-preserved : goal.loop-i-preserved
 loop-i-preserved c =
     let l = c.loop-i in
     let e = c.share_node-counted.ensures in (
-      l.inv.0,
-      omega (
-        arith,
-        c.loop-i-test.true,
-      ),
+      l.invariant.0,
+      omega (arith, c.loop-i-test.true),
       e.sharing_2,
       e.least_before_2.0,
       e.least_before_2.1,
-      open_on l.inv.5 e.open_before_2,
+      open_on l.invariant.5 e.open_before_2,
     )
 
 pub returns : goal.returns
 returns c =
     let l = c.loop-i in
-    shared_all _ _ _ _ _ _ _ _ _ _ _ l.i _ l.invariant.0 l.invariant.1 c.loop-i-test.false l.invariant.2 l.invariant.3 l.invariant.4 l.invariant.5
+    let p = shared_all _ _ _ _ _ _ _ _ _ _ _ l.i _ l.invariant.0 l.invariant.1 c.loop-i-test.false l.invariant.2 l.invariant.3 l.invariant.4 l.invariant.5 in
+    record { heads_before = p.0; least_before = p.1.0; open_before = p.1.1 }

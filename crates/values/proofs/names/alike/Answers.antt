@@ -1,7 +1,5 @@
 -- The symbols are one, and the arguments so far have the same names.
-use Prim.Native.Nat.{◌-◌}
 use borrow.Author.Rules.{rules}
-use borrow.Author.Tests.{not-true, not-false}
 use Rattle.values.proofs.AlikeLaws.{compare_symbols, compare_start, compare_next, compare_different, compare_end}
 use Rattle.values.proofs.names.alike.Goals as goal
 

@@ -20,9 +20,9 @@ node_in-g-requires c =
 pub alike-requires : goal.alike-requires
 alike-requires c =
     let l = c.loop-cursor in record {
-  readable = c.requires.naming.readable;
-  g_bound = nodes_inside _ _ _ _ _ _ _ _ c.requires.naming _ l.cursor l.invariant.1 c.loop-cursor-test.true c.requires.p_in_bounds.0 _ _ c.node_in-g.ensures.0 l.invariant.0;
-}
+      readable = c.requires.naming.readable;
+      g_bound = nodes_inside _ _ _ _ _ _ _ _ c.requires.naming _ l.cursor l.invariant.1 c.loop-cursor-test.true c.requires.p_in_bounds.0 _ _ c.node_in-g.ensures.0 l.invariant.0;
+    }
 
 pub returns-then-alike : goal.returns-then-alike
 returns-then-alike c =

@@ -1,5 +1,4 @@
 -- The nodes before place p have their names.
-use Prim.Native.Nat.{◌-◌}
 use mathlib.Core.Path.{sym, ◌∙◌}
 use borrow.Author.Rules.{rules}
 use Rattle.values.proofs.NamingLaws.{naming_end}

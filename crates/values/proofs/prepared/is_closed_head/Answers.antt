@@ -5,7 +5,7 @@ use Rattle.values.proofs.prepared.is_closed_head.Goals as goal
 
 pub overflow_cast-head : goal.overflow_cast-head
 overflow_cast-head c =
-    omega (arith, c.shared_slice_known-5-1.given c.args.i)
+    omega (arith, c.type_inv.heads c.args.i)
 
 pub returns : goal.returns
 unfolding closed_head_test

@@ -1,6 +1,5 @@
 -- Of the nodes before i, the closed applications with arguments that are heads are listed, and stand in the table.
-use Prim.Native.Nat.{ℕ, ◌-◌}
-use mathlib.Core.Logic.{⊎_elim}
+use Prim.Native.Nat.{ℕ}
 use mathlib.Core.Path.{sym, ◌∙◌}
 use native.Mathlib.Omega.{arith}
 use borrow.Author.Rules.{rules}
@@ -8,6 +7,7 @@ use lib.ListN.{length-replicate}
 use Rattle.values.specs.Code.Naming.{keys}
 use Rattle.values.proofs.PreparedLaws.{closed_list_none, closed_list_skip, closed_list_put, closed_list_all}
 use Rattle.values.proofs.prepared.list_closed.Goals as goal
+use Rattle.values.proofs.prepared.list_closed.Goals.{then-is_closed_head, else-is_closed_head}
 
 pub loop-i-init : goal.loop-i-init
 loop-i-init c =
@@ -19,9 +19,9 @@ pub is_closed_head-requires : goal.is_closed_head-requires
 is_closed_head-requires c =
     let l = c.loop-i in
     let z = c.requires.formed.partition.size in record {
-  sections = c.requires.sections.0;
-  i_bound = (omega (arith, l.invariant.0, c.loop-i-test.true), c.requires.sections.1.enough, omega (arith, z));
-}
+      sections = c.requires.sections.0;
+      i_bound = (omega (arith, l.invariant.0, c.loop-i-test.true), c.requires.sections.1.enough, omega (arith, z));
+    }
 
 pub note_closed-requires : goal.note_closed-requires
 note_closed-requires c =
@@ -29,10 +29,10 @@ note_closed-requires c =
     let o = l.invariant.3 in
     let f = o.gathered.few in
     let t = c.loop-i-test.true in record {
-  readable = record { sections = c.requires.sections.0; partition = c.requires.formed.partition; long = c.requires.names_len.0 };
-  i_bound = (omega (arith, l.invariant.0, t), omega (arith, f, l.invariant.1, t));
-  order_len = (o.order_long, o.buckets_long, o.earlier_long);
-}
+      readable = record { sections = c.requires.sections.0; partition = c.requires.formed.partition; long = c.requires.names_len.0 };
+      i_bound = (omega (arith, l.invariant.0, t), omega (arith, f, l.invariant.1, t));
+      order_len = (o.order_long, o.buckets_long, o.earlier_long);
+    }
 
 pub overflow_add-count : goal.overflow_add-count
 overflow_add-count c =
@@ -49,12 +49,14 @@ loop-i-preserved c =
       l.invariant.0,
       l.invariant.1,
       search rules,
-      ⊎_elim
-          (λ w. closed_list_put _ _ _ _ _ _ _ _ l.i l.invariant.3 _ c.requires.formed.partition c.requires.sections.0 c.requires.names_len.0
-          c.requires.names_len.1 (omega (arith, l.invariant.0, t)) (omega (arith, f, l.invariant.1, t)) _ head w.0.taken _ _ _ w.4.ensures w.11
-          w.12 w.13 w.14)
-          (λ w. closed_list_skip _ _ _ _ _ _ _ _ l.i l.invariant.3 _ head w.0.left w.1 w.2 w.3 w.4)
-          c.if-is_closed_head.branch,
+      elim c.if-is_closed_head.branch [
+        | then-is_closed_head w ↦
+            closed_list_put _ _ _ _ _ _ _ _ l.i l.invariant.3 _ c.requires.formed.partition c.requires.sections.0 c.requires.names_len.0
+            c.requires.names_len.1 (omega (arith, l.invariant.0, t)) (omega (arith, f, l.invariant.1, t)) _ head w.if-is_closed_head.true _ _ _
+            w.note_closed.ensures w.order-is w.buckets-is w.earlier-is w.count-is
+        | else-is_closed_head w ↦
+            closed_list_skip _ _ _ _ _ _ _ _ l.i l.invariant.3 _ head w.if-is_closed_head.false w.order-is w.buckets-is w.earlier-is w.count-is
+      ],
     )
 
 pub shape_of-order : goal.shape_of-order
