@@ -50,14 +50,14 @@ name_all-requires c =
     let m = e.1 in
     let n = prefix_naming _ _ p.sections.0 _ _ p.sections.1 p.formed _ _ d.ensures.listed p.ordered _ e.0 _ p.names_len.0 p.names_len.1
     _ _ d.ensures.chained in
-    rw m at n
+    let r = rw m at n in record { naming = r.0; start_in_bounds = r.1 }
 
 pub returns : goal.returns
 returns c =
     let p = c.requires in
     let d = c.list_closed-start in
-    let l = d.kept.1.1.1.1.1.0 ∙ p.order_len.0 in
+    let l = d.auto.order ∙ p.order_len.0 in
     let b = c.put_bytes in
-    let e = order_put c.args.placed.now d.last.1.1.1.1.1.0 b.new.to d.result _ l d.ensures.few refl b.ensures in
+    let e = order_put c.args.placed.now d.new.order b.new.to d.result _ l d.ensures.few refl b.ensures in
     let m = c.name_all.ensures in
     (m.named, prefix_least _ _ p.sections.0 _ _ p.sections.1 p.formed _ _ d.ensures.listed p.ordered _ e.0 _ m)
