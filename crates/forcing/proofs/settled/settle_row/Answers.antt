@@ -54,7 +54,8 @@ pub force_left-requires : goal.force_left-requires
 force_left-requires c =
     let p = c.requires in
     let t = c.try_row-may.ensures in
-    forcing_row p.known_of p.based _ _ p.i_bound t.row_to t.heads_unchanged.0 t.heads_unchanged.1 c.if-known-ne0.false
+    let r = forcing_row p.known_of p.based _ _ p.i_bound t.row_to t.heads_unchanged.0 t.heads_unchanged.1 c.if-known-ne0.false in
+    record { known_of = r.0; based = r.1.0; known_value = r.1.1 }
 
 pub returns-then-not-force_left : goal.returns-then-not-force_left
 returns-then-not-force_left c =

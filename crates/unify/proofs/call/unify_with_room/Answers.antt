@@ -5,8 +5,6 @@ use Rattle.unify.proofs.call.unify_with_room.Goals as goal
 
 pub returns-then-out-v : goal.returns-then-out-v
 returns-then-out-v c =
-    let c = c
-    in
     let g = c.begin_shared-begun.ensures in
     answers_few _ _ c.requires.sections _ _ c.requires.a_bound _ _ _ _ g.begins_shared c.if-out-v.true
 
@@ -20,8 +18,8 @@ extend-requires c =
 
 pub slice_bounds-bind-end : goal.slice_bounds-bind-end
 slice_bounds-bind-end c =
-    let g = c.begin_shared-begun.ensures.1.1.1 in
-    omega (arith, g.0, g.1.1.1, c.requires.heads_len.2)
+    let g = c.begin_shared-begun.ensures in
+    omega (arith, g.opens_lt_max_nodes, g.by_index.1, c.requires.heads_len.2)
 
 pub slice_bounds-bind-end-in-Unified : goal.slice_bounds-bind-end-in-Unified
 slice_bounds-bind-end-in-Unified c =
@@ -34,10 +32,10 @@ bind-requires c =
     let g = b.ensures in
     let x = c.extend.ensures in
     let e = c.in-Unified.is in
-    let opens = opens_given _ b.last.1.1.1.1.0 b.result.opens g.open_listed in record {
+    let opens = opens_given _ b.new.counts b.result.opens g.open_listed in record {
   sections = (c.requires.sections, g.counts);
   formed = (x.formed e g.begins_shared.pairs g.begins_shared.stands, opens);
-  list_value = list_given _ _ b.last.1.1.1.1.0 b.result.variables _ g.begins_shared.lists c.if-out-v.false;
+  list_value = list_given _ _ b.new.counts b.result.variables _ g.begins_shared.lists c.if-out-v.false;
 }
 
 pub returns-in-Clash : goal.returns-in-Clash

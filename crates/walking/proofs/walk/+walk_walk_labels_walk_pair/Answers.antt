@@ -28,8 +28,6 @@ walk-loop-d-init t c =
 
 pub walk-walk_pair-used-requires : goal.walk-walk_pair-used-requires
 walk-walk_pair-used-requires t c =
-    let s = c
-    in
     let g = c.requires in
     let l = c.loop-d.invariant in
     let h = going_on g (λ z. c.if-i-at.false
@@ -99,8 +97,6 @@ walk-loop-d-preserved t c =
 
 pub walk-walk_labels-requires : goal.walk-walk_labels-requires
 walk-walk_labels-requires t c =
-    let s = c
-    in
     let g = c.requires in
     let l = c.loop-d.invariant in
     let h = going_on g (λ z. c.if-i-at.false
@@ -305,7 +301,8 @@ walk_pair-returns-then-not-join_pair t c =
     let g = c.requires.walking in
     let h = c.requires.term_bound.0 in
     let l = c.requires.term_bound.1 in
-    failed_stepped g h l c.join_pair.ensures c.if-not-join_pair.true
+    let r = failed_stepped g h l c.join_pair.ensures c.if-not-join_pair.true in
+    record { stepped = r.0; heads_unchanged = r.1 }
 
 pub walk_pair-put_pair-requires : goal.walk_pair-put_pair-requires
 walk_pair-put_pair-requires t c =
