@@ -4,7 +4,7 @@ use mathlib.Core.Path.{◌≡◌, refl, sym, ap, ◌∙◌}
 use mathlib.Core.Logic.{◌⊎◌, inl, inr}
 use mathlib.Core.List.{List, ◌∷◌, map, Memᴰ}
 use native.Mathlib.Omega.{arith}
-use Rattle.table.specs.Answer.{number_of as refusalNumber}
+use Rattle.table.specs.Answer.{number_of as refusal_number}
 use Rattle.table.proofs.AnswerLaws.{refusals, numbered, number_apart, number_above, number_not}
 use Rattle.unification.specs.declared.Unification.{Unification}
 use Rattle.unification.specs.declared.Unification.TheVariants.{Unified, Clash, Occurs, Refused}
@@ -55,13 +55,13 @@ decided_number u n e d (refused k) z =
 
 -- The numbers that unifying answers.
 abbrev pub Known : ℕ → Type 0
-Known n = Memᴰ n (0 ∷ 1000 ∷ 1001 ∷ map refusalNumber refusals)
+Known n = Memᴰ n (0 ∷ 1000 ∷ 1001 ∷ map refusal_number refusals)
 
 number_told : (u : Unification) → Known (number_of (told u))
 number_told Unified = Memᴰ.head refl
 number_told Clash = Memᴰ.tail (Memᴰ.head refl)
 number_told Occurs = Memᴰ.tail (Memᴰ.tail (Memᴰ.head refl))
-number_told (Refused r) = Memᴰ.tail (Memᴰ.tail (Memᴰ.tail ((numbered (refusalNumber r)).1 (r, refl))))
+number_told (Refused r) = Memᴰ.tail (Memᴰ.tail (Memᴰ.tail ((numbered (refusal_number r)).1 (r, refl))))
 
 -- no other number is answered
 pub number_known : (t : List ℕ) (a b lent : ℕ) → Known (number_of (unification t a b lent))

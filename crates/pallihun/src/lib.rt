@@ -6,7 +6,7 @@ ghost use Rattle.table.specs.Refusal.{conditions, refusal};
 ghost use Rattle.unification.specs.Answer.{Answer, unification, lent_after};
 ghost use Rattle.unification.specs.Decided.{Decided};
 ghost use Rattle.multiset_unification.specs.Problem.{problem_of};
-ghost use Rattle.multiset_unification.specs.Answer.{listed, entry_words, lent_after as listingAfter};
+ghost use Rattle.multiset_unification.specs.Answer.{listed, entry_words, lent_after as listing_after};
 ghost use Rattle.multiset_unification.specs.Page14.{Page14};
 ghost use Rattle.multiset_unification.specs.Computed.Listing.{complete_listing};
 ghost use Rattle.pallihun.specs.Numbers.{number_of, numbers_of};
@@ -48,7 +48,7 @@ pub extern "C" fn pallihun_unify(table: &[u32], a: u32, b: u32, out: &mut [u32])
 #[unsafe(no_mangle)]
 pub extern "C" fn pallihun_list(table: &[u32], out: &mut [u32]) -> PallihunListing
     ensures result_value { numbers_of result ≡ listed (conditions table.now) (complete_listing (problem_of table.now)) (length out.old) }
-    ensures out_after { out.new ≡ listingAfter (conditions table.now) (complete_listing (problem_of table.now)) out.old }
+    ensures out_after { out.new ≡ listing_after (conditions table.now) (complete_listing (problem_of table.now)) out.old }
     ensures page14 { result.answer ≡ 0 → Page14 (problem_of table.now) result.entries out.new }
 {
     numbers::of_listing(listing::list(table, out))

@@ -1,8 +1,8 @@
 // The numbers of the answers. Refusals have document 01's; so has full.
 ghost use Rattle.std.specs.Prelude.{◌≡◌};
-ghost use Rattle.table.specs.Answer.{told as checkedTold};
-ghost use Rattle.unification.specs.Answer.{told as unificationTold};
-ghost use Rattle.multiset_unification.specs.Answer.{told as listingTold};
+ghost use Rattle.table.specs.Answer.{told as checked_told};
+ghost use Rattle.unification.specs.Answer.{told as unification_told};
+ghost use Rattle.multiset_unification.specs.Answer.{told as listing_told};
 ghost use Rattle.pallihun.specs.Numbers.{number_of, numbers_of};
 
 use crate::PallihunListing;
@@ -24,7 +24,7 @@ const OCCURS: u32 = 1001;
 
 // The number of what checking a table answers.
 pub fn of_checked(answer: Checked) -> u32
-    ensures { result ≡ checkedTold answer }
+    ensures { result ≡ checked_told answer }
 {
     match answer {
         Checked::Accepted => DONE,
@@ -34,7 +34,7 @@ pub fn of_checked(answer: Checked) -> u32
 
 // The number of what unifying two nodes answers.
 pub fn of_unification(answer: Unification) -> u32
-    ensures { result ≡ number_of (unificationTold answer) }
+    ensures { result ≡ number_of (unification_told answer) }
 {
     match answer {
         Unification::Unified => DONE,
@@ -46,7 +46,7 @@ pub fn of_unification(answer: Unification) -> u32
 
 // The numbers of what listing a table answers.
 pub fn of_listing(answer: Listing) -> PallihunListing
-    ensures { numbers_of result ≡ listingTold answer }
+    ensures { numbers_of result ≡ listing_told answer }
 {
     match answer {
         Listing::Finished(k) => PallihunListing {

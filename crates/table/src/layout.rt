@@ -2,7 +2,7 @@
 // Each function asks for what checking a table has shown.
 ghost use Rattle.std.specs.Prelude.{◌≡◌, ◌++◌, ◌+◌, ◌*◌, ◌≤◌, ◌<◌, ◌^◌, length};
 ghost use Rattle.table.specs.Limits.{node_words, max_nodes};
-ghost use Rattle.table.specs.Layout.{word, offset as offset_of, size as size_of, section as sectionOf, kind_of, name_of, first_of, count_of, node_count};
+ghost use Rattle.table.specs.Layout.{word, offset as offset_of, size as size_of, section as section_of, kind_of, name_of, first_of, count_of, node_count};
 ghost use Rattle.table.specs.Code.Reading.{HasPair, HasSection};
 
 use crate::limits::NODE_WORDS;
@@ -47,7 +47,7 @@ pub fn size(table: &[u32], k: usize) -> usize
 // The words of section k.
 pub fn section(table: &[u32], k: usize) -> &[u32]
     requires { HasSection table.now k }
-    ensures { result.now ≡ sectionOf table.now k }
+    ensures { result.now ≡ section_of table.now k }
 {
     let at = offset(table, k);
     let end = at + size(table, k);

@@ -9,14 +9,17 @@ pub returns-in-Finished : goal.returns-in-Finished
 returns-in-Finished c =
     let page14 = c.list.ensures.page14 in
     let answer = ap (λ (r : Listing). told r) c.in-Finished.is in
-    finished_promised _ _ _ (rw answer at page14 refl)
+    let r = finished_promised _ _ _ (rw answer at page14 refl) in
+    record { none_equal = r.0; some_equal = r.1 }
 
 pub returns-in-Full : goal.returns-in-Full
 returns-in-Full c =
     let answer = c.list.ensures.result_value in
-    full_promised _ _ (ap (λ (w : Told). w.answer) (sym answer ∙ ap told c.in-Full.is))
+    let r = full_promised _ _ (ap (λ (w : Told). w.answer) (sym answer ∙ ap told c.in-Full.is)) in
+    record { none_equal = r.0; some_equal = r.1 }
 
 pub returns-in-Refused : goal.returns-in-Refused
 returns-in-Refused c =
     let answer = c.list.ensures.result_value in
-    refused_promised _ _ c.enum_told-in-Refused-1.given.0.0 (ap (λ (w : Told). w.answer) (sym answer ∙ ap told c.in-Refused.is))
+    let r = refused_promised _ _ _ (ap (λ (w : Told). w.answer) (sym answer ∙ ap told c.in-Refused.is)) in
+    record { none_equal = r.0; some_equal = r.1 }

@@ -11,8 +11,7 @@ accepted_words-requires c =
 
 pub returns-in-Refused : goal.returns-in-Refused
 returns-in-Refused c =
-    let g = c.enum_told-1.given in
-    refused_none _ _ g.0.0 (sym (ap told g.1) ∙ c.check.ensures)
+    refused_none _ _ _ (sym (ap told c.in-Refused.is) ∙ c.check.ensures)
 
 pub returns-in-Accepted : goal.returns-in-Accepted
 returns-in-Accepted c =
