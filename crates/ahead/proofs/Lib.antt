@@ -2,3 +2,5 @@
 pub mod BitLaws
 pub mod PlanLaws
 pub mod StruckLaws
+pub mod FitLaws
+pub mod AheadLaws

@@ -1,7 +1,7 @@
 -- Pairs that are struck out have no common value on top of whatever pairs the classes stand for: a substitution that unified them would
 -- unify the pairs of the classes with them, which clash or lead in a circle. Assumes nothing.
 use Prim.Native.Nat.{ℕ, suc, ◌+◌, ◌*◌, ◌/◌, ◌%◌, ◌^◌, ◌≤◌, ◌<◌}
-use mathlib.Core.Bool.{Bool, true, false, ◌&&◌, false≢true}
+use mathlib.Core.Bool.{Bool, true, false, not, ◌&&◌, ◌||◌, false≢true}
 use mathlib.Core.List.Memᴰ
 use mathlib.Core.List.{List, ◌∷◌}
 use mathlib.Core.Logic.{◌⊎◌, inl, inr}
@@ -13,9 +13,10 @@ use native.Mathlib.Omega.{arith}
 use lib.Dec.{eqb}
 use lib.ListN.{length, set, length-set}
 use lib.Pow.{shr-shr, pow-lt}
-use lib.Seq.{get_or-set_same, get_or-set_other}
+use borrow.Author.Tests.{eqb-true, not-false}
+use lib.Seq.{get_or-set_same, get_or-set_other, set-get_or}
 use Rattle.table.specs.Layout.{word, node_count}
-use Rattle.table.proofs.BoolLaws.{and_true_left, and_true_right}
+use Rattle.table.proofs.BoolLaws.{and_true_left, and_true_right, or_false_left, or_false_right}
 use Rattle.terms.specs.Substitution.{Substitution}
 use Rattle.unification.specs.Node.{Node, nodes_from}
 use Rattle.unification.specs.Unifier.{value, Unifies}
@@ -278,6 +279,13 @@ rows_end r h = record { never = λ q j l. r.never q j (omega (arith, h, l)) }
 pub rows_pairs : {nodes arguments known heads : List ℕ} → RowsTo nodes arguments known heads (left_count known) → (ps : List (ℕ × ℕ)) →
     Standing nodes arguments heads ps → MayPair nodes arguments known ps
 rows_pairs r ps g = record { never = λ i j h l o. r.never i j h l o ps g }
+
+-- a row that is put where it stands changes nothing
+pub row_same : (known known₀ : List ℕ) (i may row v : ℕ) (fewer : Bool) → row ≡ word known (600 + i) → v ≡ may → (fewer ≡ false → known ≡ known₀) →
+    (fewer || not (eqb may row)) ≡ false → set known (600 + i) v ≡ known₀
+row_same known known₀ i may row v fewer e d f o =
+    let x : may ≡ row = eqb-true may row (not-false (eqb may row) (or_false_right fewer (not (eqb may row)) o)) in
+    ap (set known (600 + i)) (d ∙ x ∙ e) ∙ set-get_or known (600 + i) 0 ∙ f (or_false_left fewer (not (eqb may row)) o)
 
 -- whatever unifies pairs that the classes stand for unifies others that they stand for
 stands_same : (nodes arguments heads : List ℕ) → Sections nodes arguments → (ps qs : List (ℕ × ℕ)) → Stands nodes arguments heads ps →

@@ -1,3 +1,4 @@
 -- What contracts of inner functions and laws speak of.
 pub mod Plan
 pub mod Struck
+pub mod Whole

@@ -6,3 +6,6 @@ pub mod plan;
 
 // The pairs of terms that may be.
 pub mod pairs;
+
+// Both together: `look_ahead`.
+pub mod ahead;

@@ -235,3 +235,33 @@ pub fn try_row(
     }
     may
 }
+
+// Strikes out pairs of left terms from `first` on that cannot be joined by themselves; whether there were any.
+pub fn try_pairs(
+    nodes: &[u32],
+    arguments: &[u32],
+    heads: &mut [u8],
+    next: &mut [u8],
+    known: &mut [u8],
+    first: usize,
+) -> bool
+    requires known_of { KnownOf nodes.now arguments.now known.old }
+    requires formed { Formed nodes.now arguments.now known.old heads.old × Trailed (node_count nodes.now) heads.old next.old }
+    requires rows_to { RowsTo nodes.now arguments.now known.old heads.old (left_count known.old) }
+    ensures keeps_known { KeepsKnown known.old known.new }
+    ensures rows_to_2 { RowsTo nodes.now arguments.now known.new heads.old (left_count known.old) }
+    ensures known_unchanged { result ≡ false → known.new ≡ known.old }
+    ensures heads_unchanged { (heads.new ≡ heads.old) × (next.new ≡ next.old) }
+{
+    let n = known::at(known, LEFT_COUNT);
+    let mut fewer = false;
+    let mut i = first;
+    while i < n {
+        let row = known::at(known, ROWS + i);
+        let may = try_row(nodes, arguments, known, heads, next, i);
+        known[ROWS + i] = may as u8;
+        fewer = fewer | (may != row);
+        i += 1;
+    }
+    fewer
+}

@@ -17,7 +17,7 @@ use Rattle.nodes.specs.Code.Trail.{Trailed}
 use Rattle.nodes.specs.Code.Formed.{Formed}
 use Rattle.branches.specs.Code.Known.{left_count, right_count, right_labels, every_in, KnownOf, KeepsKnown}
 use Rattle.branches.specs.Code.Ahead.{has, completes_from, MayPair, Completable}
-use Rattle.branches.specs.Code.Walk.{all_entries, Standing, NoneOfKnown, Based, LooksAhead}
+use Rattle.branches.specs.Code.Walk.{all_entries, Standing, NoneOfKnown, Based, BasesAhead}
 use Rattle.branches.proofs.SetLaws.{has_every, paired_first}
 use Rattle.branches.proofs.KnownLaws.{known_kept, formed_kept, left_kept, right_kept, keeps_all, keeps_twice}
 use Rattle.branches.proofs.CompleteLaws.{below_cannot}
@@ -27,7 +27,7 @@ use Rattle.ahead.specs.Code.Struck.{RowTo, RowsTo}
 use Rattle.ahead.proofs.PlanLaws.{full_ready, full_completable}
 use Rattle.ahead.proofs.StruckLaws.{rows_pairs, rows_end, rows_again, keeps_row, pairs_rows}
 use Rattle.forcing.specs.Code.Forced.{Planned, no_choice, Settles, Settling}
-use Rattle.forcing.specs.Code.Whole.{WholeTo, WholeRows}
+use Rattle.ahead.specs.Code.Whole.{WholeTo, WholeRows}
 use Rattle.forcing.proofs.ForcedLaws.{based_kept, never_kept, none_left}
 
 -- at first no row is needed
@@ -91,22 +91,22 @@ module _ {nodes arguments known : List ℕ} (k : KnownOf nodes arguments known) 
 
     -- there may be a choice
     pub looks_based : {can heads next : List ℕ} → Based nodes arguments known' heads next → Completable known' can →
-        LooksAhead nodes arguments known known' can heads next true
+        BasesAhead nodes arguments known known' can heads next true
     looks_based b c =
         record { keeps = s; completable = λ z. c; based = λ z. b; none = λ z. absurd (false≢true (sym z)) }
 
     -- there is none
-    looks_none : {can heads next : List ℕ} → all_entries nodes arguments known [] ≡ [] → LooksAhead nodes arguments known known' can heads next false
+    looks_none : {can heads next : List ℕ} → all_entries nodes arguments known [] ≡ [] → BasesAhead nodes arguments known known' can heads next false
     looks_none e =
         record { keeps = s; completable = λ z. absurd (false≢true z); based = λ z. absurd (false≢true z); none = λ z. e }
 
     -- as none is admissible
-    pub looks_never : {can heads next : List ℕ} → NoneOfKnown nodes arguments known → LooksAhead nodes arguments known known' can heads next false
+    pub looks_never : {can heads next : List ℕ} → NoneOfKnown nodes arguments known → BasesAhead nodes arguments known known' can heads next false
     looks_never n = looks_none (never_entries k n)
 
     -- as none can be completed
     pub looks_cannot : {can heads next : List ℕ} → Based nodes arguments known' heads next → completes_from known' 0 0 ≡ false →
-        LooksAhead nodes arguments known known' can heads next false
+        BasesAhead nodes arguments known known' can heads next false
     looks_cannot b e =
         let x = known_kept k s in
         looks_none
@@ -115,8 +115,8 @@ module _ {nodes arguments known : List ℕ} (k : KnownOf nodes arguments known) 
         b.pairing.standing.inside b.pairing.partners e)
 
     -- what is looked at after that is looked at from the start
-    pub looks_since : {known'' can heads next : List ℕ} {r : Bool} → LooksAhead nodes arguments known' known'' can heads next r →
-        LooksAhead nodes arguments known known'' can heads next r
+    pub looks_since : {known'' can heads next : List ℕ} {r : Bool} → BasesAhead nodes arguments known' known'' can heads next r →
+        BasesAhead nodes arguments known known'' can heads next r
     looks_since l =
         record {
           keeps = keeps_twice s l.keeps;
@@ -128,7 +128,7 @@ module _ {nodes arguments known : List ℕ} (k : KnownOf nodes arguments known) 
   -- where every pair is left, every bit is 1
   pub looks_whole : {known' can heads next : List ℕ} → can ≡ replicate 32 18446744073709551615 → Formed nodes arguments known heads →
       Trailed (node_count nodes) heads next → Standing nodes arguments heads [] → WholeRows known known' →
-      LooksAhead nodes arguments known known' can heads next true
+      BasesAhead nodes arguments known known' can heads next true
   looks_whole {known'} {can} e f t g w =
       let x = known_kept k w.keeps in
       looks_based w.keeps (none_based w.keeps f t g (whole_pairs w [])) (full_completable known' can e x.left_few x.right_few)
@@ -254,7 +254,7 @@ module _ {nodes arguments known₀ known can heads next : List ℕ} (k : KnownOf
   settling_known = known_kept k s.keeps
 
   -- there is no further one
-  pub settling_end : LooksAhead nodes arguments known₀ known can heads next true
+  pub settling_end : BasesAhead nodes arguments known₀ known can heads next true
   settling_end = looks_based k s.keeps s.based s.planned.completable
 
   -- one more was made
@@ -263,11 +263,11 @@ module _ {nodes arguments known₀ known can heads next : List ℕ} (k : KnownOf
     kept_since = keeps_twice s.keeps t.keeps
 
     -- there is no choice
-    pub settling_none : {can' : List ℕ} → r ≡ no_choice → LooksAhead nodes arguments known₀ known' can' heads' next' false
+    pub settling_none : {can' : List ℕ} → r ≡ no_choice → BasesAhead nodes arguments known₀ known' can' heads' next' false
     settling_none e = looks_never k kept_since (never_kept k s.keeps (t.none e))
 
     -- nothing was struck out
-    pub settling_same : (r ≡ no_choice → ⊥) → r ≡ 0 → LooksAhead nodes arguments known₀ known' can heads' next' true
+    pub settling_same : (r ≡ no_choice → ⊥) → r ≡ 0 → BasesAhead nodes arguments known₀ known' can heads' next' true
     settling_same n e = looks_based k kept_since (t.based n) (rw (t.same e) s.planned.completable)
 
     -- the bits are filled again
@@ -276,7 +276,7 @@ module _ {nodes arguments known₀ known can heads next : List ℕ} (k : KnownOf
 
     module _ {can' : List ℕ} {q : Bool} (p : Plans known' can can' q) (n : r ≡ no_choice → ⊥) where
       -- no choice can be completed
-      pub settling_cannot : q ≡ false → LooksAhead nodes arguments known₀ known' can' heads' next' false
+      pub settling_cannot : q ≡ false → BasesAhead nodes arguments known₀ known' can' heads' next' false
       settling_cannot e = looks_cannot k kept_since (t.based n) (p.none e)
 
       -- or there may be another round

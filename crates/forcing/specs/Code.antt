@@ -1,3 +1,2 @@
 -- What contracts of inner functions and laws speak of.
 pub mod Forced
-pub mod Whole

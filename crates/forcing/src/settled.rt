@@ -5,10 +5,10 @@ ghost use Rattle.table.specs.Layout.{node_count};
 ghost use Rattle.nodes.specs.Code.Trail.{Trailed};
 ghost use Rattle.nodes.specs.Code.Formed.{Formed};
 ghost use Rattle.branches.specs.Code.Known.{left_count, KnownOf};
-ghost use Rattle.branches.specs.Code.Walk.{Standing, Based, LooksAhead};
+ghost use Rattle.branches.specs.Code.Walk.{Standing, Based, BasesAhead};
 ghost use Rattle.ahead.specs.Code.Plan.{Sized, Plans};
 ghost use Rattle.forcing.specs.Code.Forced.{Planned, no_choice, Settles};
-ghost use Rattle.forcing.specs.Code.Whole.{WholeRows};
+ghost use Rattle.ahead.specs.Code.Whole.{WholeRows};
 
 use crate::forced::{force, force_left};
 use ahead::pairs::{strike, try_row};
@@ -151,7 +151,7 @@ fn settle(
 ) -> bool
     requires known_of { KnownOf nodes.now arguments.now known.old }
     requires based { Based nodes.now arguments.now known.old heads.old next.old × Planned known.old can.old }
-    ensures { LooksAhead nodes.now arguments.now known.old known.new can.new heads.new next.new result }
+    ensures { BasesAhead nodes.now arguments.now known.old known.new can.new heads.new next.new result }
 {
     let mut rounds: usize = 0;
     while rounds < ROUNDS {
@@ -211,7 +211,7 @@ pub fn look_ahead(
     requires formed { Formed nodes.now arguments.now known.old heads.old × Trailed (node_count nodes.now) heads.old next.old }
     requires standing { Standing nodes.now arguments.now heads.old [] }
     requires can_value { can.old ≡ replicate 32 18446744073709551615 }
-    ensures { LooksAhead nodes.now arguments.now known.old known.new can.new heads.new next.new result }
+    ensures { BasesAhead nodes.now arguments.now known.old known.new can.new heads.new next.new result }
 {
     if (known[LEFT_COUNT] < 2) | (known[RIGHT_COUNT] < 2) {
         leave(nodes, arguments, known);

@@ -50,7 +50,7 @@ use Rattle.entries.proofs.WritingLaws.{writes_room}
 use Rattle.entries.proofs.BlockLaws.{fitting_wide}
 use Rattle.symbols.specs.Code.Symbols.{SideOf}
 use Rattle.branches.specs.Code.Known.{known_bytes, left_count, right_count, left_labels, right_labels, width_in, left_in, right_in, AllBytes, Listable, KnownOf, PutSides}
-use Rattle.branches.specs.Code.Walk.{below, Standing, marks_in, branch_entries, Walking, Walked, all_entries, Based, LooksAhead, Begun}
+use Rattle.branches.specs.Code.Walk.{below, Standing, marks_in, branch_entries, Walking, Walked, all_entries, Based, BasesAhead, Begun}
 use Rattle.branches.proofs.BelowLaws.{below_listing, below_long, below_never}
 use Rattle.branches.proofs.SetLaws.{paired_first}
 use Rattle.branches.proofs.KnownLaws.{right_long, left_kept, right_kept, known_kept}
@@ -226,7 +226,7 @@ module _ {nodes arguments left right : List ℕ} {k l : ℕ} {heads next known :
       rw (g.sides.left_is, g.sides.right_is, g.sides.left_labelled, g.sides.right_labelled, m) refl
 
   -- it was looked ahead
-  module _ {known' can heads' next' : List ℕ} {r : Bool} (a : LooksAhead nodes arguments known known' can heads' next' r) where
+  module _ {known' can heads' next' : List ℕ} {r : Bool} (a : BasesAhead nodes arguments known known' can heads' next' r) where
     -- there is no entry
     pub ahead_none : r ≡ false → (lent : List ℕ) → LeavesEntries (side_entries nodes arguments left right k l) lent (told (Finished 0)) lent
     ahead_none e lent = written_none (side_entries nodes arguments left right k l) lent (sym known_entries ∙ a.none e)

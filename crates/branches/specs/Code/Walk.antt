@@ -142,8 +142,15 @@ pub record Based (nodes arguments known heads next : List ℕ) : Type 0 where
   pub pairing : Pairing nodes arguments known heads pairs
   pub in_every : InEveryKnown nodes arguments known pairs
 
--- What looking ahead comes to: the sets, the bits and the classes are right, or there is no entry at all.
-pub record LooksAhead (nodes arguments known known' can' heads' next' : List ℕ) (r : Bool) : Type 0 where
+-- What looking ahead comes to: the sets and the bits are right, or there is no entry at all, whatever pairs the classes stand for.
+pub record LooksAhead (nodes arguments heads known known' can' : List ℕ) (r : Bool) : Type 0 where
+  pub completable : r ≡ true → Completable known' can'
+  pub partners : r ≡ true → (ps : List (ℕ × ℕ)) → Standing nodes arguments heads ps → MayPair nodes arguments known' ps
+  pub none : r ≡ false → (ps : List (ℕ × ℕ)) → Standing nodes arguments heads ps → all_entries nodes arguments known ps ≡ []
+
+-- What looking ahead comes to where pairs that every choice has are unified first: the sets, the bits and the classes are right, or there is
+-- no entry at all.
+pub record BasesAhead (nodes arguments known known' can' heads' next' : List ℕ) (r : Bool) : Type 0 where
   pub keeps : KeepsKnown known known'
   pub completable : r ≡ true → Completable known' can'
   pub based : r ≡ true → Based nodes arguments known' heads' next'

@@ -23,6 +23,6 @@ pub returns-then-is_variable : goal.returns-then-is_variable
 returns-then-is_variable c =
     let p = c.requires in
     let m = c.at-then-is_variable.ensures.0 in record {
-  row_to = row_whole p.known_of.0.every c.at.ensures.0;
-  joins_bound = omega (arith, m, p.known_of.0.right_few);
-}
+      row_to = row_whole p.known_of.0.every c.at.ensures.0;
+      joins_bound = omega (arith, m, p.known_of.0.right_few);
+    }

@@ -16,9 +16,9 @@ overflow_cast-n-2 c =
 pub argument-a-requires : goal.argument-a-requires
 argument-a-requires c =
     let s = c.requires in record {
-  sections = s.known_of.0.sections;
-  node_bound = (s.h_bound, looked_at s.known_of.0.counts _ _ s.h_bound c.loop-j-test.true);
-}
+      sections = s.known_of.0.sections;
+      node_bound = (s.h_bound, looked_at s.known_of.0.counts _ _ s.h_bound c.loop-j-test.true);
+    }
 
 pub node_in-x-requires : goal.node_in-x-requires
 node_in-x-requires c =

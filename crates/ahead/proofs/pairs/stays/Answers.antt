@@ -16,14 +16,14 @@ pub try_pair-requires : goal.try_pair-requires
 try_pair-requires c =
     let y = c.requires.known_of.right_nodes c.args.j c.requires.a_bound.1 in
     let e = c.node_in-b.ensures.0 in record {
-  known_of = c.requires.known_of;
-  formed = c.requires.formed;
-  a_bound = (c.requires.a_bound.0, omega (arith, y, e));
-}
+      known_of = c.requires.known_of;
+      formed = c.requires.formed;
+      a_bound = (c.requires.a_bound.0, omega (arith, y, e));
+    }
 
 pub returns : goal.returns
 returns c =
     let t = c.try_pair.ensures in record {
-  never_joins = (λ z y. never_named refl c.node_in-b.ensures.0 (t.never_joins z));
-  heads_unchanged = t.heads_unchanged;
-}
+      never_joins = (λ z y. never_named refl c.node_in-b.ensures.0 (t.never_joins z));
+      heads_unchanged = t.heads_unchanged;
+    }

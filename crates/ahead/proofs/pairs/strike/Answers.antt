@@ -14,9 +14,9 @@ first_row-row-requires c =
     let l = c.loop-i.invariant in
     let n = c.at-n.ensures.0 in
     let e = l.2.same 578 (omega arith) in record {
-  known_of = (known_kept p.0 l.2, formed_kept p.0 l.2 p.1);
-  i_bound = omega (arith, n, e);
-}
+      known_of = (known_kept p.0 l.2, formed_kept p.0 l.2 p.1);
+      i_bound = omega (arith, n, e);
+    }
 
 pub overflow_cast-known : goal.overflow_cast-known
 overflow_cast-known c =
@@ -64,6 +64,6 @@ pub returns : goal.returns
 returns c =
     let l = c.loop-i.invariant in
     let n = c.at-n.ensures.0 in record {
-  keeps_known = l.2;
-  rows_to = rows_end l.3 (omega (arith, n));
-}
+      keeps_known = l.2;
+      rows_to = rows_end l.3 (omega (arith, n));
+    }

@@ -17,9 +17,9 @@ seen-s-requires c =
     let y = k.right_nodes c.loop-j.j (omega (arith, m)) in
     let d = c.node_in-a.ensures.0 in
     let e = c.node_in-b.ensures.0 in record {
-  known_of = c.requires.known_of;
-  a_bound = (omega (arith, x, d), omega (arith, y, e));
-}
+      known_of = c.requires.known_of;
+      a_bound = (omega (arith, x, d), omega (arith, y, e));
+    }
 
 pub added-may-requires : goal.added-may-requires
 added-may-requires c =
@@ -62,6 +62,6 @@ returns c =
     let l = c.loop-j.invariant in
     let m = c.at-m.ensures.0 in
     let f = c.requires.known_of.0.right_few in record {
-  row_to = row_end l.2 (omega (arith, m, l.0)) (omega (arith, m));
-  joins_bound = omega (arith, l.3, l.0, m, f);
-}
+      row_to = row_end l.2 (omega (arith, m, l.0)) (omega (arith, m));
+      joins_bound = omega (arith, l.3, l.0, m, f);
+    }

@@ -19,9 +19,9 @@ joins-requires c =
     let y = c.requires.formed.0.partition.below c.args.b.0 c.requires.a_bound.1 in
     let d = c.node_in-g.ensures.0 in
     let e = c.node_in-h.ensures.0 in record {
-  known_of = (c.requires.known_of, c.requires.formed.0);
-  g_bound = (omega (arith, x, d), omega (arith, y, e));
-}
+      known_of = (c.requires.known_of, c.requires.formed.0);
+      g_bound = (omega (arith, x, d), omega (arith, y, e));
+    }
 
 pub returns-then-joins : goal.returns-then-joins
 returns-then-joins c = record {
@@ -37,10 +37,10 @@ bounds-next-256 c =
 pub extend-requires : goal.extend-requires
 extend-requires c =
     let p = c.requires in record {
-  sections = (p.known_of.sections, p.known_of.counts);
-  formed = p.formed;
-  a_bound = p.a_bound;
-}
+      sections = (p.known_of.sections, p.known_of.counts);
+      formed = p.formed;
+      a_bound = p.a_bound;
+    }
 
 pub undo-requires : goal.undo-requires
 undo-requires c =
@@ -50,20 +50,20 @@ undo-requires c =
 pub returns-in-Clash : goal.returns-in-Clash
 returns-in-Clash c =
     let x = c.extend.ensures in record {
-  never_joins = (λ z. clash_never _ _ _ c.requires.known_of.sections _ c.requires.formed.0 c.args.a.0 c.args.b.0 c.requires.a_bound.0 c.requires.a_bound.1 _ _ _ _ c.in-Clash.is x);
-  heads_unchanged = clash_back c.in-Clash.is x;
-}
+      never_joins = (λ z. clash_never _ _ _ c.requires.known_of.sections _ c.requires.formed.0 c.args.a.0 c.args.b.0 c.requires.a_bound.0 c.requires.a_bound.1 _ _ _ _ c.in-Clash.is x);
+      heads_unchanged = clash_back c.in-Clash.is x;
+    }
 
 pub returns-in-Occurs : goal.returns-in-Occurs
 returns-in-Occurs c =
     let x = c.extend.ensures in record {
-  never_joins = (λ z. occurs_never _ _ _ c.requires.known_of.sections _ c.requires.formed.0 c.args.a.0 c.args.b.0 c.requires.a_bound.0 c.requires.a_bound.1 _ _ _ _ c.in-Occurs.is x);
-  heads_unchanged = occurs_back c.in-Occurs.is x;
-}
+      never_joins = (λ z. occurs_never _ _ _ c.requires.known_of.sections _ c.requires.formed.0 c.args.a.0 c.args.b.0 c.requires.a_bound.0 c.requires.a_bound.1 _ _ _ _ c.in-Occurs.is x);
+      heads_unchanged = occurs_back c.in-Occurs.is x;
+    }
 
 pub returns-in-Unified : goal.returns-in-Unified
 returns-in-Unified c =
     let x = c.extend in record {
-  never_joins = (λ z. absurd (false≢true (sym z)));
-  heads_unchanged = merges_back (x.auto.heads ∙ c.requires.formed.0.partition.size) x.ensures.merges c.undo.ensures;
-}
+      never_joins = (λ z. absurd (false≢true (sym z)));
+      heads_unchanged = merges_back (x.auto.heads ∙ c.requires.formed.0.partition.size) x.ensures.merges c.undo.ensures;
+    }

@@ -17,10 +17,10 @@ stays-stay-requires c =
     let m = c.at-m.ensures.0 in
     let x = c.requires.known_of.left_nodes c.args.i c.requires.rows_to.1 in
     let d = c.node_in-a.ensures.0 in record {
-  known_of = c.requires.known_of;
-  formed = rw (l.4, l.5) c.requires.formed;
-  a_bound = (omega (arith, x, d), omega (arith, m));
-}
+      known_of = c.requires.known_of;
+      formed = rw (l.4, l.5) c.requires.formed;
+      a_bound = (omega (arith, x, d), omega (arith, m));
+    }
 
 pub added-may-requires : goal.added-may-requires
 added-may-requires c =
@@ -63,6 +63,6 @@ pub returns : goal.returns
 returns c =
     let l = c.loop-j.invariant in
     let m = c.at-m.ensures.0 in record {
-  row_to = row_end l.3 (omega (arith, m, l.0)) (omega (arith, m));
-  heads_unchanged = (l.4, l.5);
-}
+      row_to = row_end l.3 (omega (arith, m, l.0)) (omega (arith, m));
+      heads_unchanged = (l.4, l.5);
+    }

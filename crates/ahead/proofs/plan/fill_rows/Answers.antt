@@ -21,8 +21,7 @@ fill_row-requires c =
 
 pub loop-i-preserved : goal.loop-i-preserved
 loop-i-preserved c =
-    let l = c.loop-i.invariant in
-    (
+    let l = c.loop-i.invariant in (
       omega arith,
       rows_turn c.requires.sized.0 l.1 c.loop-i-test.true l.0 refl c.requires.words_value.0
           c.at.ensures.0 c.requires.words_value.1 c.fill_row.ensures,

@@ -13,9 +13,9 @@ pub fill_rows-requires : goal.fill_rows-requires
 fill_rows-requires c =
     let e = c.at-every.ensures.0 in
     let n = c.at.ensures.0 in record {
-  sized = (c.requires.0, last_completable c.requires.0 c.requires.1 (omega (arith, n)) e refl c.end_row.ensures);
-  words_value = (ap (λ (x : ℕ). x / 64 + 1) e, refl);
-}
+      sized = (c.requires.0, last_completable c.requires.0 c.requires.1 (omega (arith, n)) e refl c.end_row.ensures);
+      words_value = (ap (λ (x : ℕ). x / 64 + 1) e, refl);
+    }
 
 pub returns : goal.returns
 returns c =

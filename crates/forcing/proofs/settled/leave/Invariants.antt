@@ -1,6 +1,6 @@
 -- The rows before row i have every pair, and nothing else changes.
 use Prim.Native.Nat.{◌≤◌, ◌-◌}
-use Rattle.forcing.specs.Code.Whole.{WholeTo}
+use Rattle.ahead.specs.Code.Whole.{WholeTo}
 use Rattle.forcing.proofs.settled.leave.Given as goal
 
 abbrev pub invariant-loop-i : goal.invariant-loop-i
