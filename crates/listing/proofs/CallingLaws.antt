@@ -32,6 +32,7 @@ use Rattle.unification.proofs.AnswerLaws.{words_counted, variables_most}
 use Rattle.table.proofs.AcceptedLaws.{accepted}
 use Rattle.nodes.specs.Code.Open.{Counts, OpenListed}
 use Rattle.nodes.specs.Code.Trail.{Trailed}
+use Rattle.nodes.specs.Code.Formed.{Formed}
 use Rattle.values.specs.Code.Begins.{BeginsShared}
 use Rattle.multiset_unification.specs.declared.Listing.TheVariants.{Finished, Full, Refused}
 use Rattle.multiset_unification.specs.Problem.{half_at, problem_of}
@@ -49,11 +50,12 @@ use Rattle.entries.specs.Code.Writing.{put, full, Writes, marked}
 use Rattle.entries.proofs.WritingLaws.{writes_room}
 use Rattle.entries.proofs.BlockLaws.{fitting_wide}
 use Rattle.symbols.specs.Code.Symbols.{SideOf}
-use Rattle.branches.specs.Code.Known.{known_bytes, left_count, right_count, left_labels, right_labels, width_in, left_in, right_in, AllBytes, Listable, KnownOf, PutSides}
-use Rattle.branches.specs.Code.Walk.{below, Standing, marks_in, branch_entries, Walking, Walked, all_entries, Based, BasesAhead, Begun}
+use Rattle.branches.specs.Code.Known.{known_bytes, left_count, right_count, left_labels, right_labels, width_in, left_in, right_in, AllBytes, Listable, KnownOf, KeepsKnown, PutSides}
+use Rattle.branches.specs.Code.Ahead.{Completable}
+use Rattle.branches.specs.Code.Walk.{below, Standing, Pairing, marks_in, branch_entries, Walking, Walked, all_entries, Based, LooksAhead, BasesAhead, Begun}
 use Rattle.branches.proofs.BelowLaws.{below_listing, below_long, below_never}
 use Rattle.branches.proofs.SetLaws.{paired_first}
-use Rattle.branches.proofs.KnownLaws.{right_long, left_kept, right_kept, known_kept}
+use Rattle.branches.proofs.KnownLaws.{right_long, left_kept, right_kept, known_kept, formed_kept}
 use Rattle.branches.proofs.SidesLaws.{known_sides}
 use Rattle.branches.proofs.BasedLaws.{based_entries}
 use Rattle.walking.proofs.WalkLaws.{below_branch}
@@ -225,100 +227,148 @@ module _ {nodes arguments left right : List ℕ} {k l : ℕ} {heads next known :
       let m : right_count known ≡ length right = sym (right_long g.sides.knows) ∙ ap length g.sides.right_is in
       rw (g.sides.left_is, g.sides.right_is, g.sides.left_labelled, g.sides.right_labelled, m) refl
 
-  -- it was looked ahead
+  -- each entry has so many words
+  pub entries_wide : (x : List ℕ) → Memᴰ x (side_entries nodes arguments left right k l) → length x ≡ width
+  entries_wide x m =
+      let r = length-replicate {A = ℕ} (length right) 1 in
+      let y = below_long (nodes_from nodes arguments) right k l left [] [] (replicate (length right) 1) x m in
+      omega (arith, y, r, g.width_is, g.sides.width_is)
+
+  -- The entry that the walk begins with.
+  abbrev first_entry : List ℕ
+  first_entry = take (width - 0) (replicate 80 1)
+
+  -- what is known is the same but for the sets
+  module _ {known' : List ℕ} (keeps : KeepsKnown known known') where
+    knows : KnownOf nodes arguments known'
+    knows = known_kept g.sides.knows keeps
+
+    same_width : width_in known' ≡ width
+    same_width = keeps.same 582 (omega arith) ∙ sym g.width_is
+
+    -- there is room for an entry
+    pub width_room : width ≤ 80
+    width_room = omega (arith, same_width, knows.width, knows.left_few, knows.right_few, knows.list_few)
+
+    -- it has only ones
+    first_ones : first_entry ≡ replicate (left_count known' + (right_count known' + word known' 577)) 1
+    first_ones =
+        let z : width - 0 ≡ left_count known' + (right_count known' + word known' 577) = omega (arith, same_width, knows.width) in
+        ap (λ (j : ℕ). take j (replicate 80 1)) z ∙ take_replicate (left_count known' + (right_count known' + word known' 577)) 80 1
+        (omega (arith, z, width_room))
+
+    -- no right term is marked as paired
+    first_marks : marks_in known' first_entry ≡ replicate (right_count known') 1
+    first_marks =
+        ap (λ (q : List ℕ). take (right_count known') (drop (left_count known') q)) first_ones
+        ∙ ap (take (right_count known')) (drop_replicate (left_count known') (right_count known' + word known' 577) 1)
+        ∙ take_replicate (right_count known') (right_count known' + word known' 577) 1 (omega arith)
+
+    -- what is known has the entries of the sides
+    same_entries : all_entries nodes arguments known' [] ≡ side_entries nodes arguments left right k l
+    same_entries =
+        rw (
+          left_kept g.sides.knows keeps,
+          right_kept g.sides.knows keeps,
+          keeps.same 579 (omega arith),
+          keeps.same 580 (omega arith),
+          keeps.same 581 (omega arith),
+        ) known_entries
+
+    -- the branch without digits, on top of pairs
+    first_branch : (ps : List (ℕ × ℕ)) → branch_entries nodes arguments known' first_entry 0 1 ps ≡ all_entries nodes arguments known' ps
+    first_branch ps =
+        sym (below_branch knows first_entry 0 (omega arith) ps)
+        ∙ ap (below (nodes_from nodes arguments) (right_in known') (left_labels known') (right_labels known') (left_in known') [] ps) first_marks
+
+    -- what the walk needs to know, where the classes stand for pairs
+    pairs_walking : {can heads' next' : List ℕ} → Completable known' can → Formed nodes arguments known' heads' →
+        Trailed (node_count nodes) heads' next' → (ps : List (ℕ × ℕ)) → Pairing nodes arguments known' heads' ps → (width ≡ 0 → ⊥) →
+        (lent : List ℕ) → Walking nodes arguments known' can heads' next' first_entry lent 0 1 0 0
+    pairs_walking c f t ps p n lent =
+        record {
+          knows = knows;
+          completable = c;
+          formed = f;
+          trailed = t;
+          pairs = ps;
+          pairing = p;
+          branching = record {
+            size = part_long (replicate 80 1) width width_room ∙ sym same_width;
+            depth = omega arith;
+            small = λ j h. let q : word first_entry (left_count known' + j) ≡ 1 = ap (λ (x : List ℕ). word x (left_count known' + j)) first_ones
+                ∙ get_or-replicate {A = ℕ} (left_count known' + (right_count known' + word known' 577)) (left_count known' + j) 1 0 (omega (arith, h)) in
+                omega (arith, q);
+            set_of = rw first_marks (paired_first (right_count known'));
+          };
+          positive = omega arith;
+          wide = omega (arith, same_width, n);
+          room = omega arith;
+        }
+
+    -- it was looked ahead, and the classes are as before
+    module _ {can : List ℕ} {r : Bool} (a : LooksAhead nodes arguments heads known known' can r) where
+      -- there is no entry
+      pub ahead_none : r ≡ false → (lent : List ℕ) → LeavesEntries (side_entries nodes arguments left right k l) lent (told (Finished 0)) lent
+      ahead_none e lent = written_none (side_entries nodes arguments left right k l) lent (sym known_entries ∙ a.none e [] g.standing)
+
+      -- there may be some
+      module _ (e : r ≡ true) (n : width ≡ 0 → ⊥) where
+        first_pairing : Pairing nodes arguments known' heads []
+        first_pairing = record { standing = g.standing; partners = a.partners e [] g.standing }
+
+        -- what the walk needs to know
+        pub first_walking : (lent : List ℕ) → Walking nodes arguments known' can heads next first_entry lent 0 1 0 0
+        first_walking lent =
+            pairs_walking (a.completable e) (formed_kept g.sides.knows keeps g.formed) g.trailed [] first_pairing n lent
+
+        -- it writes the entries of the sides
+        pub first_walked : {lent entry' lent' : List ℕ} {w : ℕ} → Walked nodes arguments known' heads first_entry lent 0 1 0 entry' lent' w →
+            Writes (side_entries nodes arguments left right k l) lent 0 lent' w
+        first_walked y = rw (first_branch [] ∙ same_entries) at (y.writes [] first_pairing)
+
+  -- it was looked ahead, and pairs that every choice has are unified
   module _ {known' can heads' next' : List ℕ} {r : Bool} (a : BasesAhead nodes arguments known known' can heads' next' r) where
     -- there is no entry
-    pub ahead_none : r ≡ false → (lent : List ℕ) → LeavesEntries (side_entries nodes arguments left right k l) lent (told (Finished 0)) lent
-    ahead_none e lent = written_none (side_entries nodes arguments left right k l) lent (sym known_entries ∙ a.none e)
+    pub based_none : r ≡ false → (lent : List ℕ) → LeavesEntries (side_entries nodes arguments left right k l) lent (told (Finished 0)) lent
+    based_none e lent = written_none (side_entries nodes arguments left right k l) lent (sym known_entries ∙ a.none e)
 
     -- there may be some
     module _ (e : r ≡ true) (n : width ≡ 0 → ⊥) where
-      -- The entry that the walk begins with.
-      abbrev first_entry : List ℕ
-      first_entry = take (width - 0) (replicate 80 1)
-
-      -- what is known is the same but for the sets
-      knows : KnownOf nodes arguments known'
-      knows = known_kept g.sides.knows a.keeps
-
-      same_width : width_in known' ≡ width
-      same_width = a.keeps.same 582 (omega arith) ∙ sym g.width_is
-
-      -- there is room for an entry
-      pub width_room : width ≤ 80
-      width_room = omega (arith, same_width, knows.width, knows.left_few, knows.right_few, knows.list_few)
-
-      -- it has only ones
-      first_ones : first_entry ≡ replicate (left_count known' + (right_count known' + word known' 577)) 1
-      first_ones =
-          let z : width - 0 ≡ left_count known' + (right_count known' + word known' 577) = omega (arith, same_width, knows.width) in
-          ap (λ (j : ℕ). take j (replicate 80 1)) z ∙ take_replicate (left_count known' + (right_count known' + word known' 577)) 80 1
-          (omega (arith, z, width_room))
-
-      -- no right term is marked as paired
-      first_marks : marks_in known' first_entry ≡ replicate (right_count known') 1
-      first_marks =
-          ap (λ (q : List ℕ). take (right_count known') (drop (left_count known') q)) first_ones
-          ∙ ap (take (right_count known')) (drop_replicate (left_count known') (right_count known' + word known' 577) 1)
-          ∙ take_replicate (right_count known') (right_count known' + word known' 577) 1 (omega arith)
-
       -- the classes stand for pairs that every choice has
       base : Based nodes arguments known' heads' next'
       base = a.based e
 
       -- what the walk needs to know
-      pub first_walking : (lent : List ℕ) → Walking nodes arguments known' can heads' next' first_entry lent 0 1 0 0
-      first_walking lent =
-          record {
-            knows = knows;
-            completable = a.completable e;
-            formed = base.formed;
-            trailed = base.trailed;
-            pairs = base.pairs;
-            pairing = base.pairing;
-            branching = record {
-              size = part_long (replicate 80 1) width width_room ∙ sym same_width;
-              depth = omega arith;
-              small = λ j h. let q : word first_entry (left_count known' + j) ≡ 1 = ap (λ (x : List ℕ). word x (left_count known' + j)) first_ones
-                  ∙ get_or-replicate {A = ℕ} (left_count known' + (right_count known' + word known' 577)) (left_count known' + j) 1 0 (omega (arith, h)) in
-                  omega (arith, q);
-              set_of = rw first_marks (paired_first (right_count known'));
-            };
-            positive = omega arith;
-            wide = omega (arith, same_width, n);
-            room = omega arith;
-          }
+      pub based_walking : (lent : List ℕ) → Walking nodes arguments known' can heads' next' first_entry lent 0 1 0 0
+      based_walking lent = pairs_walking a.keeps (a.completable e) base.formed base.trailed base.pairs base.pairing n lent
 
-      -- what is known has the entries of the sides
-      same_entries : all_entries nodes arguments known' [] ≡ side_entries nodes arguments left right k l
-      same_entries =
-          rw (
-            left_kept g.sides.knows a.keeps,
-            right_kept g.sides.knows a.keeps,
-            a.keeps.same 579 (omega arith),
-            a.keeps.same 580 (omega arith),
-            a.keeps.same 581 (omega arith),
-          ) known_entries
-
-      -- so has the branch without digits, on top of the pairs
-      first_entries : branch_entries nodes arguments known' first_entry 0 1 base.pairs ≡ side_entries nodes arguments left right k l
-      first_entries =
-          sym (below_branch knows first_entry 0 (omega arith) base.pairs)
-          ∙ ap (below (nodes_from nodes arguments) (right_in known') (left_labels known') (right_labels known') (left_in known') [] base.pairs)
-          first_marks
-          ∙ based_entries knows base ∙ same_entries
-
-      -- writes the entries of the sides
-      pub first_walked : {lent entry' lent' : List ℕ} {w : ℕ} → Walked nodes arguments known' heads' first_entry lent 0 1 0 entry' lent' w →
+      -- it writes the entries of the sides
+      pub based_walked : {lent entry' lent' : List ℕ} {w : ℕ} → Walked nodes arguments known' heads' first_entry lent 0 1 0 entry' lent' w →
           Writes (side_entries nodes arguments left right k l) lent 0 lent' w
-      first_walked y = rw first_entries at (y.writes base.pairs base.pairing)
+      based_walked y =
+          rw (first_branch a.keeps base.pairs ∙ based_entries (knows a.keeps) base ∙ same_entries a.keeps) at (y.writes base.pairs base.pairing)
 
-      -- each entry has so many words
-      pub entries_wide : (x : List ℕ) → Memᴰ x (side_entries nodes arguments left right k l) → length x ≡ width
-      entries_wide x m =
-          let r = length-replicate {A = ℕ} (length right) 1 in
-          let y = below_long (nodes_from nodes arguments) right k l left [] [] (replicate (length right) 1) x m in
-          omega (arith, y, r, g.width_is, g.sides.width_is)
+-- an accepted table can be listed by its sections
+pub listable : (t : List ℕ) → Accepted t → {k l : ℕ} → k ≡ length (left_labels_of t) → l ≡ length (right_labels_of t) →
+    Listable (nodes_of t) (arguments_of t) (left_terms_of t) (right_terms_of t) k l
+listable t g k l =
+    record {
+      sections = sections_of t g;
+      left_few = g.laid_out.within_limits 2 (omega arith);
+      right_few = g.laid_out.within_limits 4 (omega arith);
+      left_nodes = g.right_sides.each_left_term;
+      right_nodes = g.right_sides.each_right_term;
+      left_labels_lem = rw k (g.laid_out.within_limits 3 (omega arith));
+      right_labels_lem = rw l (g.laid_out.within_limits 5 (omega arith));
+    }
+
+-- and its entries are the complete listing
+pub all_entries_lem : (t : List ℕ) → Accepted t → {k l : ℕ} → k ≡ length (left_labels_of t) → l ≡ length (right_labels_of t) →
+    side_entries (nodes_of t) (arguments_of t) (left_terms_of t) (right_terms_of t) k l ≡ complete_listing (problem_of t)
+all_entries_lem t g k l =
+    let h = one_posed (half_at t left_terms) (nodes_in t) (posed t g) in
+    rw (← nodes_of_sections t, k, l) (below_listing (nodes_in t) (well_formed t g) (half_at t left_terms) h) ∙ sym (complete_admissible (problem_of t))
 
 -- a list of one word
 one_word : (xs : List ℕ) (a : ℕ) → length xs ≡ 1 → a ≡ word xs 0 → xs ≡ a ∷ []
@@ -342,32 +392,20 @@ pub record Parts (t nodes arguments left right : List ℕ) (k l : ℕ) : Type 0 
   pub right_labelled : l ≡ length (right_labels_of t)
 
 module _ {t nodes arguments left right : List ℕ} {k l : ℕ} (p : Parts t nodes arguments left right k l) where
-  -- an accepted table can be listed by its sections
-  pub listable : Listable nodes arguments left right k l
-  listable =
-      let g = p.accepted in
-      rw (p.nodes_are, p.arguments_are, p.left_is, p.right_is, p.left_labelled, p.right_labelled)
-      record {
-        sections = sections_of t g;
-        left_few = g.laid_out.within_limits 2 (omega arith);
-        right_few = g.laid_out.within_limits 4 (omega arith);
-        left_nodes = g.right_sides.each_left_term;
-        right_nodes = g.right_sides.each_right_term;
-        left_labels_lem = g.laid_out.within_limits 3 (omega arith);
-        right_labels_lem = g.laid_out.within_limits 5 (omega arith);
-      }
+  -- it can be listed by its sections
+  pub parts_listable : Listable nodes arguments left right k l
+  parts_listable =
+      rw (p.nodes_are, p.arguments_are, p.left_is, p.right_is) (listable t p.accepted p.left_labelled p.right_labelled)
 
   -- its entries are the complete listing
-  all_entries_lem : side_entries nodes arguments left right k l ≡ complete_listing (problem_of t)
-  all_entries_lem =
-      let h = one_posed (half_at t left_terms) (nodes_in t) (posed t p.accepted) in
-      rw (p.nodes_are, p.arguments_are, p.left_is, p.right_is, p.left_labelled, p.right_labelled, ← nodes_of_sections t)
-      (below_listing (nodes_in t) (well_formed t p.accepted) (half_at t left_terms) h) ∙ sym (complete_admissible (problem_of t))
+  parts_entries : side_entries nodes arguments left right k l ≡ complete_listing (problem_of t)
+  parts_entries =
+      rw (p.nodes_are, p.arguments_are, p.left_is, p.right_is) (all_entries_lem t p.accepted p.left_labelled p.right_labelled)
 
   -- so that it is listed
   pub parts_listed : {lent lent' : List ℕ} {w : Told} → LeavesEntries (side_entries nodes arguments left right k l) lent w lent' →
       LeavesEntries (complete_listing (problem_of t)) lent w lent'
-  parts_listed y = rw all_entries_lem at y
+  parts_listed y = rw parts_entries at y
 
   -- also where they are two single terms without labels
   pub parts_single : {lent lent' : List ℕ} {w : Told} {a b : ℕ} → length left ≡ 1 → length right ≡ 1 → k ≡ 0 → l ≡ 0 → a ≡ word left 0 → b ≡ word right 0 →

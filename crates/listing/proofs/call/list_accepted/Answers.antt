@@ -4,7 +4,7 @@ use native.Mathlib.Omega.{arith}
 use borrow.Author.Tests.{not-true}
 use lib.ListN.{length}
 use Rattle.table.proofs.AcceptedLaws.{readable}
-use Rattle.listing.proofs.CallingLaws.{Parts, listable, parts_listed, parts_single, parts_few, left_side, right_side, never_listed}
+use Rattle.listing.proofs.CallingLaws.{Parts, parts_listable, parts_listed, parts_single, parts_few, left_side, right_side, never_listed}
 use Rattle.listing.proofs.call.list_accepted.Goals as goal
 use Rattle.listing.proofs.call.list_accepted.Goals.{After-section-l}
 
@@ -48,13 +48,13 @@ section-l-requires c =
 
 pub sides_may-requires : goal.sides_may-requires
 sides_may-requires c =
-    let g = listable (parts c) in
+    let g = parts_listable (parts c) in
     (g.sections, left_side g, right_side g)
 
 pub returns-then-not-sides_may : goal.returns-then-not-sides_may
 returns-then-not-sides_may c =
     let p = parts (goal.at.returns-then-not-sides_may c).After-section-l in
-    parts_listed p (never_listed (listable p) (c.sides_may.ensures c.if-not-sides_may.true) _)
+    parts_listed p (never_listed (parts_listable p) (c.sides_may.ensures c.if-not-sides_may.true) _)
 
 pub node_at-requires : goal.node_at-requires
 node_at-requires c =
@@ -69,7 +69,7 @@ node_at-requires-then-is_single c =
 pub list_single-requires : goal.list_single-requires
 list_single-requires c =
     let p = parts (goal.at.list_single-requires c).After-section-l in
-    let g = listable p in
+    let g = parts_listable p in
     let u = c.is_single.ensures c.if-is_single.true in
     let x = g.left_nodes 0 (omega (arith, u.0)) in
     let y = g.right_nodes 0 (omega (arith, u.1)) in
@@ -86,7 +86,7 @@ returns-then-is_single c =
     parts_single (parts (goal.at.returns-then-is_single c).After-section-l) u.0 u.1 u.2 u.3 c.node_at.ensures c.node_at-then-is_single.ensures c.list_single.ensures
 
 pub list_sides-requires : goal.list_sides-requires
-list_sides-requires c = listable (parts (goal.at.list_sides-requires c).After-section-l)
+list_sides-requires c = parts_listable (parts (goal.at.list_sides-requires c).After-section-l)
 
 pub returns : goal.returns
 returns c =

@@ -5,7 +5,7 @@ use native.Mathlib.Omega.{arith}
 use borrow.Author.Rules.{rules}
 use lib.ListN.{length}
 use Rattle.entries.specs.Code.Writing.{full}
-use Rattle.listing.proofs.CallingLaws.{begun_empty, ahead_none, width_room, first_walking, first_walked, entries_wide, written_full, written_finished}
+use Rattle.listing.proofs.CallingLaws.{begun_empty, based_none, width_room, based_walking, based_walked, entries_wide, written_full, written_finished}
 use Rattle.listing.proofs.call.list_with_room.Goals as goal
 
 pub returns-then-width-eq0 : goal.returns-then-width-eq0
@@ -22,24 +22,24 @@ look_ahead-requires c =
     }
 
 pub returns-then-not-look_ahead : goal.returns-then-not-look_ahead
-returns-then-not-look_ahead c = ahead_none c.begin-width.ensures c.look_ahead.ensures c.if-not-look_ahead.true _
+returns-then-not-look_ahead c = based_none c.begin-width.ensures c.look_ahead.ensures c.if-not-look_ahead.true _
 
 pub slice_bounds-entry-end : goal.slice_bounds-entry-end
-slice_bounds-entry-end c = width_room c.begin-width.ensures c.look_ahead.ensures c.if-not-look_ahead.false c.if-width-eq0.false
+slice_bounds-entry-end c = width_room c.begin-width.ensures c.look_ahead.ensures.keeps
 
 pub walk-used-requires : goal.walk-used-requires
-walk-used-requires c = first_walking c.begin-width.ensures c.look_ahead.ensures c.if-not-look_ahead.false c.if-width-eq0.false _
+walk-used-requires c = based_walking c.begin-width.ensures c.look_ahead.ensures c.if-not-look_ahead.false c.if-width-eq0.false _
 
 pub returns-then-used : goal.returns-then-used
 returns-then-used c =
     let room : length c.args.out.now < full = search rules in
-    let written = first_walked c.begin-width.ensures c.look_ahead.ensures c.if-not-look_ahead.false c.if-width-eq0.false c.walk-used.ensures.walked in
-    let wide = entries_wide c.begin-width.ensures c.look_ahead.ensures c.if-not-look_ahead.false c.if-width-eq0.false in
+    let written = based_walked c.begin-width.ensures c.look_ahead.ensures c.if-not-look_ahead.false c.if-width-eq0.false c.walk-used.ensures.walked in
+    let wide = entries_wide c.begin-width.ensures in
     written_full written room _ (omega (arith, c.if-width-eq0.false)) wide c.if-used.true
 
 pub returns : goal.returns
 returns c =
     let room : length c.args.out.now < full = search rules in
-    let written = first_walked c.begin-width.ensures c.look_ahead.ensures c.if-not-look_ahead.false c.if-width-eq0.false c.walk-used.ensures.walked in
-    let wide = entries_wide c.begin-width.ensures c.look_ahead.ensures c.if-not-look_ahead.false c.if-width-eq0.false in
+    let written = based_walked c.begin-width.ensures c.look_ahead.ensures c.if-not-look_ahead.false c.if-width-eq0.false c.walk-used.ensures.walked in
+    let wide = entries_wide c.begin-width.ensures in
     written_finished written room _ (omega (arith, c.if-width-eq0.false)) wide c.if-used.false
