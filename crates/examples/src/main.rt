@@ -2,10 +2,12 @@
 // A name that begins `unify A B with L lent` asks for a unification and one that begins `list with L lent` for a listing, with L words lent; they are printed after the answer.
 #![tactic(auto)]
 
-ghost use Rattle.std.specs.Prelude.{◌≡◌, ◌+◌, ◌≤◌, ◌<◌, length};
+ghost use Rattle.std.specs.Prelude.{◌≡◌, ◌+◌, ◌≤◌, ◌<◌, length, take, IfOk, IfSome};
 
-use libc::{STDIN_FILENO, STDOUT_FILENO};
 use multiset_unification::Listing;
+use std::alloc::Global;
+use std::io;
+use std::io::{Read, Write};
 use table::{Checked, Node, Refusal};
 use unification::Unification;
 
@@ -141,152 +143,170 @@ fn begins_with(text: &[u8], beginning: &[u8]) -> bool {
     true
 }
 
-fn print(text: &[u8]) {
-    io::write_all(STDOUT_FILENO, text);
+fn print(out: &mut impl Write, text: &[u8]) -> io::Result<()> {
+    out.write_all(text)
 }
 
-fn print_refusal(refusal: Refusal) {
-    print(b": refused ");
-    io::print_decimal(STDOUT_FILENO, refusal.number() as u64);
+fn print_number(out: &mut impl Write, number: u64) -> io::Result<()> {
+    write!(out, "{number}")
 }
 
-fn print_checked(checked: Checked) {
+fn print_refusal(out: &mut impl Write, refusal: Refusal) -> io::Result<()> {
+    print(out, b": refused ")?;
+    print_number(out, refusal.number() as u64)
+}
+
+fn print_checked(out: &mut impl Write, checked: Checked) -> io::Result<()> {
     match checked {
-        Checked::Accepted => print(b": accepted"),
-        Checked::Refused(refusal) => print_refusal(refusal),
+        Checked::Accepted => print(out, b": accepted")?,
+        Checked::Refused(refusal) => print_refusal(out, refusal)?,
     }
-    print(b"\n");
+    print(out, b"\n")
 }
 
-fn print_unification(unification: Unification) {
+fn print_unification(out: &mut impl Write, unification: Unification) -> io::Result<()> {
     match unification {
-        Unification::Unified => print(b": unified"),
-        Unification::Clash => print(b": clash"),
-        Unification::Occurs => print(b": occurs"),
-        Unification::Refused(refusal) => print_refusal(refusal),
+        Unification::Unified => print(out, b": unified"),
+        Unification::Clash => print(out, b": clash"),
+        Unification::Occurs => print(out, b": occurs"),
+        Unification::Refused(refusal) => print_refusal(out, refusal),
     }
 }
 
-fn print_entries(word: &[u8], entries: usize) {
-    print(word);
-    io::print_decimal(STDOUT_FILENO, entries as u64);
+fn print_entries(out: &mut impl Write, word: &[u8], entries: usize) -> io::Result<()> {
+    print(out, word)?;
+    print_number(out, entries as u64)
 }
 
-fn print_listing(listing: Listing) {
+fn print_listing(out: &mut impl Write, listing: Listing) -> io::Result<()> {
     match listing {
-        Listing::Finished(entries) => print_entries(b": entries ", entries),
-        Listing::Full(entries) => print_entries(b": full ", entries),
-        Listing::Refused(refusal) => print_refusal(refusal),
+        Listing::Finished(entries) => print_entries(out, b": entries ", entries),
+        Listing::Full(entries) => print_entries(out, b": full ", entries),
+        Listing::Refused(refusal) => print_refusal(out, refusal),
     }
 }
 
 // Prints a comma, if any words follow it.
-fn print_comma(words: &[u32]) {
+fn print_comma(out: &mut impl Write, words: &[u32]) -> io::Result<()> {
     if words.len() > 0 {
-        print(b",");
+        print(out, b",")?;
     }
+    Ok(())
 }
 
-fn print_word(word: u32) {
-    print(b" ");
-    io::print_decimal(STDOUT_FILENO, word as u64);
+fn print_word(out: &mut impl Write, word: u32) -> io::Result<()> {
+    print(out, b" ")?;
+    print_number(out, word as u64)
 }
 
-fn print_words(words: &[u32]) {
+fn print_words(out: &mut impl Write, words: &[u32]) -> io::Result<()> {
     let mut i: usize = 0;
     while i < words.len() {
-        print_word(words[i]);
+        print_word(out, words[i])?;
         i += 1;
     }
+    Ok(())
 }
 
-fn print_lent(lent: &[u32]) {
-    print_comma(lent);
-    print_words(lent);
-    print(b"\n");
+fn print_lent(out: &mut impl Write, lent: &[u32]) -> io::Result<()> {
+    print_comma(out, lent)?;
+    print_words(out, lent)?;
+    print(out, b"\n")
 }
 
 // Unifies two nodes, and prints the answer and the lent words after it.
-fn unify_nodes(table: &[u32], a: u32, b: u32, lent: &mut [u32]) {
-    print_unification(unify::unify(table, Node(a), Node(b), lent));
-    print_lent(lent);
+fn unify_nodes(
+    out: &mut impl Write,
+    table: &[u32],
+    a: u32,
+    b: u32,
+    lent: &mut [u32],
+) -> io::Result<()> {
+    print_unification(out, unify::unify(table, Node(a), Node(b), lent))?;
+    print_lent(out, lent)
 }
 
 // Unifies two nodes of a table. The name has their numbers and how many words are lent.
-fn run_unification(name: &[u8], table: &[u32]) {
+fn run_unification(out: &mut impl Write, name: &[u8], table: &[u32]) -> io::Result<()> {
     let mut given = [0u32; 3];
     read_words(name, &mut given);
     if given[2] > MOST_LENT as u32 {
-        print(b": too many lent\n");
-        return;
+        return print(out, b": too many lent\n");
     }
     let n = given[2] as usize;
     let mut lent = [0u32; MOST_LENT];
     fill(&mut lent);
-    unify_nodes(table, given[0], given[1], &mut lent[0..n]);
+    unify_nodes(out, table, given[0], given[1], &mut lent[0..n])
 }
 
 // Lists a table, and prints the answer and the lent words after it.
-fn list_table(table: &[u32], lent: &mut [u32]) {
-    print_listing(listing::list(table, lent));
-    print_lent(lent);
+fn list_table(out: &mut impl Write, table: &[u32], lent: &mut [u32]) -> io::Result<()> {
+    print_listing(out, listing::list(table, lent))?;
+    print_lent(out, lent)
 }
 
 // Lists a table. The name has how many words are lent.
-fn run_listing(name: &[u8], table: &[u32]) {
+fn run_listing(out: &mut impl Write, name: &[u8], table: &[u32]) -> io::Result<()> {
     let mut given = [0u32; 1];
     read_words(name, &mut given);
     if given[0] > MOST_LENT as u32 {
-        print(b": too many lent\n");
-        return;
+        return print(out, b": too many lent\n");
     }
     let n = given[0] as usize;
     let mut lent = [0u32; MOST_LENT];
     fill(&mut lent);
-    list_table(table, &mut lent[0..n]);
+    list_table(out, table, &mut lent[0..n])
 }
 
 // Answers what a name asks of a table.
-fn answer(name: &[u8], table: &[u32]) {
+fn answer(out: &mut impl Write, name: &[u8], table: &[u32]) -> io::Result<()> {
     if begins_with(name, b"list with ") {
-        run_listing(name, table);
-        return;
+        return run_listing(out, name, table);
     }
     if begins_with(name, b"unify ") {
-        run_unification(name, table);
-        return;
+        return run_unification(out, name, table);
     }
-    print_checked(checking::check(table));
+    print_checked(out, checking::check(table))
 }
 
 // Prints the name of one line and the answer to it.
-fn run_line(line: &[u8]) {
+fn run_line(out: &mut impl Write, line: &[u8]) -> io::Result<()> {
     let colon = find(line, 0, b':');
-    print(&line[0..colon]);
+    print(out, &line[0..colon])?;
     let mut words = [0u32; MOST_WORDS];
     let n = read_words(&line[colon..], &mut words);
     if n > MOST_WORDS {
-        print(b": too many words\n");
-        return;
+        return print(out, b": too many words\n");
     }
-    answer(&line[0..colon], &words[0..n]);
+    answer(out, &line[0..colon], &words[0..n])
 }
 
-fn run(input: &[u8]) {
+fn run(out: &mut impl Write, input: &[u8]) -> io::Result<()> {
     let mut at: usize = 0;
     while at < input.len() {
         let end = find(input, at, b'\n');
-        run_line(&input[at..end]);
+        run_line(out, &input[at..end])?;
         at = end + 1;
     }
+    Ok(())
 }
 
-fn main() {
-    let mut input = [0u8; MOST_BYTES];
-    let n = io::read_full(STDIN_FILENO, &mut input);
-    if n == input.len() {
-        print(b"too much input\n");
-        return;
+// Reads an input up to the most bytes.
+fn read_input<R: Read>(alloc: Global, input: R) -> io::Result<Vec<u8>>
+where
+    R: Drop,
+    ensures { IfOk result (λ v. IfSome (R.remaining input) (λ xs. v.items ≡ take 262144 xs)) }
+{
+    let mut bytes = Vec::new(alloc);
+    input.take(MOST_BYTES as u64).read_to_end(&mut bytes)?;
+    Ok(bytes)
+}
+
+fn main(rt: HostRuntime) -> io::Result<()> {
+    let input = read_input(rt.alloc(), rt.reader())?;
+    let mut out = io::writer(&rt);
+    if input.len() == MOST_BYTES {
+        return print(&mut out, b"too much input\n");
     }
-    run(&input[..n]);
+    run(&mut out, &input)
 }
