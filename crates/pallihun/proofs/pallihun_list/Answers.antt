@@ -6,7 +6,7 @@ pub returns : goal.returns
 returns c =
     let l = c.list.ensures in
     let n = c.of_listing.ensures in record {
-  result_value = n ∙ l.result_value;
-  out_after = l.out_after;
-  page14 = rw (← n) at l.page14;
-}
+      result_value = n ∙ l.result_value;
+      out_after = l.out_after;
+      page14 = rw (← n) at l.page14;
+    }

@@ -8,7 +8,7 @@ pub returns : goal.returns
 returns c =
     let n = c.of_unification.ensures in
     let u = c.unify in record {
-  value = n ∙ ap number_of u.ensures.result_value;
-  out_after = u.ensures.out_after;
-  decided = decided_number u.result _ n u.ensures.decided;
-}
+      value = n ∙ ap number_of u.ensures.result_value;
+      out_after = u.ensures.out_after;
+      decided = decided_number u.result _ n u.ensures.decided;
+    }

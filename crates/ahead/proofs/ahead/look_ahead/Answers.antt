@@ -27,10 +27,10 @@ pub returns-then-known : goal.returns-then-known
 returns-then-known c =
     let w = c.leave.ensures in
     let p = c.requires in record {
-  heads_unchanged = (refl, refl);
-  keeps_known = w.keeps;
-  looks_ahead = looks_whole p.known_of p.can_value w;
-}
+      heads_unchanged = (refl, refl);
+      keeps_known = w.keeps;
+      looks_ahead = looks_whole p.known_of p.can_value w;
+    }
 
 pub strike-joins-requires : goal.strike-joins-requires
 strike-joins-requires c =
@@ -47,19 +47,19 @@ pub returns-then-not-plan : goal.returns-then-not-plan
 returns-then-not-plan c =
     let p = c.requires in
     let s = c.strike-joins.ensures in record {
-  heads_unchanged = (refl, refl);
-  keeps_known = s.keeps_known;
-  looks_ahead = looks_as (sym c.if-not-plan.true) refl (looks_planned p.known_of s.keeps_known s.rows_to c.plan.ensures);
-}
+      heads_unchanged = (refl, refl);
+      keeps_known = s.keeps_known;
+      looks_ahead = looks_as (sym c.if-not-plan.true) refl (looks_planned p.known_of s.keeps_known s.rows_to c.plan.ensures);
+    }
 
 pub returns-then-joins-lt-FEW : goal.returns-then-joins-lt-FEW
 returns-then-joins-lt-FEW c =
     let p = c.requires in
     let s = c.strike-joins.ensures in record {
-  heads_unchanged = (refl, refl);
-  keeps_known = s.keeps_known;
-  looks_ahead = looks_as (sym c.if-not-plan.false) refl (looks_planned p.known_of s.keeps_known s.rows_to c.plan.ensures);
-}
+      heads_unchanged = (refl, refl);
+      keeps_known = s.keeps_known;
+      looks_ahead = looks_as (sym c.if-not-plan.false) refl (looks_planned p.known_of s.keeps_known s.rows_to c.plan.ensures);
+    }
 
 pub first_tried-requires : goal.first_tried-requires
 first_tried-requires c =
@@ -71,10 +71,10 @@ pub try_pairs-requires : goal.try_pairs-requires
 try_pairs-requires c =
     let p = c.requires in
     let s = c.strike-joins.ensures in record {
-  known_of = known_kept p.known_of s.keeps_known;
-  formed = (formed_kept p.known_of s.keeps_known p.formed.0, p.formed.1);
-  rows_to = rows_kept s.keeps_known s.rows_to;
-}
+      known_of = known_kept p.known_of s.keeps_known;
+      formed = (formed_kept p.known_of s.keeps_known p.formed.0, p.formed.1);
+      rows_to = rows_kept s.keeps_known s.rows_to;
+    }
 
 pub plan-requires-then-try_pairs : goal.plan-requires-then-try_pairs
 plan-requires-then-try_pairs c =
@@ -90,17 +90,17 @@ returns-then-try_pairs c =
     let p = c.requires in
     let s = c.strike-joins.ensures.keeps_known in
     let t = c.try_pairs.ensures in record {
-  heads_unchanged = t.heads_unchanged;
-  keeps_known = keeps_twice s t.keeps_known;
-  looks_ahead = looks_planned p.known_of (keeps_twice s t.keeps_known) (rows_back s t.rows_to_2) c.plan-then-try_pairs.ensures;
-}
+      heads_unchanged = t.heads_unchanged;
+      keeps_known = keeps_twice s t.keeps_known;
+      looks_ahead = looks_planned p.known_of (keeps_twice s t.keeps_known) (rows_back s t.rows_to_2) c.plan-then-try_pairs.ensures;
+    }
 
 pub returns : goal.returns
 returns c =
     let p = c.requires in
     let s = c.strike-joins.ensures in
     let t = c.try_pairs.ensures in record {
-  heads_unchanged = t.heads_unchanged;
-  keeps_known = keeps_twice s.keeps_known t.keeps_known;
-  looks_ahead = looks_as (sym c.if-not-plan.false) (t.known_unchanged c.if-try_pairs.false) (looks_planned p.known_of s.keeps_known s.rows_to c.plan.ensures);
-}
+      heads_unchanged = t.heads_unchanged;
+      keeps_known = keeps_twice s.keeps_known t.keeps_known;
+      looks_ahead = looks_as (sym c.if-not-plan.false) (t.known_unchanged c.if-try_pairs.false) (looks_planned p.known_of s.keeps_known s.rows_to c.plan.ensures);
+    }

@@ -24,10 +24,10 @@ try_row-may-requires c =
     let l = c.loop-i.invariant in
     let n = c.at-n.ensures.0 in
     let e = l.0.same 578 (omega arith) in record {
-  known_of = known_kept p.known_of l.0;
-  formed = rw (l.3, l.4) (formed_kept p.known_of l.0 p.formed.0, p.formed.1);
-  rows_to = (rows_as l.3 (rows_end l.1 (omega (arith, e))), omega (arith, n, e));
-}
+      known_of = known_kept p.known_of l.0;
+      formed = rw (l.3, l.4) (formed_kept p.known_of l.0 p.formed.0, p.formed.1);
+      rows_to = (rows_as l.3 (rows_end l.1 (omega (arith, e))), omega (arith, n, e));
+    }
 
 pub overflow_cast-known : goal.overflow_cast-known
 overflow_cast-known c =
@@ -74,8 +74,8 @@ shape_of-known c = c.loop-i.invariant.0.size
 pub returns : goal.returns
 returns c =
     let l = c.loop-i.invariant in record {
-  keeps_known = l.0;
-  rows_to_2 = l.1;
-  known_unchanged = l.2;
-  heads_unchanged = (l.3, l.4);
-}
+      keeps_known = l.0;
+      rows_to_2 = l.1;
+      known_unchanged = l.2;
+      heads_unchanged = (l.3, l.4);
+    }

@@ -20,9 +20,9 @@ arity-requires c =
     let v = c.node_in-v in
     let b = c.requires.all_below.0.below c.loop-p.p c.loop-p-test.true in
     let h = c.requires.all_below.1.below v.result.0 (omega (arith, b, v.ensures.0)) in record {
-  sections = c.requires.sections;
-  node_bound = omega (arith, h, c.node_in-h.ensures.0);
-}
+      sections = c.requires.sections;
+      node_bound = omega (arith, h, c.node_in-h.ensures.0);
+    }
 
 pub returns-then-arity-ne0 : goal.returns-then-arity-ne0
 returns-then-arity-ne0 c = λ e. absurd (false≢true e)

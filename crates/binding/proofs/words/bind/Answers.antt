@@ -10,16 +10,16 @@ use Rattle.binding.proofs.words.bind.Goals as goal
 pub all_plain-requires : goal.all_plain-requires
 all_plain-requires c =
     let q = c.requires.formed.0.partition in record {
-  sections = c.requires.sections.0;
-  all_below = ( nodes_headed c.args.nodes.now _ _ q (least_nodes_lem _ _ _ c.requires.list_value.0), heads_below (node_count c.args.nodes.now) (node_count c.args.nodes.now) _ (omega arith) q, );
-}
+      sections = c.requires.sections.0;
+      all_below = (nodes_headed c.args.nodes.now _ _ q (least_nodes_lem _ _ _ c.requires.list_value.0), heads_below (node_count c.args.nodes.now) (node_count c.args.nodes.now) _ (omega arith) q);
+    }
 
 pub bind_plain-requires : goal.bind_plain-requires
 bind_plain-requires c =
     let q = c.requires.formed.0.partition in record {
-  all_below = ( nodes_headed c.args.nodes.now _ _ q (least_nodes_lem _ _ _ c.requires.list_value.0), heads_below (node_count c.args.nodes.now) (node_count c.args.nodes.now) _ (omega arith) q, );
-  list_in_bounds = c.requires.list_value.1;
-}
+      all_below = (nodes_headed c.args.nodes.now _ _ q (least_nodes_lem _ _ _ c.requires.list_value.0), heads_below (node_count c.args.nodes.now) (node_count c.args.nodes.now) _ (omega arith) q);
+      list_in_bounds = c.requires.list_value.1;
+    }
 
 pub returns-then-opens-all_plain : goal.returns-then-opens-all_plain
 returns-then-opens-all_plain c =
@@ -32,8 +32,8 @@ bind_with_room-requires c =
     let p = c.requires in
     let n = c.node_count-n in
     let l = first_long n.result n.ensures.1 ∙ n.ensures.0 in record {
-  sections = p.sections;
-  formed = p.formed;
-  list_value = p.list_value;
-  names_len = (l, l);
-}
+      sections = p.sections;
+      formed = p.formed;
+      list_value = p.list_value;
+      names_len = (l, l);
+    }

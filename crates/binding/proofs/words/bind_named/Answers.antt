@@ -13,11 +13,11 @@ pub put_in_order-count-requires : goal.put_in_order-count-requires
 put_in_order-count-requires c =
     let p = c.requires in
     let n = c.node_count-n in record {
-  sections = p.sections;
-  formed = p.formed.0;
-  open_listed = p.formed.1;
-  starting = nothing_placed n.result _ n.ensures.0 n.ensures.1;
-}
+      sections = p.sections;
+      formed = p.formed.0;
+      open_listed = p.formed.1;
+      starting = nothing_placed n.result _ n.ensures.0 n.ensures.1;
+    }
 
 pub slice_bounds-name_open-end : goal.slice_bounds-name_open-end
 slice_bounds-name_open-end c =
@@ -36,21 +36,21 @@ name_open-requires c =
     let o = ordered_part _ _ _ _ t.new.order (drop (n.result - 0) (replicate max_nodes 0)) t.result
     (omega (arith, l, t.ensures.0, n.ensures.0)) t.ensures.1 in
     let m = length-replicate {A = ℕ} max_nodes 0 in record {
-  sections = p.sections;
-  formed = p.formed.0;
-  ordered = o;
-  names_len = (p.names_len.0, p.names_len.1);
-  order_len = (m, refl, m);
-}
+      sections = p.sections;
+      formed = p.formed.0;
+      ordered = o;
+      names_len = (p.names_len.0, p.names_len.1);
+      order_len = (m, refl, m);
+    }
 
 pub find_words-requires : goal.find_words-requires
 find_words-requires c =
     let p = c.requires in
     let o = c.name_open in record {
-  head_names = heads_named _ _ _ _ o.ensures.0 p.sections.0 p.formed.0.partition (o.auto.names ∙ p.names_len.0);
-  are_applied = open_applied _ _ _ p.formed.1;
-  are_nodes = (least_nodes_lem _ _ _ p.list_value.0, p.names_len.2, p.list_value.1);
-}
+      head_names = heads_named _ _ _ _ o.ensures.0 p.sections.0 p.formed.0.partition (o.auto.names ∙ p.names_len.0);
+      are_applied = open_applied _ _ _ p.formed.1;
+      are_nodes = (least_nodes_lem _ _ _ p.list_value.0, p.names_len.2, p.list_value.1);
+    }
 
 pub returns : goal.returns
 returns c =

@@ -18,11 +18,11 @@ pub bind_named-requires : goal.bind_named-requires
 bind_named-requires c =
     let p = c.requires in
     let t = c.name_themselves in record {
-  sections = p.sections;
-  formed = p.formed;
-  list_value = p.list_value;
-  names_len = (t.auto.names ∙ p.names_len.0, t.ensures, p.names_len.1);
-}
+      sections = p.sections;
+      formed = p.formed;
+      list_value = p.list_value;
+      names_len = (t.auto.names ∙ p.names_len.0, t.ensures, p.names_len.1);
+    }
 
 pub find_words-requires : goal.find_words-requires
 find_words-requires c =
@@ -31,10 +31,10 @@ find_words-requires c =
     let z = none_leads _ _ _ _ p.formed.1 p.formed.0.partition
     (c.some_leads.ensures c.if-some_leads.false) in
     let m = themselves_named _ _ p.sections.0 _ _ p.sections.1 p.formed.0 t.new.names (t.auto.names ∙ p.names_len.0) t.ensures z in record {
-  head_names = m.0;
-  are_applied = open_applied _ _ _ p.formed.1;
-  are_nodes = (least_nodes_lem _ _ _ p.list_value.0, p.names_len.1, p.list_value.1);
-}
+      head_names = m.0;
+      are_applied = open_applied _ _ _ p.formed.1;
+      are_nodes = (least_nodes_lem _ _ _ p.list_value.0, p.names_len.1, p.list_value.1);
+    }
 
 pub returns : goal.returns
 returns c =

@@ -15,9 +15,9 @@ pub note_application-requires : goal.note_application-requires
 note_application-requires c =
     let l = c.loop-p in
     let b = c.requires.are_applied.node l.p c.loop-p-test.true in record {
-  head_names = c.requires.head_names;
-  i_bound = (rw c.node_in-i.ensures.0 b, l.invariant.1.long);
-}
+      head_names = c.requires.head_names;
+      i_bound = (rw c.node_in-i.ensures.0 b, l.invariant.1.long);
+    }
 
 pub loop-p-preserved : goal.loop-p-preserved
 loop-p-preserved c =

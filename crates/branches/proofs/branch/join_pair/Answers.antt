@@ -36,10 +36,10 @@ pub extend-requires : goal.extend-requires
 extend-requires c =
     let n = c.requires.known_of.left_nodes c.args.i c.requires.i_bound.0 in
     let m = c.requires.known_of.right_nodes (c.args.d - 1) (omega (arith, c.requires.i_bound.1)) in record {
-  sections = (c.requires.known_of.sections, c.requires.known_of.counts);
-  formed = c.requires.formed;
-  a_bound = ( omega ( arith, n, c.node_in-a.ensures, ), omega (arith, m, c.node_in-b.ensures), );
-}
+      sections = (c.requires.known_of.sections, c.requires.known_of.counts);
+      formed = c.requires.formed;
+      a_bound = (omega (arith, n, c.node_in-a.ensures), omega (arith, m, c.node_in-b.ensures));
+    }
 
 pub returns-in-Unified : goal.returns-in-Unified
 returns-in-Unified c =

@@ -153,9 +153,9 @@ is_variable-requires-2 t c =
 pub unite-requires : goal.unite-requires
 unite-requires t c =
     let m = meets t (goal.at.unite-requires t c).Else-g-h in record {
-  heads_len = (m.joinable.partition.size, m.joinable.counts_right.enough);
-  two_heads = (meeting_heads m, meeting_trailed m);
-}
+      heads_len = (m.joinable.partition.size, m.joinable.counts_right.enough);
+      two_heads = (meeting_heads m, meeting_trailed m);
+    }
 
 pub returns-then-is_variable : goal.returns-then-is_variable
 returns-then-is_variable t c =
@@ -191,18 +191,18 @@ returns-then-one_symbol-both_closed t c =
 pub unite-requires-2 : goal.unite-requires-2
 unite-requires-2 t c =
     let m = meets t (goal.at.unite-requires-2 t c).Else-g-h in record {
-  heads_len = (m.joinable.partition.size, m.joinable.counts_right.enough);
-  two_heads = (meeting_heads m, meeting_trailed m);
-}
+      heads_len = (m.joinable.partition.size, m.joinable.counts_right.enough);
+      two_heads = (meeting_heads m, meeting_trailed m);
+    }
 
 pub arity-count-requires : goal.arity-count-requires
 arity-count-requires t c =
     let m = meets t (goal.at.arity-count-requires t c).Else-g-h in
     let p = (meeting_inside m).0 in
     let e = c.node-first.ensures.0 in record {
-  sections = m.joinable.sections;
-  node_bound = omega (arith, e, p);
-}
+      sections = m.joinable.sections;
+      node_bound = omega (arith, e, p);
+    }
 
 pub loop-k-init : goal.loop-k-init
 loop-k-init t c =
@@ -222,9 +222,9 @@ argument-x-requires t c =
     let e = c.node-first.ensures.0 in
     let p = (meeting_inside m).0 in
     let k = ap (count_of c.args.nodes.now) e in record {
-  sections = m.joinable.sections;
-  node_bound = (omega (arith, e, p), omega (arith, l, k, c.loop-k-test.true));
-}
+      sections = m.joinable.sections;
+      node_bound = (omega (arith, e, p), omega (arith, l, k, c.loop-k-test.true));
+    }
 
 pub argument-y-requires : goal.argument-y-requires
 argument-y-requires t c =
@@ -234,9 +234,9 @@ argument-y-requires t c =
     let p = (meeting_inside m).1 in
     let k = ap (count_of c.args.nodes.now) e in
     let n = one_count m (alike t (goal.at.argument-y-requires t c).Else-one_symbol-both_closed) in record {
-  sections = m.joinable.sections;
-  node_bound = (omega (arith, e, p), omega (arith, l, k, n, c.loop-k-test.true));
-}
+      sections = m.joinable.sections;
+      node_bound = (omega (arith, e, p), omega (arith, l, k, n, c.loop-k-test.true));
+    }
 
 pub join_at_once-requires : goal.join_at_once-requires
 join_at_once-requires t c = record {
@@ -282,8 +282,8 @@ pair_joined : (t : ℕ) (c : Turned t) → Joins
 pair_joined t c =
     let a = c.join_at_once.ensures in
     elim c.if-not-join_at_once.branch [
-      then-not-join_at_once+else-not-join w ↦ joined_to (joins_left a w.if-not-join_at_once.true w.join.ensures) w.if-not-join.false w.heads-is w.next-is
-    | else-not-join_at_once w ↦ joined_to (a.joins w.if-not-join_at_once.false) refl w.heads-is w.next-is
+      | then-not-join_at_once+else-not-join w ↦ joined_to (joins_left a w.if-not-join_at_once.true w.join.ensures) w.if-not-join.false w.heads-is w.next-is
+      | else-not-join_at_once w ↦ joined_to (a.joins w.if-not-join_at_once.false) refl w.heads-is w.next-is
     ]
 
 pub loop-k-preserved : goal.loop-k-preserved

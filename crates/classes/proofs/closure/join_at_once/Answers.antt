@@ -37,9 +37,9 @@ is_variable-requires-2 c =
 pub unite-requires : goal.unite-requires
 unite-requires c =
     let m = meets (goal.at.unite-requires c).Else-g-h in record {
-  heads_len = (m.joinable.partition.size, m.joinable.counts_right.enough);
-  two_heads = (meeting_heads m, meeting_trailed m);
-}
+      heads_len = (m.joinable.partition.size, m.joinable.counts_right.enough);
+      two_heads = (meeting_heads m, meeting_trailed m);
+    }
 
 pub returns-then-is_variable : goal.returns-then-is_variable
 returns-then-is_variable c =

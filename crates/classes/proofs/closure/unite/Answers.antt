@@ -8,9 +8,9 @@ goes_first-requires c =
     let p = c.requires in
     let t = p.two_heads.0 in
     let e = p.heads_len.0 in record {
-  g_bound = (rw e at t.first, rw e at t.second, p.heads_len.1);
-  circling = rw e at (circling t);
-}
+      g_bound = (rw e at t.first, rw e at t.second, p.heads_len.1);
+      circling = rw e at (circling t);
+    }
 
 pub merge-requires : goal.merge-requires
 merge-requires c = c.requires.two_heads

@@ -39,10 +39,10 @@ loop-j-init t c =
 pub argument_head-g-requires : goal.argument_head-g-requires
 argument_head-g-requires t c =
     let v = c.requires in record {
-  sections = v.sections;
-  partition = v.partition;
-  node_bound = (v.node, looked_at v.counts_right _ _ v.node c.loop-j-test.true);
-}
+      sections = v.sections;
+      partition = v.partition;
+      node_bound = (v.node, looked_at v.counts_right _ _ v.node c.loop-j-test.true);
+    }
 
 pub is_due-requires : goal.is_due-requires
 is_due-requires t c =
@@ -95,8 +95,8 @@ loop-j-preserved t c =
     let b : l.j < word c.args.counts.now c.args.h.0 = c.loop-j-test.true in (
       search rules,
       elim c.if-is_due.branch [
-        then-is_due+in-Count w ↦ turned v new l.invariant.1 g.result.0 b g.ensures.0 _ _ _ (w.visit.ensures.counted _ w.in-Count.is) w.marks-is w.order-is w.count-is
-      | else-is_due w ↦ turned_over v new l.invariant.1 g.result.0 b g.ensures.0 (not_due (word c.args.counts.now) l.marks g.result.0 _ c.is_due.ensures w.if-is_due.false) w.marks-is w.order-is w.count-is
+        | then-is_due+in-Count w ↦ turned v new l.invariant.1 g.result.0 b g.ensures.0 _ _ _ (w.visit.ensures.counted _ w.in-Count.is) w.marks-is w.order-is w.count-is
+        | else-is_due w ↦ turned_over v new l.invariant.1 g.result.0 b g.ensures.0 (not_due (word c.args.counts.now) l.marks g.result.0 _ c.is_due.ensures w.if-is_due.false) w.marks-is w.order-is w.count-is
       ],
     )
 

@@ -39,10 +39,10 @@ overflow_cast-g c = omega (
 pub only_open-i-requires : goal.only_open-i-requires
 only_open-i-requires c =
     let s = c.requires in record {
-  sections = s.sections;
-  partition = s.partition;
-  h_bound = c.loop-steps.invariant.1.node;
-}
+      sections = s.sections;
+      partition = s.partition;
+      h_bound = c.loop-steps.invariant.1.node;
+    }
 
 pub returns-then-i-eq-NONE : goal.returns-then-i-eq-NONE
 returns-then-i-eq-NONE c =
@@ -54,10 +54,10 @@ pub search-requires : goal.search-requires
 search-requires c =
     let h = c.node_in-h in
     let some : 0 < word c.args.counts.now h.result.0 = omega (arith, c.if-counts-start-eq0.false) in record {
-  sections = c.requires.sections;
-  partition = c.requires.partition;
-  h_bound = ( head_inside c.requires.partition c.requires.a_bound h.ensures.0, head_own c.requires.partition c.requires.a_bound h.ensures.0, some, );
-}
+      sections = c.requires.sections;
+      partition = c.requires.partition;
+      h_bound = (head_inside c.requires.partition c.requires.a_bound h.ensures.0, head_own c.requires.partition c.requires.a_bound h.ensures.0, some);
+    }
 
 pub returns-then-i-eq-SEVERAL : goal.returns-then-i-eq-SEVERAL
 returns-then-i-eq-SEVERAL c =
@@ -74,20 +74,23 @@ pub loop-steps-preserved : goal.loop-steps-preserved
 loop-steps-preserved c =
     let i = c.loop-steps.invariant in
     let o = c.only_open-i.ensures c.if-i-eq-SEVERAL.false in
-    let d = c.if-i-eq-NONE.false in
-    (search rules, followed_next i.1 o d, elim c.if-steps-eq0.branch [
-      then-steps-eq0 w ↦ followed_noted {B = Unit {0}} (followed_next i.2 o d) (inl (w.if-steps-eq0.true, w.mark-is))
-    | else-steps-eq0 w ↦ followed_noted {A = Unit {0}} (followed_next i.2 o d) (inr (w.if-steps-eq0.false, w.mark-is))
-    ])
+    let d = c.if-i-eq-NONE.false in (
+      search rules,
+      followed_next i.1 o d,
+      elim c.if-steps-eq0.branch [
+        | then-steps-eq0 w ↦ followed_noted {B = Unit {0}} (followed_next i.2 o d) (inl (w.if-steps-eq0.true, w.mark-is))
+        | else-steps-eq0 w ↦ followed_noted {A = Unit {0}} (followed_next i.2 o d) (inr (w.if-steps-eq0.false, w.mark-is))
+      ],
+    )
 
 pub search-requires-2 : goal.search-requires-2
 search-requires-2 c =
     let h = c.node_in-h in
     let some : 0 < word c.args.counts.now h.result.0 = omega (arith, c.if-counts-start-eq0.false) in record {
-  sections = c.requires.sections;
-  partition = c.requires.partition;
-  h_bound = ( head_inside c.requires.partition c.requires.a_bound h.ensures.0, head_own c.requires.partition c.requires.a_bound h.ensures.0, some, );
-}
+      sections = c.requires.sections;
+      partition = c.requires.partition;
+      h_bound = (head_inside c.requires.partition c.requires.a_bound h.ensures.0, head_own c.requires.partition c.requires.a_bound h.ensures.0, some);
+    }
 
 pub returns : goal.returns
 returns c =

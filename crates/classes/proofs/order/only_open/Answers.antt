@@ -22,10 +22,10 @@ loop-j-init c = (search rules, onward_none)
 pub argument_head-g-requires : goal.argument_head-g-requires
 argument_head-g-requires c =
     let s = c.requires in record {
-  sections = s.sections.0;
-  partition = s.partition;
-  node_bound = (s.h_bound, looked_at s.sections.1 _ _ s.h_bound c.loop-j-test.true);
-}
+      sections = s.sections.0;
+      partition = s.partition;
+      node_bound = (s.h_bound, looked_at s.sections.1 _ _ s.h_bound c.loop-j-test.true);
+    }
 
 pub found_with-found-requires : goal.found_with-found-requires
 found_with-found-requires c =

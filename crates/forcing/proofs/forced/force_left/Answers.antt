@@ -14,10 +14,10 @@ join_pair-requires c =
     let p = c.requires in
     let m = c.at-2.ensures.0 in
     let l = c.if-at-j.false in record {
-  known_of = p.known_of;
-  formed = (p.based.formed, p.based.trailed);
-  i_bound = (p.known_value.1, omega arith, omega (arith, m, l));
-}
+      known_of = p.known_of;
+      formed = (p.based.formed, p.based.trailed);
+      i_bound = (p.known_value.1, omega arith, omega (arith, m, l));
+    }
 
 pub returns : goal.returns
 returns c =

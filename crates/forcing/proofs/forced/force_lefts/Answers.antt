@@ -17,10 +17,10 @@ pub force_left-requires : goal.force_left-requires
 force_left-requires c =
     let p = c.requires in
     let n = c.at-n.ensures.0 in record {
-  known_of = p.known_of;
-  based = c.loop-i.invariant.1;
-  known_value = (c.if-known-ne0.false, omega (arith, n));
-}
+      known_of = p.known_of;
+      based = c.loop-i.invariant.1;
+      known_value = (c.if-known-ne0.false, omega (arith, n));
+    }
 
 pub returns-then-not-force_left : goal.returns-then-not-force_left
 returns-then-not-force_left c = forced_failed c.if-not-force_left.true c.force_left.ensures

@@ -23,10 +23,10 @@ join_pair-requires c =
     let n = c.at.ensures.0 in
     let l = c.if-i-at.false in
     let w = c.taker-i.ensures.within in record {
-  known_of = p.known_of;
-  formed = (p.based.formed, p.based.trailed);
-  i_bound = (omega (arith, n, l, w), omega arith, omega (arith, p.known_value.1));
-}
+      known_of = p.known_of;
+      formed = (p.based.formed, p.based.trailed);
+      i_bound = (omega (arith, n, l, w), omega arith, omega (arith, p.known_value.1));
+    }
 
 pub returns : goal.returns
 returns c =

@@ -17,10 +17,10 @@ pub force_right-requires : goal.force_right-requires
 force_right-requires c =
     let p = c.requires in
     let m = c.at-m.ensures.0 in record {
-  known_of = p.known_of;
-  based = c.loop-j.invariant.1;
-  known_value = (c.if-known-ne0.false, omega (arith, m), c.contested-twice.ensures);
-}
+      known_of = p.known_of;
+      based = c.loop-j.invariant.1;
+      known_value = (c.if-known-ne0.false, omega (arith, m), c.contested-twice.ensures);
+    }
 
 pub returns-then-not-force_right : goal.returns-then-not-force_right
 returns-then-not-force_right c = forced_failed c.if-not-force_right.true c.force_right.ensures

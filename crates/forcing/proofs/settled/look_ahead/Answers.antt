@@ -47,9 +47,9 @@ pub settle-requires : goal.settle-requires
 settle-requires c =
     let p = c.requires in
     let s = c.strike-joins.ensures in record {
-  known_of = known_kept p.known_of s.keeps_known;
-  based = ( struck_based p.known_of s.keeps_known p.formed.0 p.formed.1 p.standing s.rows_to, planned (planning p.known_of s.keeps_known p.can_value c.if-known.false).0 c.plan_first.ensures, );
-}
+      known_of = known_kept p.known_of s.keeps_known;
+      based = (struck_based p.known_of s.keeps_known p.formed.0 p.formed.1 p.standing s.rows_to, planned (planning p.known_of s.keeps_known p.can_value c.if-known.false).0 c.plan_first.ensures);
+    }
 
 pub returns : goal.returns
 returns c = looks_since c.requires.known_of c.strike-joins.ensures.keeps_known c.settle.ensures

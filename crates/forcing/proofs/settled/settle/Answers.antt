@@ -13,9 +13,9 @@ loop-rounds-init c =
 pub settle_round-fewer-requires : goal.settle_round-fewer-requires
 settle_round-fewer-requires c =
     let l = c.loop-rounds.invariant in record {
-  known_of = settling_known c.requires.known_of l;
-  based = l.based;
-}
+      known_of = settling_known c.requires.known_of l;
+      based = l.based;
+    }
 
 pub returns-then-fewer-eq-NO_CHOICE : goal.returns-then-fewer-eq-NO_CHOICE
 returns-then-fewer-eq-NO_CHOICE c = settling_none c.requires.known_of c.loop-rounds.invariant c.settle_round-fewer.ensures c.if-fewer-eq-NO_CHOICE.true

@@ -15,10 +15,10 @@ settle_row-row-requires c =
     let n = c.at-n.ensures.0 in
     let m = l.2.same 578 (omega arith) in
     let h = c.loop-i-test.true in record {
-  known_of = known_kept c.requires.known_of l.2;
-  based = l.3;
-  i_bound = omega (arith, n, m, h);
-}
+      known_of = known_kept c.requires.known_of l.2;
+      based = l.3;
+      i_bound = omega (arith, n, m, h);
+    }
 
 pub returns-then-row-eq-NO_CHOICE : goal.returns-then-row-eq-NO_CHOICE
 returns-then-row-eq-NO_CHOICE c =

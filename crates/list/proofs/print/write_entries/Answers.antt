@@ -11,7 +11,7 @@ pub write_title-next-requires : goal.write_title-next-requires
 write_title-next-requires c = let p = c.requires in title_fits _ _ _ p.0 (omega (arith, few_entries _ _ _ p.1)) p.2
 
 pub write_lines-requires : goal.write_lines-requires
-write_lines-requires c = 
+write_lines-requires c =
     let p = c.requires in
     let r = lines_fit _ _ _ _ p.0 p.1 (λ i q. omega (arith, c.type_inv.words i)) p.2 c.write_title-next.ensures in
     record { count_in_bounds = r.0; words_in_bounds = r.1 }

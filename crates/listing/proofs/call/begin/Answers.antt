@@ -8,18 +8,18 @@ use Rattle.listing.proofs.call.begin.Goals as goal
 pub begin_shared-begun-requires : goal.begin_shared-begun-requires
 begin_shared-begun-requires c =
     let p = c.requires in record {
-  sections = p.listable.sections;
-  heads_len = (p.heads_len.0, p.heads_len.1, omega (arith, p.heads_len.2));
-}
+      sections = p.listable.sections;
+      heads_len = (p.heads_len.0, p.heads_len.1, omega (arith, p.heads_len.2));
+    }
 
 pub put_sides-requires : goal.put_sides-requires
 put_sides-requires c =
     let p = c.requires in
     let g = p.listable in
     let b = c.begin_shared-begun.ensures in record {
-  left_len_bound = (g.left_few, g.right_few, g.left_labels_lem, g.right_labels_lem, b.begins_shared.lists.within, simp length-set (b.by_index.1 ∙ p.heads_len.2));
-  all_bytes = (left_bytes g b.begins_shared, right_bytes g b.begins_shared);
-}
+      left_len_bound = (g.left_few, g.right_few, g.left_labels_lem, g.right_labels_lem, b.begins_shared.lists.within, simp length-set (b.by_index.1 ∙ p.heads_len.2));
+      all_bytes = (left_bytes g b.begins_shared, right_bytes g b.begins_shared);
+    }
 
 pub overflow_add-result : goal.overflow_add-result
 overflow_add-result c =

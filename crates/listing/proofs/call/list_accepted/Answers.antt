@@ -75,10 +75,10 @@ list_single-requires c =
     let y = g.right_nodes 0 (omega (arith, u.1)) in
     let d = c.node_at.ensures in
     let e = c.node_at-then-is_single.ensures in record {
-  sections = g.sections;
-  a_bound = (omega (arith, x, d), omega (arith, y, e), u.4);
-  arguments_len_bound = parts_few p;
-}
+      sections = g.sections;
+      a_bound = (omega (arith, x, d), omega (arith, y, e), u.4);
+      arguments_len_bound = parts_few p;
+    }
 
 pub returns-then-is_single : goal.returns-then-is_single
 returns-then-is_single c =

@@ -9,6 +9,6 @@ list_with_room-requires c =
     let g = c.requires in
     let x = c.index-n in
     let e = x.ensures.0 ∙ c.node_count.ensures in record {
-  listable = g;
-  heads_len = (first_long x.result (omega (arith, e, g.sections.limit)) ∙ e, refl, refl);
-}
+      listable = g;
+      heads_len = (first_long x.result (omega (arith, e, g.sections.limit)) ∙ e, refl, refl);
+    }

@@ -7,9 +7,9 @@ use Rattle.symbols.proofs.symbols.first_may.Goals as goal
 pub may-requires : goal.may-requires
 may-requires c =
     let n = c.requires.sections.1.node c.loop-j.j c.loop-j-test.true in record {
-  sections = c.requires.sections.0;
-  a_bound = (c.requires.a_bound, omega (arith, n, c.node_at.ensures));
-}
+      sections = c.requires.sections.0;
+      a_bound = (c.requires.a_bound, omega (arith, n, c.node_at.ensures));
+    }
 
 pub loop-j-preserved : goal.loop-j-preserved
 loop-j-preserved c =

@@ -12,9 +12,9 @@ returns-then-m-left c = λ z. too_few c.if-m-left.true
 pub first_may-j-requires : goal.first_may-j-requires
 first_may-j-requires c =
     let n = c.requires.1.node c.loop-i.i c.loop-i-test.true in record {
-  sections = (c.requires.0, c.requires.2);
-  a_bound = omega (arith, n, c.node_at.ensures);
-}
+      sections = (c.requires.0, c.requires.2);
+      a_bound = omega (arith, n, c.node_at.ensures);
+    }
 
 pub returns-then-j-m : goal.returns-then-j-m
 returns-then-j-m c =

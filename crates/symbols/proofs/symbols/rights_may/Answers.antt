@@ -13,9 +13,9 @@ returns-then-n-right c = λ z. too_few c.if-n-right.true
 pub first_may-requires : goal.first_may-requires
 first_may-requires c =
     let n = c.requires.2.node c.loop-j.j c.loop-j-test.true in record {
-  sections = (c.requires.0, c.requires.1);
-  a_bound = omega (arith, n, c.node_at.ensures);
-}
+      sections = (c.requires.0, c.requires.1);
+      a_bound = omega (arith, n, c.node_at.ensures);
+    }
 
 pub returns-then-first_may-n : goal.returns-then-first_may-n
 returns-then-first_may-n c =

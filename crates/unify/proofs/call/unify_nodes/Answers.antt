@@ -15,7 +15,7 @@ unify_with_room-requires c =
     let i = c.index-count in
     let l = c.requires.limit in
     let long = first_long i.result (omega (arith, l, i.ensures.0, n.ensures)) ∙ i.ensures.0 ∙ n.ensures in record {
-  sections = c.requires;
-  a_bound = nodes_given c.args.nodes.now c.args.arguments.now _ _ _ n.ensures c.if-a-n.false;
-  heads_len = (long, refl, search rules);
-}
+      sections = c.requires;
+      a_bound = nodes_given c.args.nodes.now c.args.arguments.now _ _ _ n.ensures c.if-a-n.false;
+      heads_len = (long, refl, search rules);
+    }

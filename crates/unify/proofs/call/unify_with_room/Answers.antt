@@ -11,10 +11,10 @@ returns-then-out-v c =
 pub extend-requires : goal.extend-requires
 extend-requires c =
     let g = c.begin_shared-begun.ensures in record {
-  sections = (c.requires.sections, g.counts);
-  formed = (g.begins_shared.formed _ g.counts, g.trailed);
-  a_bound = c.requires.a_bound;
-}
+      sections = (c.requires.sections, g.counts);
+      formed = (g.begins_shared.formed _ g.counts, g.trailed);
+      a_bound = c.requires.a_bound;
+    }
 
 pub slice_bounds-bind-end : goal.slice_bounds-bind-end
 slice_bounds-bind-end c =
@@ -33,10 +33,10 @@ bind-requires c =
     let x = c.extend.ensures in
     let e = c.in-Unified.is in
     let opens = opens_given _ b.new.counts b.result.opens g.open_listed in record {
-  sections = (c.requires.sections, g.counts);
-  formed = (x.formed e g.begins_shared.pairs g.begins_shared.stands, opens);
-  list_value = list_given _ _ b.new.counts b.result.variables _ g.begins_shared.lists c.if-out-v.false;
-}
+      sections = (c.requires.sections, g.counts);
+      formed = (x.formed e g.begins_shared.pairs g.begins_shared.stands, opens);
+      list_value = list_given _ _ b.new.counts b.result.variables _ g.begins_shared.lists c.if-out-v.false;
+    }
 
 pub returns-in-Clash : goal.returns-in-Clash
 returns-in-Clash c =

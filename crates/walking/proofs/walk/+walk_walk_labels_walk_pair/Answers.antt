@@ -17,9 +17,9 @@ walk-write_leaf-requires t c =
 pub walk-returns-then-i-at : goal.walk-returns-then-i-at
 walk-returns-then-i-at t c =
     let g = c.requires in record {
-  walked = placed_walked g (c.if-i-at.true ∙ c.at.ensures.0) c.write_leaf.ensures;
-  heads_unchanged = (refl, refl);
-}
+      walked = placed_walked g (c.if-i-at.true ∙ c.at.ensures.0) c.write_leaf.ensures;
+      heads_unchanged = (refl, refl);
+    }
 
 pub walk-loop-d-init : goal.walk-loop-d-init
 walk-loop-d-init t c =
@@ -74,9 +74,9 @@ walk-returns-then-used t c =
     let h = going_on g (λ z. c.if-i-at.false (z ∙ sym c.at.ensures.0)) in
     let b : length c.args.out.now < full = search rules in
     let y = c.walk_pair-used.ensures in record {
-  walked = turning_full g h l.3 l.1 (omega ( arith, l.0, c.loop-d-test.true, )) y.stepped b c.if-used.true;
-  heads_unchanged = (y.heads_unchanged.0 ∙ l.1, y.heads_unchanged.1 ∙ l.2);
-}
+      walked = turning_full g h l.3 l.1 (omega (arith, l.0, c.loop-d-test.true)) y.stepped b c.if-used.true;
+      heads_unchanged = (y.heads_unchanged.0 ∙ l.1, y.heads_unchanged.1 ∙ l.2);
+    }
 
 pub walk-loop-d-preserved : goal.walk-loop-d-preserved
 walk-loop-d-preserved t c =
@@ -142,18 +142,18 @@ walk-returns t c =
     let l = c.loop-d.invariant in
     let h = going_on g (λ z. c.if-i-at.false (z ∙ sym c.at.ensures.0)) in
     let y = c.walk_labels.ensures in record {
-  walked = turning_done g h l.3 l.1 y.stepped_from;
-  heads_unchanged = (y.heads_unchanged.0 ∙ l.1, y.heads_unchanged.1 ∙ l.2);
-}
+      walked = turning_done g h l.3 l.1 y.stepped_from;
+      heads_unchanged = (y.heads_unchanged.0 ∙ l.1, y.heads_unchanged.1 ∙ l.2);
+    }
 
 pub walk_labels-returns-then-last-d : goal.walk_labels-returns-then-last-d
 walk_labels-returns-then-last-d t c =
     let g = c.requires.walking in
     let h = c.requires.term_bound.0 in
     let l = c.requires.term_bound.1 in record {
-  stepped_from = none_stepped g h l (omega (arith, c.if-last-d.true, c.at.ensures.0, c.at-2.ensures.0));
-  heads_unchanged = (refl, refl);
-}
+      stepped_from = none_stepped g h l (omega (arith, c.if-last-d.true, c.at.ensures.0, c.at-2.ensures.0));
+      heads_unchanged = (refl, refl);
+    }
 
 pub walk_labels-can_complete-requires : goal.walk_labels-can_complete-requires
 walk_labels-can_complete-requires t c =
@@ -167,9 +167,9 @@ walk_labels-returns-then-not-can_complete t c =
     let g = c.requires.walking in
     let h = c.requires.term_bound.0 in
     let l = c.requires.term_bound.1 in record {
-  stepped_from = lost_stepped g h l (sym c.can_complete.ensures ∙ c.if-not-can_complete.true);
-  heads_unchanged = (refl, refl);
-}
+      stepped_from = lost_stepped g h l (sym c.can_complete.ensures ∙ c.if-not-can_complete.true);
+      heads_unchanged = (refl, refl);
+    }
 
 pub walk_labels-put_digit-requires : goal.walk_labels-put_digit-requires
 walk_labels-put_digit-requires t c =
@@ -201,9 +201,9 @@ walk_labels-returns-then-used t c =
     let l = c.requires.term_bound.1 in
     let b : length c.args.out.now < full = search rules in
     let y = c.walk-used.ensures in record {
-  stepped_from = label_full g h l c.put_digit.ensures (omega ( arith, c.if-last-d.false, c.at.ensures.0, c.at-2.ensures.0, )) y.walked b c.if-used.true;
-  heads_unchanged = (y.heads_unchanged.0, y.heads_unchanged.1);
-}
+      stepped_from = label_full g h l c.put_digit.ensures (omega (arith, c.if-last-d.false, c.at.ensures.0, c.at-2.ensures.0)) y.walked b c.if-used.true;
+      heads_unchanged = (y.heads_unchanged.0, y.heads_unchanged.1);
+    }
 
 pub walk_labels-returns-then-d-last : goal.walk_labels-returns-then-d-last
 walk_labels-returns-then-d-last t c =
@@ -211,9 +211,9 @@ walk_labels-returns-then-d-last t c =
     let h = c.requires.term_bound.0 in
     let l = c.requires.term_bound.1 in
     let y = c.walk-used.ensures in record {
-  stepped_from = labels_one g h l c.put_digit.ensures (omega ( arith, c.if-last-d.false, c.at.ensures.0, c.at-2.ensures.0, )) y.walked c.if-used.false (omega ( arith, c.if-d-last.true, c.at.ensures.0, c.at-2.ensures.0, ));
-  heads_unchanged = (y.heads_unchanged.0, y.heads_unchanged.1);
-}
+      stepped_from = labels_one g h l c.put_digit.ensures (omega (arith, c.if-last-d.false, c.at.ensures.0, c.at-2.ensures.0)) y.walked c.if-used.false (omega (arith, c.if-d-last.true, c.at.ensures.0, c.at-2.ensures.0));
+      heads_unchanged = (y.heads_unchanged.0, y.heads_unchanged.1);
+    }
 
 pub walk_labels-at-requires-3 : goal.walk_labels-at-requires-3
 walk_labels-at-requires-3 t c =
@@ -257,27 +257,27 @@ walk_labels-returns t c =
     let l = c.requires.term_bound.1 in
     let y = c.walk-used.ensures
     in record {
-  stepped_from = labels_stepped g h l c.put_digit.ensures (omega ( arith, c.if-last-d.false, c.at.ensures.0, c.at-2.ensures.0, )) y.walked c.if-used.false c.at-3.ensures.0 (omega ( arith, c.at.ensures.0, c.at-2.ensures.0, )) c.repeat.ensures;
-  heads_unchanged = (y.heads_unchanged.0, y.heads_unchanged.1);
-}
+      stepped_from = labels_stepped g h l c.put_digit.ensures (omega (arith, c.if-last-d.false, c.at.ensures.0, c.at-2.ensures.0)) y.walked c.if-used.false c.at-3.ensures.0 (omega (arith, c.at.ensures.0, c.at-2.ensures.0)) c.repeat.ensures;
+      heads_unchanged = (y.heads_unchanged.0, y.heads_unchanged.1);
+    }
 
 pub walk_pair-is_open-requires : goal.walk_pair-is_open-requires
 walk_pair-is_open-requires t c =
     let g = c.requires.walking in
     let h = c.requires.term_bound.0 in
     let l = c.requires.term_bound.1 in record {
-  known_len = (g.knows.size, g.completable.size);
-  i_bound = ( omega (arith, h, g.knows.left_few), g.positive, omega (arith, l, g.knows.right_few), paired_small g, );
-}
+      known_len = (g.knows.size, g.completable.size);
+      i_bound = (omega (arith, h, g.knows.left_few), g.positive, omega (arith, l, g.knows.right_few), paired_small g);
+    }
 
 pub walk_pair-returns-then-not-is_open : goal.walk_pair-returns-then-not-is_open
 walk_pair-returns-then-not-is_open t c =
     let g = c.requires.walking in
     let h = c.requires.term_bound.0 in
     let l = c.requires.term_bound.1 in record {
-  stepped = closed_stepped g h l c.is_open.ensures c.if-not-is_open.true;
-  heads_unchanged = (refl, refl);
-}
+      stepped = closed_stepped g h l c.is_open.ensures c.if-not-is_open.true;
+      heads_unchanged = (refl, refl);
+    }
 
 pub walk_pair-bounds-next-256 : goal.walk_pair-bounds-next-256
 walk_pair-bounds-next-256 t c =
@@ -291,10 +291,10 @@ walk_pair-join_pair-requires t c =
     let g = c.requires.walking in
     let h = c.requires.term_bound.0 in
     let l = c.requires.term_bound.1 in record {
-  known_of = g.knows;
-  formed = (g.formed, g.trailed);
-  i_bound = (h, g.positive, l);
-}
+      known_of = g.knows;
+      formed = (g.formed, g.trailed);
+      i_bound = (h, g.positive, l);
+    }
 
 pub walk_pair-returns-then-not-join_pair : goal.walk_pair-returns-then-not-join_pair
 walk_pair-returns-then-not-join_pair t c =
@@ -400,6 +400,6 @@ walk_pair-returns t c =
     c.if-not-is_open.false in
     let x = c.join_pair.ensures in
     let e = c.if-not-join_pair.false in record {
-  stepped = joined_stepped g h l x e f c.put_pair.ensures c.walk-used.ensures.walked c.put_back.ensures;
-  heads_unchanged = joins_undone g h l x e c.walk-used.ensures.heads_unchanged c.undo.ensures;
-}
+      stepped = joined_stepped g h l x e f c.put_pair.ensures c.walk-used.ensures.walked c.put_back.ensures;
+      heads_unchanged = joins_undone g h l x e c.walk-used.ensures.heads_unchanged c.undo.ensures;
+    }

@@ -11,10 +11,10 @@ pub bind-requires : goal.bind-requires
 bind-requires c =
     let k = c.requires.known_of.0 in
     let l = list_part k _ c.at-list_end.ensures.0 in record {
-  sections = (k.sections, k.counts);
-  formed = (c.requires.known_of.1, opens_part k _ c.at-opens_end.ensures.0);
-  list_value = ( l, omega ( arith, k.width, c.requires.len, c.at-list_end.ensures.0, c.at-2.ensures.0, c.at.ensures.0, ), );
-}
+      sections = (k.sections, k.counts);
+      formed = (c.requires.known_of.1, opens_part k _ c.at-opens_end.ensures.0);
+      list_value = (l, omega (arith, k.width, c.requires.len, c.at-list_end.ensures.0, c.at-2.ensures.0, c.at.ensures.0));
+    }
 
 pub returns : goal.returns
 returns c =

@@ -24,9 +24,9 @@ write_rights-requires c =
     let q = p.auto.entry in
     let e = c.at-n.ensures.0 in
     let f = c.at-2.ensures.0 in record {
-  k_le_max_labels = omega ( arith, g.knows.left_labels_lem, g.knows.width, g.branching.size, g.room, d, e, f, q, c.if-out-at.false, );
-  nonzero = (omega (arith, g.wide, g.branching.size, q), read_least g w p.ensures q _ _ _ d e f);
-}
+      k_le_max_labels = omega (arith, g.knows.left_labels_lem, g.knows.width, g.branching.size, g.room, d, e, f, q, c.if-out-at.false);
+      nonzero = (omega (arith, g.wide, g.branching.size, q), read_least g w p.ensures q _ _ _ d e f);
+    }
 
 pub returns : goal.returns
 returns c =
