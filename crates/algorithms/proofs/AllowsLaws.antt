@@ -16,7 +16,6 @@ use Rattle.terms.specs.Multiset.{occurrences, Same}
 use Rattle.unification.specs.Node.{tabulate}
 use Rattle.unification.specs.Unifier.{value}
 use Rattle.unification.specs.Words.{Reads}
-use Rattle.unification.specs.Computed.Unifying.{unifier}
 use Rattle.unification.proofs.ListLaws.{length_none, placed, member_place}
 use Rattle.unification.proofs.NodeLaws.{value_agree}
 use Rattle.unification.proofs.FlatLaws.{flat_flat}

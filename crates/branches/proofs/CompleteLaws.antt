@@ -26,7 +26,7 @@ use Rattle.multiset_unification.specs.Computed.Choices.{branch}
 use Rattle.entries.specs.Code.Writing.{marked}
 use Rattle.branches.specs.Code.Known.{left_count, right_count, left_labels, right_labels, left_in, right_in, rows_in, KnownOf}
 use Rattle.branches.specs.Code.Ahead.{has, partner_at, completes, completes_from, NeverOn, MayPair, PairedSet}
-use Rattle.branches.specs.Code.Walk.{over, on_digit, below}
+use Rattle.branches.specs.Code.Walk.{on_digit, below}
 use Rattle.branches.proofs.SetLaws.{unpaired_not, paired_more, paired_some}
 use Rattle.branches.proofs.OverLaws.{over_none, digit_empty}
 use Rattle.branches.proofs.KnownLaws.{left_long, right_long, rows_long, left_word, right_word, row_word}

@@ -1,7 +1,7 @@
 -- What can still be completed: sets of right terms, the pairs that may be, and a bit for each left term and each set of paired right terms.
-use Rattle.std.specs.Prelude.{ℕ, ◌+◌, ◌-◌, ◌*◌, ◌/◌, ◌%◌, ◌^◌, ◌≤◌, ◌<◌, Bool, true, false, not, ◌&&◌, ◌||◌, List, [], ◌∷◌, ◌≡◌, eqb, length, drop}
+use Rattle.std.specs.Prelude.{ℕ, ◌+◌, ◌*◌, ◌/◌, ◌%◌, ◌^◌, ◌<◌, Bool, true, false, not, ◌&&◌, ◌||◌, List, [], ◌∷◌, ◌≡◌, eqb, length, drop}
 use Rattle.table.specs.Some.{some_below}
-use Rattle.table.specs.Layout.{word, node_count}
+use Rattle.table.specs.Layout.{word}
 use Rattle.terms.specs.Substitution.{Substitution}
 use Rattle.unification.specs.Node.{Node, nodes_from}
 use Rattle.unification.specs.Unifier.{Unifies}

@@ -1,5 +1,4 @@
 -- The rows before row i have every pair, and nothing else changes.
-use Prim.Native.Nat.{◌-◌}
 use mathlib.Core.Path.{refl}
 use native.Mathlib.Omega.{arith}
 use Rattle.ahead.proofs.AheadLaws.{whole_first, whole_turn, whole_end}

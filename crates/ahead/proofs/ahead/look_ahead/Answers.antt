@@ -1,7 +1,6 @@
 -- Each way out has its law: no fit, every pair left, or the bits filled, once or twice.
 use mathlib.Core.Path.{refl, sym}
 use native.Mathlib.Omega.{arith}
-use borrow.Author.Tests.{not-true, not-false}
 use Rattle.branches.proofs.KnownLaws.{known_kept, formed_kept, keeps_all, keeps_twice}
 use Rattle.ahead.proofs.AheadLaws.{looks_unfit, looks_whole, looks_planned, looks_as, planning, planning_again, rows_kept, rows_back}
 use Rattle.ahead.proofs.ahead.look_ahead.Goals as goal

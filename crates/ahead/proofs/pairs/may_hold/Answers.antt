@@ -1,5 +1,4 @@
 -- Every read is within its list.
-use Prim.Native.Nat.{◌-◌}
 use native.Mathlib.Omega.{arith}
 use Rattle.nodes.proofs.OpenLaws.{looked_at}
 use Rattle.ahead.proofs.pairs.may_hold.Goals as goal

@@ -2,7 +2,6 @@
 use mathlib.Core.Bool.{false≢true}
 use mathlib.Core.Path.{refl, sym, ◌∙◌}
 use native.Mathlib.Omega.{arith}
-use borrow.Author.Tests.{not-true}
 use Rattle.ahead.proofs.StruckLaws.{never_named}
 use Rattle.ahead.proofs.pairs.stays.Goals as goal
 

@@ -1,5 +1,4 @@
 -- Of the right terms so far the row lacks only those that differ at once.
-use Prim.Native.Nat.{◌-◌}
 use mathlib.Core.Path.{refl}
 use native.Mathlib.Omega.{arith}
 use borrow.Author.Tests.{eqb-true, not-false}

@@ -1,5 +1,4 @@
 -- Every row stays right, and where none became smaller, what is known is as before.
-use Prim.Native.Nat.{◌-◌}
 use mathlib.Core.Path.{refl, ap, ◌∙◌}
 use native.Mathlib.Omega.{arith}
 use lib.ListN.{length}

@@ -1,5 +1,4 @@
 -- Of the right terms so far the row lacks only those that were no partners, or failed.
-use Prim.Native.Nat.{◌-◌}
 use mathlib.Core.Path.{refl, ap, ◌∙◌}
 use native.Mathlib.Omega.{arith}
 use lib.ListN.{length}

@@ -1,6 +1,5 @@
 -- The bit of the whole set is written last.
 use mathlib.Core.Path.{refl}
-use borrow.Author.Tests.{not-true, not-false}
 use Rattle.ahead.proofs.PlanLaws.{ends_none, ends_whole}
 use Rattle.ahead.proofs.plan.end_row.Goals as goal
 

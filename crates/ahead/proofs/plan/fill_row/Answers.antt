@@ -1,5 +1,4 @@
 -- The words before word x are filled from the row after it, which stays.
-use Prim.Native.Nat.{◌-◌}
 use mathlib.Core.Path.{refl}
 use native.Mathlib.Omega.{arith}
 use borrow.Author.Rules.{rules}

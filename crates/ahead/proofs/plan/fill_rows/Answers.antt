@@ -1,5 +1,4 @@
 -- Each row is filled from the row after it, whose bits are right.
-use Prim.Native.Nat.{◌-◌}
 use mathlib.Core.Path.{refl, ◌∙◌}
 use native.Mathlib.Omega.{arith}
 use Rattle.ahead.proofs.PlanLaws.{completable_at, every_few, rows_turn}

@@ -1,5 +1,4 @@
 -- The heads of the first p nodes have no arguments.
-use Prim.Native.Nat.{◌-◌}
 use mathlib.Core.Bool.{false≢true}
 use native.Mathlib.Omega.{arith}
 use borrow.Author.Rules.{rules}

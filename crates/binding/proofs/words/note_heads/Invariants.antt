@@ -1,5 +1,5 @@
 -- The nodes from place k on are noted at their heads.
-use Prim.Native.Nat.{◌≤◌, ◌-◌}
+use Prim.Native.Nat.{◌≤◌}
 use lib.ListN.{length}
 use Rattle.binding.specs.Code.Binding.{HeadsFrom}
 use Rattle.binding.proofs.words.note_heads.Given as goal

@@ -1,5 +1,4 @@
 -- The terms so far are put, each as a byte. As `values::bytes::put_bytes`.
-use Prim.Native.Nat.{◌-◌}
 use mathlib.Core.Path.{◌≡◌, refl, ◌∙◌}
 use native.Mathlib.Omega.{arith}
 use borrow.Author.Rules.{rules}

@@ -1,10 +1,8 @@
 -- `earlier` is the sum of the counts so far, and no node so far is wrong.
-use Prim.Native.Nat.{◌-◌}
 use mathlib.Core.Path.{◌≡◌, refl, ◌∙◌}
-use mathlib.Core.Bool.{true, false}
+use mathlib.Core.Bool.{true}
 use native.Mathlib.Omega.{arith}
 use borrow.Author.Rules.{rules}
-use borrow.Author.Tests.{not-true, not-false}
 use Rattle.table.specs.Some.{some_below}
 use Rattle.table.specs.Layout.{counts_before}
 use Rattle.checking.proofs.LoopLaws.{NodeTested, node_wrong, node_right, count_small, earlier_next, nodes_end}

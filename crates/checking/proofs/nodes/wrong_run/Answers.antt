@@ -1,7 +1,5 @@
 -- No argument of the node so far is wrong.
-use Prim.Native.Nat.{◌-◌}
 use mathlib.Core.Path.{refl, ◌∙◌}
-use mathlib.Core.Bool.{false}
 use borrow.Author.Rules.{rules}
 use Rattle.table.specs.Some.{some_below}
 use Rattle.checking.proofs.LoopLaws.{argument_wrong, argument_right, arguments_end}

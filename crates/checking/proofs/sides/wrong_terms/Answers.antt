@@ -1,7 +1,5 @@
 -- No term so far is wrong.
-use Prim.Native.Nat.{◌-◌}
 use mathlib.Core.Path.{refl, sym}
-use mathlib.Core.Bool.{false}
 use borrow.Author.Rules.{rules}
 use Rattle.table.specs.Some.{some_below}
 use Rattle.table.specs.Conditions.{wrong_term}

@@ -1,11 +1,9 @@
 -- The measure is the number of classes: two are joined before their heads' arguments are. Each way out is one of the ways in which two classes are joined.
-use Prim.Native.Nat.{ℕ, ◌<◌, ◌-◌}
+use Prim.Native.Nat.{ℕ, ◌<◌}
 use mathlib.Core.Bool.{true, ◌&&◌}
-use mathlib.Core.Logic.{⊎_elim}
 use mathlib.Core.Path.{◌≡◌, refl, ap, ◌∙◌}
 use native.Mathlib.Omega.{arith}
 use borrow.Author.Rules.{rules}
-use borrow.Author.Tests.{not-true, not-false}
 use lib.Dec.{eqb}
 use Rattle.table.specs.Layout.{kind_of, count_of, node_count, argument_of}
 use Rattle.unification.specs.Computed.Classes.{class_of}

@@ -1,6 +1,5 @@
 -- The measure is the number of new nodes: a visit opens one before it visits others. A head that is not due is done already, or none of its arguments is looked at.
-use Prim.Native.Nat.{◌<◌, ◌-◌}
-use mathlib.Core.Logic.{⊎_elim}
+use Prim.Native.Nat.{◌<◌}
 use mathlib.Core.Path.{sym, ◌∙◌}
 use native.Mathlib.Omega.{arith}
 use borrow.Author.Rules.{rules}

@@ -1,5 +1,4 @@
 -- What is found of the arguments so far is carried from argument to argument.
-use Prim.Native.Nat.{◌-◌}
 use mathlib.Core.Path.{refl}
 use native.Mathlib.Omega.{arith}
 use borrow.Author.Rules.{rules}

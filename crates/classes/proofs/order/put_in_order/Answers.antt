@@ -1,6 +1,4 @@
 -- The heads of the nodes of the list so far are done, if arguments of theirs are looked at, and no node is open. As there is an order, no class leads to itself.
-use Prim.Native.Nat.{◌-◌}
-use mathlib.Core.Logic.{⊎_elim}
 use mathlib.Core.Path.{sym, ◌∙◌}
 use native.Mathlib.Omega.{arith}
 use borrow.Author.Rules.{rules}

@@ -1,6 +1,5 @@
 -- A clash, a cycle, or classes of the longer list that can be put in order. A failure is undone.
 use native.Mathlib.Omega.{arith}
-use borrow.Author.Tests.{not-true, not-false}
 use Rattle.classes.proofs.TrailLaws.{merges_since, merges_back}
 use Rattle.classes.proofs.ExtensionLaws.{extends_clash, extends_occurs, extends_unified}
 use Rattle.classes.proofs.settle.extend.Goals as goal

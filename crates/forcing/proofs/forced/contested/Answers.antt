@@ -1,5 +1,4 @@
 -- What more than one row before row i has is in the second set.
-use Prim.Native.Nat.{◌-◌}
 use native.Mathlib.Omega.{arith}
 use borrow.Author.Rules.{rules}
 use Rattle.forcing.proofs.TakerLaws.{taken_first, taken_turn, taken_end}

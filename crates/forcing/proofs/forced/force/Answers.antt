@@ -1,5 +1,4 @@
 -- Left terms first, and right terms on top of them.
-use borrow.Author.Tests.{not-true, not-false}
 use Rattle.forcing.proofs.ForcedLaws.{forced_failed}
 use Rattle.forcing.proofs.forced.force.Goals as goal
 

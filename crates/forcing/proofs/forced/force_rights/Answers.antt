@@ -1,6 +1,4 @@
 -- The classes stand for what every choice has, right term by right term.
-use Prim.Native.Nat.{◌-◌}
-use borrow.Author.Tests.{not-true, not-false}
 use native.Mathlib.Omega.{arith}
 use Rattle.forcing.proofs.ForcedLaws.{forced_none, forced_failed}
 use Rattle.forcing.proofs.forced.force_rights.Goals as goal

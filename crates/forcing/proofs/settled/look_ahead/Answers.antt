@@ -1,6 +1,5 @@
 -- Each way out has its law: every pair left, the bits filled, or all of it settled.
 use native.Mathlib.Omega.{arith}
-use borrow.Author.Tests.{not-true}
 use Rattle.branches.proofs.KnownLaws.{known_kept}
 use Rattle.forcing.proofs.SettledLaws.{struck_based, looks_whole, looks_based, looks_cannot, looks_since, planning, planned}
 use Rattle.forcing.proofs.settled.look_ahead.Goals as goal

@@ -1,7 +1,5 @@
 -- After each round the rows, the bits and the classes are right.
-use Prim.Native.Nat.{◌-◌}
 use mathlib.Core.Path.{sym, ◌∙◌}
-use borrow.Author.Tests.{not-true}
 use Rattle.forcing.proofs.SettledLaws.{settling_first, settling_known, settling_end, settling_none, settling_same, settling_plan, settling_cannot, settling_again}
 use Rattle.forcing.proofs.settled.settle.Goals as goal
 

@@ -1,5 +1,4 @@
 -- Pairs that every choice has are unified, and the others are tried, or nothing is to be done.
-use borrow.Author.Tests.{not-true, not-false}
 use Rattle.forcing.proofs.SettledLaws.{settles_never, settles_same}
 use Rattle.forcing.proofs.settled.settle_round.Goals as goal
 

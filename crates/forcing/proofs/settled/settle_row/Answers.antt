@@ -1,6 +1,5 @@
 -- The row lacks only pairs that never join, and the only partner is one in every choice.
 use mathlib.Core.Path.{refl}
-use borrow.Author.Tests.{not-true, not-false}
 use native.Mathlib.Omega.{arith}
 use Prim.Native.Nat.{◌<◌}
 use lib.ListN.{length, length-set}

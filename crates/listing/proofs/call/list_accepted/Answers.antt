@@ -1,7 +1,6 @@
 -- The entries of a table's sections are its complete listing, and there are none where its words show it.
 use mathlib.Core.Path.{ap}
 use native.Mathlib.Omega.{arith}
-use borrow.Author.Tests.{not-true}
 use lib.ListN.{length}
 use Rattle.table.proofs.AcceptedLaws.{readable}
 use Rattle.listing.proofs.CallingLaws.{Parts, parts_listable, parts_listed, parts_single, parts_few, left_side, right_side, never_listed}

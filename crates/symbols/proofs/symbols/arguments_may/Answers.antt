@@ -1,5 +1,4 @@
 -- Two arguments at one place that differ leave the nodes never equal.
-use Prim.Native.Nat.{◌-◌}
 use mathlib.Core.Path.{sym}
 use mathlib.Core.Bool.{false≢true}
 use native.Mathlib.Omega.{arith}

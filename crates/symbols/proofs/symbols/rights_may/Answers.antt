@@ -1,5 +1,4 @@
 -- It refuses where right terms are too many or one is alone.
-use Prim.Native.Nat.{◌-◌}
 use mathlib.Core.Path.{sym}
 use mathlib.Core.Bool.{false≢true}
 use native.Mathlib.Omega.{arith}

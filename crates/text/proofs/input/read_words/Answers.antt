@@ -1,5 +1,4 @@
 -- The words so far, and those of the bytes that are left, are the words of all bytes.
-use Prim.Native.Nat.{◌-◌}
 use mathlib.Core.Path.{refl}
 use borrow.Author.Rules.{rules}
 use Rattle.text.proofs.InputLaws.{reading_goes_on, reading_ends}

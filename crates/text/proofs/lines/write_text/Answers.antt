@@ -1,5 +1,4 @@
 -- Each turn writes a byte, and the rest is left.
-use Prim.Native.Nat.{◌-◌}
 use borrow.Author.Rules.{rules}
 use lib.ListN.{drop_of_length-le}
 use Rattle.text.proofs.LineLaws.{text_next, byte_fits}
