@@ -4,7 +4,7 @@
 help:
 	@tools/help
 
-# Proves every crate from nothing, tries the edits that must be refused, and runs the tests. Ends in 'N passed, 0 failed'.
+# Proves every crate, tries the edits that must be refused, both by `rt ci`, and runs the tests. Ends in 'N passed, 0 failed'.
 test:
 	@tools/test
 
@@ -25,7 +25,7 @@ install: lib
 SEED ?= 2
 compare: TABLES ?= 20000
 compare:
-	rt check list examples
+	@tools/prove list examples
 	@tools/lib
 	cargo build --manifest-path tests/Cargo.toml --release --offline --locked
 	PALLIHUN_LIB_DIR=$(CURDIR)/target/lib cargo build --manifest-path tests/in_process/Cargo.toml --release --offline --locked
