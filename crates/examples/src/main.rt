@@ -5,9 +5,8 @@
 ghost use Rattle.std.specs.Prelude.{◌≡◌, ◌+◌, ◌≤◌, ◌<◌, length, take, IfOk, IfSome};
 
 use multiset_unification::Listing;
-use std::alloc::Global;
 use std::io;
-use std::io::{Read, Write};
+use std::io::{ErrorKind, Read, Write};
 use table::{Checked, Node, Refusal};
 use unification::Unification;
 
@@ -291,22 +290,32 @@ fn run(out: &mut impl Write, input: &[u8]) -> io::Result<()> {
     Ok(())
 }
 
-// Reads an input up to the most bytes.
-fn read_input<R: Read>(alloc: Global, input: R) -> io::Result<Vec<u8>>
-where
-    R: Drop,
-    ensures { IfOk result (λ v. IfSome (R.remaining input) (λ xs. v.items ≡ take 262144 xs)) }
+// Reads until the bytes are full or the input ends, and answers how many were read. A read that is interrupted is tried again.
+fn read_full<R: Read>(input: &mut R, bytes: &mut [u8]) -> io::Result<usize>
+    ensures { IfOk result (λ n. (n ≤ length bytes.new) × IfSome (R.remaining input.old) (λ xs. take n bytes.new ≡ take (length bytes.old) xs)) }
 {
-    let mut bytes = Vec::new(alloc);
-    input.take(MOST_BYTES as u64).read_to_end(&mut bytes)?;
-    Ok(bytes)
+    let mut n: usize = 0;
+    // A loop is proved to end, so this one counts its turns.
+    for _ in 0..u64::MAX {
+        if n == bytes.len() {
+            return Ok(n);
+        }
+        match input.read(&mut bytes[n..]) {
+            Ok(0) => return Ok(n),
+            Ok(more) => n += more,
+            Err(e) if e.kind() == ErrorKind::Interrupted => {}
+            Err(e) => return Err(e),
+        }
+    }
+    Err(ErrorKind::TimedOut.into())
 }
 
 fn main(rt: HostRuntime) -> io::Result<()> {
-    let input = read_input(rt.alloc(), rt.reader())?;
+    let mut input = [0u8; MOST_BYTES];
+    let n = read_full(&mut rt.reader(), &mut input)?;
     let mut out = io::writer(&rt);
-    if input.len() == MOST_BYTES {
+    if n == MOST_BYTES {
         return print(&mut out, b"too much input\n");
     }
-    run(&mut out, &input)
+    run(&mut out, &input[0..n])
 }

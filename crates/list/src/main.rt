@@ -1,14 +1,13 @@
 // The program `list`: lists the unifiers of the two sides of the table on its standard input.
 #![tactic(auto)]
 
-ghost use Rattle.std.specs.Prelude.{take, IfOk, IfSome, OnOk, ◌≡◌};
+ghost use Rattle.std.specs.Prelude.{length, take, IfOk, IfSome, OnOk, ◌≡◌, ◌≤◌};
 ghost use Rattle.std.specs.Io.KnownBytes.{Appends};
 ghost use Rattle.list.specs.Printed.{printed};
 
 use print::{MAX_PRINTED, print};
-use std::alloc::Global;
 use std::io;
-use std::io::{Read, Write};
+use std::io::{ErrorKind, Read, Write};
 use text::input::MAX_BYTES;
 
 // What is printed for an input: `print`.
@@ -17,29 +16,37 @@ mod print;
 // One byte more than are accepted is enough to see that there are too many.
 const READ: usize = MAX_BYTES + 1;
 
-// Reads an input as far as it is looked at.
-fn read_input<R: Read>(alloc: Global, input: R) -> io::Result<Vec<u8>>
-where
-    R: Drop,
-    ensures { IfOk result (λ v. IfSome (R.remaining input) (λ xs. v.items ≡ take 6289 xs)) }
+// Reads until the bytes are full or the input ends, and answers how many were read. A read that is interrupted is tried again.
+fn read_full<R: Read>(input: &mut R, bytes: &mut [u8]) -> io::Result<usize>
+    ensures { IfOk result (λ n. (n ≤ length bytes.new) × IfSome (R.remaining input.old) (λ xs. take n bytes.new ≡ take (length bytes.old) xs)) }
 {
-    let mut bytes = Vec::new(alloc);
-    input.take(READ as u64).read_to_end(&mut bytes)?;
-    Ok(bytes)
+    let mut n: usize = 0;
+    // A loop is proved to end, so this one counts its turns.
+    for _ in 0..u64::MAX {
+        if n == bytes.len() {
+            return Ok(n);
+        }
+        match input.read(&mut bytes[n..]) {
+            Ok(0) => return Ok(n),
+            Ok(more) => n += more,
+            Err(e) if e.kind() == ErrorKind::Interrupted => {}
+            Err(e) => return Err(e),
+        }
+    }
+    Err(ErrorKind::TimedOut.into())
 }
 
 // Writes what is printed for an input.
-fn run<R: Read, W: Write>(alloc: Global, input: R, output: &mut W) -> io::Result<()>
-where
-    R: Drop,
-    ensures { OnOk result (IfSome (R.remaining input) (λ xs. Appends (W.contents output.old) (W.contents output.new) (printed xs))) }
+fn run<R: Read, W: Write>(input: &mut R, output: &mut W) -> io::Result<()>
+    ensures { OnOk result (IfSome (R.remaining input.old) (λ xs. Appends (W.contents output.old) (W.contents output.new) (printed xs))) }
 {
-    let bytes = read_input(alloc, input)?;
+    let mut bytes = [0u8; READ];
+    let n = read_full(input, &mut bytes)?;
     let mut out = [0u8; MAX_PRINTED];
-    let printed = print(&bytes, &mut out);
+    let printed = print(&bytes[0..n], &mut out);
     output.write_all(&out[0..printed])
 }
 
 fn main(rt: HostRuntime) -> io::Result<()> {
-    run(rt.alloc(), rt.reader(), &mut io::writer(&rt))
+    run(&mut rt.reader(), &mut io::writer(&rt))
 }

@@ -20,9 +20,9 @@ whole_on_ok (Err e) known old new read written r w h = tt
 
 pub returns : goal.returns
 returns g c =
-    whole_on_ok c.write_all.result (g.R.Read.remaining c.args.input)
+    whole_on_ok c.write_all.result (g.R.Read.remaining c.args.input.now)
     (g.W.Write.contents c.args.output.now) (g.W.Write.contents c.write_all.new.self)
-    c.in_ok-bytes.bytes.items (take c.print-printed.result c.print-printed.new.out)
-    c.in_ok-bytes.ensures
-    (c.print-printed.ensures.1 ∙ ap printed c.deref.ensures.value)
+    (take c.in_ok-n.n c.read_full.new.bytes) (take c.print-printed.result c.print-printed.new.out)
+    c.in_ok-n.ensures.1
+    (rw (sub-zero c.in_ok-n.n) at c.print-printed.ensures.1)
     (rw (sub-zero c.print-printed.result) at c.write_all.ensures.bytes)

@@ -1,7 +1,6 @@
 -- Refusal 11 is tested first, and what is left are the words of a table.
 use mathlib.Core.Path.{◌∙◌, sym}
 use native.Mathlib.Omega.{arith}
-use borrow.Author.Rules.{rules}
 use Rattle.list.proofs.LengthLaws.{title_fits}
 use Rattle.list.proofs.PrintLaws.{wrong_printed, right_bytes, right_printed}
 use Rattle.list.proofs.print.print.Goals as goal
