@@ -85,13 +85,15 @@ pub not_fit_none : (nodes arguments known : List ℕ) → KnownOf nodes argument
 not_fit_none nodes arguments known k (more_left e h) ps =
     let x = left_long k in
     let y = unpaired_ones (right_count known) in
-    ap (λ (l : ℕ). below (nodes_from nodes arguments) (right_in known) (left_labels known) l (left_in known) [] ps (replicate (right_count known) 1)) e
+    ap (λ (l : ℕ). below (nodes_from nodes arguments) (right_in known) (left_labels known) l (left_in known) [] ps (replicate (right_count known) 1))
+    e
     ∙ many_left (nodes_from nodes arguments) (right_in known) (left_labels known) (left_in known) [] ps (replicate (right_count known) 1)
     (omega (arith, h, x, y))
 not_fit_none nodes arguments known k (more_right e h) ps =
     let x = left_long k in
     let y = unpaired_ones (right_count known) in
-    ap (λ (l : ℕ). below (nodes_from nodes arguments) (right_in known) l (right_labels known) (left_in known) [] ps (replicate (right_count known) 1)) e
+    ap (λ (l : ℕ). below (nodes_from nodes arguments) (right_in known) l (right_labels known) (left_in known) [] ps
+    (replicate (right_count known) 1)) e
     ∙ many_unpaired (nodes_from nodes arguments) (right_in known) (right_labels known) (left_in known) [] ps (replicate (right_count known) 1)
     (omega (arith, h, x, y))
 

@@ -199,7 +199,8 @@ module _ {known : List ℕ} (z : Sized known) where
           ap (λ (v : ℕ). has v (s % 64)) (f.kept (4 * k + s / 64) (omega (arith, te, l, d, p))) ∙ c.bits k s (omega (arith, l, d)) q few e
 
   -- the row of the last left term
-  pub last_completable : {can can' : List ℕ} {t every : ℕ} {closed : Bool} → Ready known can → t ≡ 4 * (left_count known - 1) → every ≡ every_in known →
+  pub last_completable : {can can' : List ℕ} {t every : ℕ} {closed : Bool} → Ready known can → t ≡ 4 * (left_count known - 1) →
+      every ≡ every_in known →
       closed ≡ eqb (left_labels known) 0 →
       EndsRow can t every closed can' → CompletableFrom known can' (left_count known - 1)
   unfolding completes bit_at
@@ -225,7 +226,8 @@ module _ {known : List ℕ} (z : Sized known) where
           ∙ y.ends (eqb-false (left_labels known) 0 x) s (set_few s few)
 
   -- where both sides have labels, nothing is to be filled
-  pub plans_all : {can : List ℕ} {stay closed : Bool} → Ready known can → stay ≡ not (eqb (right_labels known) 0) → closed ≡ eqb (left_labels known) 0 →
+  pub plans_all : {can : List ℕ} {stay closed : Bool} → Ready known can → stay ≡ not (eqb (right_labels known) 0) →
+      closed ≡ eqb (left_labels known) 0 →
       (stay && not closed) ≡ true → Plans known can can true
   unfolding bit_at
   plans_all {can} {stay} {closed} y se ce t =

@@ -35,21 +35,25 @@ use Rattle.algorithms.proofs.TagLaws.{pairs_stand}
 use Rattle.algorithms.proofs.MappedLaws.{rests_in, Rests, none, kept, new, unifier_in, mapped, Maps, left_maps, right_maps, label_in}
 
 -- what stands for the rest of a label comes to that rest
-rest_stands : {M : ℕ} {b : Bool} {vs : List MultisetVariable} (rest : List Term) (ρ : ℕ → List Term) → (b ≡ true → rest ≡ []) → ρ M ≡ rest → Rests M b vs → flat_map (λ N. ρ (label_in N)) vs ≡ rest
+rest_stands : {M : ℕ} {b : Bool} {vs : List MultisetVariable} (rest : List Term) (ρ : ℕ → List Term) → (b ≡ true → rest ≡ []) → ρ M ≡ rest →
+    Rests M b vs → flat_map (λ N. ρ (label_in N)) vs ≡ rest
 unfolding flat_map label_in
 rest_stands rest ρ z e none = sym (z refl)
 rest_stands rest ρ z e kept = append-nil _ ∙ e
 rest_stands rest ρ z e new = append-nil _ ∙ e
 
 -- what the variables of labels stand for, label by label
-pub rests_flat : (σ : MmsetSubstitution) (ρ : MultisetVariable → List Term) (Ms : List ℕ) → flat_map ρ (rests_of σ Ms) ≡ flat_map (λ M. flat_map ρ (σ.on_variables (given M)).variables) Ms
+pub rests_flat : (σ : MmsetSubstitution) (ρ : MultisetVariable → List Term) (Ms : List ℕ) →
+    flat_map ρ (rests_of σ Ms) ≡ flat_map (λ M. flat_map ρ (σ.on_variables (given M)).variables) Ms
 unfolding rests_of
 rests_flat σ ρ Ms = flat_flat ρ (λ M. (σ.on_variables (given M)).variables) Ms
 
 -- lists for each label, together, are those at each place together
-places_same : (ks : List ℕ) (g rest : ℕ → List Term) → ((p : ℕ) → p < length ks → g (word ks p) ≡ rest p) → Same (flat_map g ks) (flatten (tabulate (length ks) rest))
+places_same : (ks : List ℕ) (g rest : ℕ → List Term) → ((p : ℕ) → p < length ks → g (word ks p) ≡ rest p) →
+    Same (flat_map g ks) (flatten (tabulate (length ks) rest))
 places_same ks g rest h u =
-    words_count u g ks ∙ total_same (length ks) (λ p. occurrences u (g (word ks p))) (λ p. occurrences u (rest p)) (λ p l. ap (occurrences u) (h p l)) ∙ sym (places_count u (length ks) rest)
+    words_count u g ks ∙ total_same (length ks) (λ p. occurrences u (g (word ks p))) (λ p. occurrences u (rest p))
+    (λ p l. ap (occurrences u) (h p l)) ∙ sym (places_count u (length ks) rest)
 
 module _ (t : Sides) (e : List ℕ) (ok : Posed (problem t)) (m : Memᴰ e (admissible_listing (problem t))) (A : Assignment) where
   choice : HalfChoice t.half (digits_of (problem t) e)
@@ -76,7 +80,8 @@ module _ (t : Sides) (e : List ℕ) (ok : Posed (problem t)) (m : Memᴰ e (admi
   value_after ρ a = sub ρ (value t.nodes (unifier_in t e) a)
 
   -- the terms that a label is mapped to have these values
-  after_terms : (exact : Bool) (ks : List ℕ) (part : ℕ → List ℕ) → Maps t e exact ks part → (ρ : Substitution) (p : ℕ) → p < length ks → map (sub ρ) (mapped t e (word ks p)).terms ≡ map (value_after ρ) (part p)
+  after_terms : (exact : Bool) (ks : List ℕ) (part : ℕ → List ℕ) → Maps t e exact ks part → (ρ : Substitution) (p : ℕ) → p < length ks →
+      map (sub ρ) (mapped t e (word ks p)).terms ≡ map (value_after ρ) (part p)
   after_terms exact ks part s ρ p h = ap (map (sub ρ)) (s.terms p h) ∙ map-map (sub ρ) (value t.nodes (unifier_in t e)) (part p)
 
   -- The labels hold what the digits put there, under these values, and rests.
@@ -87,12 +92,14 @@ module _ (t : Sides) (e : List ℕ) (ok : Posed (problem t)) (m : Memᴰ e (admi
   -- an instance is filled under the unifier of the pairs as it is under its own
   instance_filled : (n : Instance (problem t) A e) → FilledAfter n.after
   instance_filled n =
-      let g = value_agree t.nodes ok.well_formed n.unifier (unifier_in t e) (entry_one_reading (problem t) e ok m n.unifier (unifier_in t e) n.read unifier_read) in
+      let g = value_agree t.nodes ok.well_formed n.unifier (unifier_in t e)
+      (entry_one_reading (problem t) e ok m n.unifier (unifier_in t e) n.read unifier_read) in
       filled_same t.half.left t.half.left_labels t.half.right t.half.right_labels (digits_of (problem t) e)
       (λ a. sub n.after (value t.nodes n.unifier a)) (value_after n.after) A.labels
       (λ i h. ap (sub n.after) (g (word t.half.left i) ((one_posed t.half t.nodes ok).left_node i h)))
       (λ j h. ap (sub n.after) (g (word t.half.right j) ((one_posed t.half t.nodes ok).right_node_lem j h)))
-      ((one_share t.half (λ h ds. HalfFilled h ds (λ a. sub n.after (value t.nodes n.unifier a)) A.labels) (digits_of (problem t) e) digits_long).0 n.labels)
+      ((one_share t.half (λ h ds. HalfFilled h ds (λ a. sub n.after (value t.nodes n.unifier a)) A.labels) (digits_of (problem t) e) digits_long).0
+      n.labels)
 
   -- what has room is an instance: its rests are what the variables stand for
   allows_instance : Allows t (unifier_of t (entry_result t e)) A → Instance (problem t) A e
@@ -104,9 +111,12 @@ module _ (t : Sides) (e : List ℕ) (ok : Posed (problem t)) (m : Memᴰ e (admi
         variables = λ x p. a.variables x p ∙ ap (sub a.after) (on_terms_lem x);
         labels =
             (one_share t.half (λ h ds. HalfFilled h ds (value_after a.after) A.labels) (digits_of (problem t) e) digits_long).1
-            (filled t.half.left t.half.left_labels t.half.right t.half.right_labels (digits_of (problem t) e) (value_after a.after) A.labels (λ p. rest (word t.half.left_labels p)) (λ q. rest (word t.half.right_labels q))
-            (λ p h. rw (after_terms _ _ _ (left_maps t e ok) a.after p h) at (a.labels (word t.half.left_labels p) (Memᴰ.append_left t.half.right_labels (placed t.half.left_labels p h))))
-            (λ q h. rw (after_terms _ _ _ (right_maps t e ok) a.after q h) at (a.labels (word t.half.right_labels q) (Memᴰ.append_right t.half.left_labels (placed t.half.right_labels q h))))
+            (filled t.half.left t.half.left_labels t.half.right t.half.right_labels (digits_of (problem t) e) (value_after a.after) A.labels
+            (λ p. rest (word t.half.left_labels p)) (λ q. rest (word t.half.right_labels q))
+            (λ p h. rw (after_terms _ _ _ (left_maps t e ok) a.after p h) at
+            (a.labels (word t.half.left_labels p) (Memᴰ.append_left t.half.right_labels (placed t.half.left_labels p h))))
+            (λ q h. rw (after_terms _ _ _ (right_maps t e ok) a.after q h) at
+            (a.labels (word t.half.right_labels q) (Memᴰ.append_right t.half.left_labels (placed t.half.right_labels q h))))
             balance);
       }
     where

@@ -38,7 +38,8 @@ module _ {rs fs : List ℕ} {l : ℕ} where
   partner_from (pair {a} {s} {F} {ds} h r) x (Memᴰ.tail m) = later_partner rs (length F) (suc s) ds x (partner_from r x m)
   partner_from (put {a} {q} {F} {ds} h r) x m = later_partner rs (length F) (length rs + suc q) ds x (partner_from r x m)
 
-  in_partners : {F ds T S R qs : List ℕ} → Lefts rs l fs F ds T S R qs → (i s : ℕ) → i < length F → s < length rs → word ds i ≡ suc s → Memᴰ (word rs s) S
+  in_partners : {F ds T S R qs : List ℕ} → Lefts rs l fs F ds T S R qs → (i s : ℕ) → i < length F → s < length rs → word ds i ≡ suc s →
+      Memᴰ (word rs s) S
   in_partners none i s h k w = absurd (omega arith)
   in_partners (pair {s = o} b r) zero s h k w = let e : s ≡ o = omega (arith, w) in Memᴰ.head (ap (word rs) e)
   in_partners (pair b r) (suc i) s h k w = Memᴰ.tail (in_partners r i s (omega arith) k w)
@@ -50,7 +51,8 @@ module _ {rs fs : List ℕ} {l : ℕ} where
   partners r x = ((λ m. partner_from r x m), (λ p. rw p.5 (in_partners r p.0 p.1 p.2 p.3 p.4)))
 
   -- they are distinct if no digit pairs twice
-  partners_distinct : Distinct rs → {F ds T S R qs : List ℕ} → Lefts rs l fs F ds T S R qs → ((i i' : ℕ) → i < i' → i' < length F → word ds i ≡ word ds i' → length rs < word ds i) → Distinct S
+  partners_distinct : Distinct rs → {F ds T S R qs : List ℕ} → Lefts rs l fs F ds T S R qs →
+      ((i i' : ℕ) → i < i' → i' < length F → word ds i ≡ word ds i' → length rs < word ds i) → Distinct S
   partners_distinct u none o = end
   partners_distinct u (pair {a} {s} {F} {ds} {S = S} h r) o =
       before (λ y m e. apart y e (partner_from r y m)) (partners_distinct u r (λ i i' b c e. o (suc i) (suc i') (omega arith) (omega arith) e))
@@ -63,7 +65,8 @@ module _ {rs fs : List ℕ} {l : ℕ} where
   partners_distinct u (put h r) o = partners_distinct u r (λ i i' b c e. o (suc i) (suc i') (omega arith) (omega arith) e)
 
   -- and no digit pairs twice if they are
-  distinct_partners : {F ds T S R qs : List ℕ} → Lefts rs l fs F ds T S R qs → Distinct S → (i i' : ℕ) → i < i' → i' < length F → word ds i ≡ word ds i' → length rs < word ds i
+  distinct_partners : {F ds T S R qs : List ℕ} → Lefts rs l fs F ds T S R qs → Distinct S → (i i' : ℕ) → i < i' → i' < length F →
+      word ds i ≡ word ds i' → length rs < word ds i
   distinct_partners none u i i' b c e = absurd (omega arith)
   distinct_partners (pair h r) u i zero b c e = absurd (omega arith)
   distinct_partners (pair {s = s} h r) (before v u) zero (suc i') b c e =
@@ -128,7 +131,8 @@ abbrev SomeLefts : List ℕ → ℕ → List ℕ → List ℕ → List ℕ → T
 SomeLefts rs l fs F ds = (T : List ℕ) × (S : List ℕ) × (R : List ℕ) × (qs : List ℕ) × Lefts rs l fs F ds T S R qs
 
 -- any digits in range do
-to_lefts : (rs : List ℕ) (l : ℕ) (F ds : List ℕ) → length F ≤ length ds → ((i : ℕ) → i < length F → (0 < word ds i) × (word ds i ≤ length rs + l)) → SomeLefts rs l (drop (length F) ds) F ds
+to_lefts : (rs : List ℕ) (l : ℕ) (F ds : List ℕ) → length F ≤ length ds → ((i : ℕ) → i < length F → (0 < word ds i) × (word ds i ≤ length rs + l)) →
+    SomeLefts rs l (drop (length F) ds) F ds
 to_lefts rs l [] ds h g = ([], [], [], [], none)
 to_lefts rs l (a ∷ F) [] h g = absurd (omega arith)
 to_lefts rs l (a ∷ F) (d ∷ ds) h g =
@@ -140,7 +144,8 @@ to_lefts rs l (a ∷ F) (d ∷ ds) h g =
     within : (s : ℕ) → d ≡ suc s → s < length rs → SomeLefts rs l (drop (length F) ds) F ds → SomeLefts rs l (drop (length F) ds) (a ∷ F) (d ∷ ds)
     within s e b (T, S, R, qs, r) = (a ∷ T, word rs s ∷ S, R, qs, rw e (pair b r))
 
-    go : Dec (length rs < d) → (0 < d) × (d ≤ length rs + l) → SomeLefts rs l (drop (length F) ds) F ds → SomeLefts rs l (drop (length F) ds) (a ∷ F) (d ∷ ds)
+    go : Dec (length rs < d) → (0 < d) × (d ≤ length rs + l) → SomeLefts rs l (drop (length F) ds) F ds →
+        SomeLefts rs l (drop (length F) ds) (a ∷ F) (d ∷ ds)
     go (yes b) (p, c) t = beyond (d - length rs - 1) (omega arith) (omega arith) t
     go (no b) (p, c) t = within (d - 1) (omega arith) (omega arith) t
 
@@ -159,7 +164,8 @@ to_rights k (b ∷ G) (d ∷ fs) h g = go d (g 0 (omega arith)) (to_rights k G f
     go zero c (P, Q, ps, r) = (b ∷ P, Q, ps, pair r)
     go (suc p) c (P, Q, ps, r) = (P, b ∷ Q, p ∷ ps, put {p = p} (omega arith) r)
 
--- A choice by what it pairs and puts: left terms T with right terms S, in the order of T, which are the right terms P in some order. The left terms R go in right labels qs, the right terms Q in left labels ps; fs are the right digits.
+-- A choice by what it pairs and puts: left terms T with right terms S, in the order of T, which are the right terms P in some order. The
+-- left terms R go in right labels qs, the right terms Q in left labels ps; fs are the right digits.
 pub record Arranged (ls rs : List ℕ) (k l : ℕ) (ds : List ℕ) : Type 0 where
   pub T : List ℕ
   pub S : List ℕ

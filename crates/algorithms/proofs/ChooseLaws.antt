@@ -72,7 +72,8 @@ choose_from F zero T R m =
     let r : R ≡ F = ap (λ (p : List ℕ × List ℕ). p.1) e in
     rw (t, r) (left_all F, refl)
 choose_from [] (suc c) T R m = absurd (Memᴰ.not-nil m)
-choose_from (a ∷ F) (suc c) T R m = go (λ T' R' n. choose_from F c T' R' n) (λ T' R' n. choose_from F (suc c) T' R' n) (Memᴰ.append_cases (map (with a) (choose F c)) m)
+choose_from (a ∷ F) (suc c) T R m = go (λ T' R' n. choose_from F c T' R' n) (λ T' R' n. choose_from F (suc c) T' R' n)
+    (Memᴰ.append_cases (map (with a) (choose F c)) m)
   where
     first : (p : List ℕ × List ℕ) → with a p ≡ (T, R) → Split F p.0 p.1 × (length p.0 ≡ c) → Split (a ∷ F) T R × (length T ≡ suc c)
     first p e s =
@@ -86,7 +87,9 @@ choose_from (a ∷ F) (suc c) T R m = go (λ T' R' n. choose_from F c T' R' n) (
         let r : R ≡ a ∷ p.1 = sym (ap (λ (q : List ℕ × List ℕ). q.1) e) in
         rw (t, r) (left s.0, s.1)
 
-    go : ((T' R' : List ℕ) → Memᴰ (T', R') (choose F c) → Split F T' R' × (length T' ≡ c)) → ((T' R' : List ℕ) → Memᴰ (T', R') (choose F (suc c)) → Split F T' R' × (length T' ≡ suc c)) → Memᴰ (T, R) (map (with a) (choose F c)) ⊎ Memᴰ (T, R) (map (without a) (choose F (suc c))) → Split (a ∷ F) T R × (length T ≡ suc c)
+    go : ((T' R' : List ℕ) → Memᴰ (T', R') (choose F c) → Split F T' R' × (length T' ≡ c)) →
+        ((T' R' : List ℕ) → Memᴰ (T', R') (choose F (suc c)) → Split F T' R' × (length T' ≡ suc c)) →
+        Memᴰ (T, R) (map (with a) (choose F c)) ⊎ Memᴰ (T, R) (map (without a) (choose F (suc c))) → Split (a ∷ F) T R × (length T ≡ suc c)
     go f g (inl n) = let s = Memᴰ.of_map (with a) (choose F c) n in first s.0 s.2 (f s.0.0 s.0.1 s.1)
     go f g (inr n) = let s = Memᴰ.of_map (without a) (choose F (suc c)) n in second s.0 s.2 (g s.0.0 s.0.1 s.1)
 
@@ -111,7 +114,8 @@ choose_apart (a ∷ F) (suc c) (before b d) =
         not (Memᴰ.head e) = other c x m (Memᴰ.cast (sym e) p)
         not (Memᴰ.tail n) = q n
 
-    across : (x y : List ℕ × List ℕ) → (p : List ℕ × List ℕ) × Memᴰ p (choose F c) × (with a p ≡ x) → (p : List ℕ × List ℕ) × Memᴰ p (choose F (suc c)) × (without a p ≡ y) → Apart x y
+    across : (x y : List ℕ × List ℕ) → (p : List ℕ × List ℕ) × Memᴰ p (choose F c) × (with a p ≡ x) → (p : List ℕ × List ℕ) ×
+        Memᴰ p (choose F (suc c)) × (without a p ≡ y) → Apart x y
     across x y (p, m, e) (q, n, f) = rw (← e, ← f) (a, Memᴰ.head refl, other (suc c) q n)
 
 -- there is no way to choose more than there are

@@ -12,7 +12,8 @@ use Rattle.unification.proofs.ListLaws.{placed}
 use Rattle.algorithms.specs.Code.Placing.{Distinct}
 
 -- the images of distinct elements are distinct, where the function tells them apart
-pub map_distinct : {A B : Type 0} (f : A → B) (xs : List A) → ((x y : A) → Memᴰ x xs → Memᴰ y xs → f x ≡ f y → x ≡ y) → Distinct xs → Distinct (map f xs)
+pub map_distinct : {A B : Type 0} (f : A → B) (xs : List A) → ((x y : A) → Memᴰ x xs → Memᴰ y xs → f x ≡ f y → x ≡ y) → Distinct xs →
+    Distinct (map f xs)
 map_distinct f xs h r = rising_map (λ x y. x ≡ y → ⊥) (λ x y. x ≡ y → ⊥) f xs (λ x y m n d e. d (h x y m n e)) r
 
 -- where nothing stands twice, two places of one element are one place

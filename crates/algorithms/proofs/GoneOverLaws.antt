@@ -1,5 +1,6 @@
 -- What Algorithm 1 goes over are document 01's choices, each one time.
--- A result splits both sides into what is paired and what is left, and puts what is left in labels: so do the digits of a choice (`Arranged`). A result tells all of that, so that none stands twice. Assumes nothing.
+-- A result splits both sides into what is paired and what is left, and puts what is left in labels: so do the digits of a choice
+-- (`Arranged`). A result tells all of that, so that none stands twice. Assumes nothing.
 use Prim.Native.Nat.{ℕ, suc, ◌≤◌}
 use mathlib.Core.List.Memᴰ
 use mathlib.Core.List.{List, map, flat_map, zip, Memᴰ, Permᴰ}
@@ -54,15 +55,18 @@ Composed T P ΣM r = (S : List ℕ) × (σ : Contexts) × Memᴰ S (permutations
 
 composed_from : (T P : List ℕ) (ΣM : List Contexts) (r : Result) → Memᴰ r (composed (unify_terms all T P) ΣM) → Composed T P ΣM r
 composed_from T P ΣM r m =
-    let s = (in_flat (λ ps. map (result ps) ΣM) (map (zip T) (permutations P)) r).0 (rw (composed_flat (unify_terms all T P) ΣM, terms_all T P) at m) in
+    let s = (in_flat (λ ps. map (result ps) ΣM) (map (zip T) (permutations P)) r).0 (rw (composed_flat (unify_terms all T P) ΣM, terms_all T P) at m)
+    in
     let x = Memᴰ.of_map (zip T) (permutations P) s.1 in
     let y = Memᴰ.of_map (result s.0) ΣM s.2 in
     (x.0, y.0, x.1, y.1, sym y.2 ∙ ap (λ (ps : List (ℕ × ℕ)). result ps y.0) (sym x.2))
 
-in_composed : (T P : List ℕ) (ΣM : List Contexts) (S : List ℕ) (σ : Contexts) → Memᴰ S (permutations P) → Memᴰ σ ΣM → Memᴰ (result (zip T S) σ) (composed (unify_terms all T P) ΣM)
+in_composed : (T P : List ℕ) (ΣM : List Contexts) (S : List ℕ) (σ : Contexts) → Memᴰ S (permutations P) → Memᴰ σ ΣM →
+    Memᴰ (result (zip T S) σ) (composed (unify_terms all T P) ΣM)
 in_composed T P ΣM S σ m n =
     rw (composed_flat (unify_terms all T P) ΣM, terms_all T P)
-    ((in_flat (λ ps. map (result ps) ΣM) (map (zip T) (permutations P)) (result (zip T S) σ)).1 (zip T S, Memᴰ.map (zip T) m, Memᴰ.map (result (zip T S)) n))
+    ((in_flat (λ ps. map (result ps) ΣM) (map (zip T) (permutations P)) (result (zip T S) σ)).1
+    (zip T S, Memᴰ.map (zip T) m, Memᴰ.map (result (zip T S)) n))
 
 module _ (ls ks rs qs : List ℕ) (dl : Distinct ls) (dr : Distinct rs) where
   -- What unify_c goes over, in its parts.
@@ -103,7 +107,8 @@ module _ (ls ks rs qs : List ℕ) (dl : Distinct ls) (dr : Distinct rs) where
           let y = (in_flat (chosen_over x.0) (choose rs c) r).0 x.2 in
           (x.0, y.0, x.1, y.1, y.2)
 
-  chosen_found : (c : ℕ) (T P : List ℕ × List ℕ) → Memᴰ T (choose ls c) → Memᴰ P (choose rs c) → (r : Result) → Memᴰ r (chosen_over T P) → Found c T.0 T.1 P.0 P.1 r
+  chosen_found : (c : ℕ) (T P : List ℕ × List ℕ) → Memᴰ T (choose ls c) → Memᴰ P (choose rs c) → (r : Result) → Memᴰ r (chosen_over T P) →
+      Found c T.0 T.1 P.0 P.1 r
   chosen_found c T P a b r m =
       let x = choose_from ls c T.0 T.1 a in
       let y = choose_from rs c P.0 P.1 b in
@@ -132,19 +137,37 @@ module _ (ls ks rs qs : List ℕ) (dl : Distinct ls) (dr : Distinct rs) where
       omega (arith, e, f.left_long, f.right_long)
 
   -- what the digits of a choice pair and put is one result
-  arranged_result : (ds : List ℕ) (a : Arranged ls rs (length ks) (length qs) ds) → gone_over_as ls ks rs qs ds ≡ result (zip a.T a.S) (contexts_of ks qs (parts (length ks) a.Q a.ps) (parts (length qs) a.R a.qs))
+  arranged_result : (ds : List ℕ) (a : Arranged ls rs (length ks) (length qs) ds) →
+      gone_over_as ls ks rs qs ds ≡ result (zip a.T a.S) (contexts_of ks qs (parts (length ks) a.Q a.ps) (parts (length qs) a.R a.qs))
   unfolding gone_over_as parts in_left in_right
   arranged_result ds a =
-      let x = tabulate_same (length ks) (in_left ls rs ds) (λ p. with_digit p a.Q a.ps) (λ p h. ap (with_digit (suc p) rs) (lefts_rest a.lefts) ∙ rights_put a.rights p) in
+      let x = tabulate_same (length ks) (in_left ls rs ds) (λ p. with_digit p a.Q a.ps)
+      (λ p h. ap (with_digit (suc p) rs) (lefts_rest a.lefts) ∙ rights_put a.rights p) in
       let y = tabulate_same (length qs) (in_right ls rs ds) (λ q. with_digit q a.R a.qs) (λ q h. lefts_put a.lefts q) in
       rw (lefts_pairs a.lefts, x, y)
 
   -- what is found is that of a choice
-  found_choice : {c : ℕ} {T R P Q : List ℕ} {r : Result} → Found c T R P Q r → (ds : List ℕ) × IsChoice (length ls) (length rs) (length ks) (length qs) ds × (r ≡ gone_over_as ls ks rs qs ds)
+  found_choice : {c : ℕ} {T R P Q : List ℕ} {r : Result} → Found c T R P Q r → (ds : List ℕ) ×
+      IsChoice (length ls) (length rs) (length ks) (length qs) ds × (r ≡ gone_over_as ls ks rs qs ds)
   found_choice {T = T} {R} {P} {Q} f =
       let g = split_rights (length ks) f.right_split f.left_labels_lem f.left_placing in
-      let d = split_lefts rs (length qs) g.0 f.left_split f.order f.right_labels_lem (found_long f) (λ x m. chosen_in f.right_split x ((f.same x).0 m)) f.right_placing in
-      let a : Arranged ls rs (length ks) (length qs) d.0 = record { T = T; S = f.order; R = R; qs = f.right_labels_lem; fs = g.0; P = P; Q = Q; ps = f.left_labels_lem; lefts = d.1; rights = g.1; once = f.once; same = f.same } in
+      let d = split_lefts rs (length qs) g.0 f.left_split f.order f.right_labels_lem (found_long f)
+      (λ x m. chosen_in f.right_split x ((f.same x).0 m)) f.right_placing in
+      let a : Arranged ls rs (length ks) (length qs) d.0 =
+      record {
+        T = T;
+        S = f.order;
+        R = R;
+        qs = f.right_labels_lem;
+        fs = g.0;
+        P = P;
+        Q = Q;
+        ps = f.left_labels_lem;
+        lefts = d.1;
+        rights = g.1;
+        once = f.once;
+        same = f.same;
+      } in
       (d.0, arranged_choice ls rs (length ks) (length qs) d.0 dr a, f.is ∙ sym (arranged_result d.0 a))
 
   -- What Algorithm 1 goes over.
@@ -156,7 +179,8 @@ module _ (ls ks rs qs : List ℕ) (dl : Distinct ls) (dr : Distinct rs) where
   sized = one_loop all ls ks rs qs
 
   -- each result is that of a choice
-  pub over_choice : (r : Result) → Memᴰ r over → (ds : List ℕ) × IsChoice (length ls) (length rs) (length ks) (length qs) ds × (r ≡ gone_over_as ls ks rs qs ds)
+  pub over_choice : (r : Result) → Memᴰ r over → (ds : List ℕ) × IsChoice (length ls) (length rs) (length ks) (length qs) ds ×
+      (r ≡ gone_over_as ls ks rs qs ds)
   over_choice r m =
       let s = (in_flat (λ c. unify_c all c ls ks rs qs) sized.sizes r).0 (rw sized.loop at m) in
       let x = (over_some s.0 r).0 s.2 in
@@ -165,7 +189,13 @@ module _ (ls ks rs qs : List ℕ) (dl : Distinct ls) (dr : Distinct rs) where
   -- and each choice is gone over
   pub choice_over : (ds : List ℕ) → IsChoice (length ls) (length rs) (length ks) (length qs) ds → Memᴰ (gone_over_as ls ks rs qs ds) over
   choice_over ds h =
-      let some = (over_some (length a.T) _).1 ((a.T, a.R), (a.P, a.Q), in_choose (lefts_split a.lefts), rw long (in_choose (rights_split a.rights)), there) in
+      let some = (over_some (length a.T) _).1 (
+        (a.T, a.R),
+        (a.P, a.Q),
+        in_choose (lefts_split a.lefts),
+        rw long (in_choose (rights_split a.rights)),
+        there,
+      ) in
       rw (arranged_result ds a, sized.loop)
       ((in_flat (λ c. unify_c all c ls ks rs qs) sized.sizes _).1 (length a.T, (sized.are (length a.T)).1 size, some))
     where
@@ -187,13 +217,15 @@ module _ (ls ks rs qs : List ℕ) (dl : Distinct ls) (dr : Distinct rs) where
             no_right = λ e. all_paired e (lefts_split a.lefts) (lefts_placing a.lefts);
           }
 
-      there : Memᴰ (result (zip a.T a.S) (contexts_of ks qs (parts (length ks) a.Q a.ps) (parts (length qs) a.R a.qs))) (chosen_over (a.T, a.R) (a.P, a.Q))
+      there : Memᴰ (result (zip a.T a.S) (contexts_of ks qs (parts (length ks) a.Q a.ps) (parts (length qs) a.R a.qs)))
+          (chosen_over (a.T, a.R) (a.P, a.Q))
       there =
           in_composed a.T a.P (unify_distribute a.R ks a.Q qs) a.S _ ((permutations_are a.P paired a.S).1 (a.once, a.same))
           (in_distribution a.R ks a.Q qs a.ps a.qs (rights_placing a.rights) (lefts_placing a.lefts))
 
   -- a result tells what is paired, in its order
-  found_tells : {c c' : ℕ} {T R P Q T' R' P' Q' : List ℕ} {r r' : Result} (f : Found c T R P Q r) (g : Found c' T' R' P' Q' r') → r ≡ r' → (T ≡ T') × (f.order ≡ g.order)
+  found_tells : {c c' : ℕ} {T R P Q T' R' P' Q' : List ℕ} {r r' : Result} (f : Found c T R P Q r) (g : Found c' T' R' P' Q' r') → r ≡ r' → (T ≡ T') ×
+      (f.order ≡ g.order)
   found_tells {T = T} {T' = T'} f g e =
       pairing_tells T f.order T' g.order (found_long f) (found_long g) (ap (λ (s : Result). s.pairing) (sym f.is ∙ e ∙ g.is))
 
@@ -201,7 +233,8 @@ module _ (ls ks rs qs : List ℕ) (dl : Distinct ls) (dr : Distinct rs) where
   chosen_once : (c : ℕ) (T P : List ℕ × List ℕ) → Memᴰ T (choose ls c) → Memᴰ P (choose rs c) → Distinct (chosen_over T P)
   chosen_once c T P a b =
       rw (composed_flat (unify_terms all T.0 P.0) ΣM, terms_all T.0 P.0)
-      (rising_flat (λ u v. u ≡ v → ⊥) (λ u v. u ≡ v → ⊥) (λ ps. map (result ps) ΣM) (map (zip T.0) (permutations P.0)) pairings (λ ps m. with_each ps) apart)
+      (rising_flat (λ u v. u ≡ v → ⊥) (λ u v. u ≡ v → ⊥) (λ ps. map (result ps) ΣM) (map (zip T.0) (permutations P.0)) pairings
+      (λ ps m. with_each ps) apart)
     where
       ΣM : List Contexts
       ΣM = unify_distribute T.1 ks P.1 qs
@@ -232,7 +265,8 @@ module _ (ls ks rs qs : List ℕ) (dl : Distinct ls) (dr : Distinct rs) where
           map_distinct (result ps) ΣM (λ σ τ p q e. ap (λ (s : Result). s.contexts) e)
           (distribution_distinct T.1 ks P.1 qs (left_distinct x.0 dl) (left_distinct y.0 dr))
 
-      apart : (ps ps' : List (ℕ × ℕ)) → Memᴰ ps (map (zip T.0) (permutations P.0)) → Memᴰ ps' (map (zip T.0) (permutations P.0)) → (ps ≡ ps' → ⊥) → (u v : Result) → Memᴰ u (map (result ps) ΣM) → Memᴰ v (map (result ps') ΣM) → u ≡ v → ⊥
+      apart : (ps ps' : List (ℕ × ℕ)) → Memᴰ ps (map (zip T.0) (permutations P.0)) → Memᴰ ps' (map (zip T.0) (permutations P.0)) → (ps ≡ ps' → ⊥) →
+          (u v : Result) → Memᴰ u (map (result ps) ΣM) → Memᴰ v (map (result ps') ΣM) → u ≡ v → ⊥
       apart ps ps' m m' h u v p q e =
           let s = Memᴰ.of_map (result ps) ΣM p in
           let r = Memᴰ.of_map (result ps') ΣM q in
@@ -269,7 +303,8 @@ module _ (ls ks rs qs : List ℕ) (dl : Distinct ls) (dr : Distinct rs) where
   pub over_distinct : Distinct over
   over_distinct =
       rw sized.loop
-      (rising_flat (λ x y. x ≡ y → ⊥) (λ x y. x ≡ y → ⊥) (λ c. unify_c all c ls ks rs qs) sized.sizes sized.once (λ c m. size_once c) (λ c c' a a' h u v m n e. h (sym (long c u m) ∙ ap (λ (r : Result). length r.pairing) e ∙ long c' v n)))
+      (rising_flat (λ x y. x ≡ y → ⊥) (λ x y. x ≡ y → ⊥) (λ c. unify_c all c ls ks rs qs) sized.sizes sized.once (λ c m. size_once c)
+      (λ c c' a a' h u v m n e. h (sym (long c u m) ∙ ap (λ (r : Result). length r.pairing) e ∙ long c' v n)))
     where
       long : (c : ℕ) (u : Result) → Memᴰ u (unify_c all c ls ks rs qs) → length u.pairing ≡ c
       long c u m =

@@ -66,7 +66,8 @@ inserted_distinct {A} {x} (after {y = y} {ys = ys} {zs = zs} i) (before b r) n =
     other z (inr m) q = b z m q
 
 -- an element that is taken out of two lists with the same elements, where it stands once, leaves the same elements
-pub rest_same : {A : Type 0} {x : A} {ys zs xs : List A} → Inserted x ys zs → (Memᴰ x ys → ⊥) → (Memᴰ x xs → ⊥) → ((y : A) → Memᴰ y (x ∷ xs) ↔ Memᴰ y zs) → (y : A) → Memᴰ y xs ↔ Memᴰ y ys
+pub rest_same : {A : Type 0} {x : A} {ys zs xs : List A} → Inserted x ys zs → (Memᴰ x ys → ⊥) → (Memᴰ x xs → ⊥) →
+    ((y : A) → Memᴰ y (x ∷ xs) ↔ Memᴰ y zs) → (y : A) → Memᴰ y xs ↔ Memᴰ y ys
 rest_same {A} {x} {ys} {zs} {xs} i n k h y =
     ((λ m. there m (inserted_from i y ((h y).0 (Memᴰ.tail m)))), (λ m. back m ((h y).1 (inserted_other i y m))))
   where

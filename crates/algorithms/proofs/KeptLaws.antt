@@ -24,7 +24,8 @@ composed_flat (ps ∷ Σt) ΣM =
     map_flat (λ σ. result σ.0 σ.1) (λ ps. map (λ (σ : Contexts). (ps, σ)) ΣM) (ps ∷ Σt)
     ∙ flat_same _ _ (ps ∷ Σt) (λ qs m. at qs ΣM)
   where
-    at : (qs : List (ℕ × ℕ)) (Σ : List Contexts) → map (λ (σ : List (ℕ × ℕ) × Contexts). result σ.0 σ.1) (map (λ (σ : Contexts). (qs, σ)) Σ) ≡ map (result qs) Σ
+    at : (qs : List (ℕ × ℕ)) (Σ : List Contexts) →
+        map (λ (σ : List (ℕ × ℕ) × Contexts). result σ.0 σ.1) (map (λ (σ : Contexts). (qs, σ)) Σ) ≡ map (result qs) Σ
     at qs [] = refl
     at qs (σ ∷ Σ) = ap (result qs σ ∷◌) (at qs Σ)
 
@@ -55,7 +56,8 @@ module _ (o : List (ℕ × ℕ) → Outcome) where
       ∙ sym (flat_flat (λ ps. kept (o ps) ps) (λ p. zip p.0 p.1 ∷ []) (product (ts ∷ []) (permutations ss)))
 
   -- a pairing is kept with all its substitutions, or with none
-  keep_one : (ps : List (ℕ × ℕ)) (ΣM : List Contexts) (w : Outcome) → o ps ≡ w → flat_map (λ qs. map (result qs) ΣM) (kept w ps) ≡ keep_results (map (result ps) ΣM)
+  keep_one : (ps : List (ℕ × ℕ)) (ΣM : List Contexts) (w : Outcome) → o ps ≡ w →
+      flat_map (λ qs. map (result qs) ΣM) (kept w ps) ≡ keep_results (map (result ps) ΣM)
   unfolding flat_map kept
   keep_one ps ΣM w e = go w e ∙ sym (flat_map_lem (λ r. kept (o r.pairing) r) (result ps) ΣM)
     where
@@ -64,7 +66,8 @@ module _ (o : List (ℕ × ℕ) → Outcome) where
       go clash e = rw e (sym (flat_none (λ σ. []) ΣM (λ σ. refl)))
       go occurs e = rw e (sym (flat_none (λ σ. []) ΣM (λ σ. refl)))
 
-  keep_composed : (ts ss : List ℕ) (ΣM : List Contexts) → composed (unify_terms o ts ss) ΣM ≡ keep_results (composed (unify_terms (λ ps. unified) ts ss) ΣM)
+  keep_composed : (ts ss : List ℕ) (ΣM : List Contexts) →
+      composed (unify_terms o ts ss) ΣM ≡ keep_results (composed (unify_terms (λ ps. unified) ts ss) ΣM)
   keep_composed ts ss ΣM =
       let Σ = unify_terms (λ ps. unified) ts ss in
       ap (λ (Σt : List (List (ℕ × ℕ))). composed Σt ΣM) (keep_terms ts ss)

@@ -1,5 +1,6 @@
 -- Document 01's listing of all admissible choices is Algorithm 1's set of results, in document 01's order.
--- Both keep what unify_lists unifies: Algorithm 1 of what it goes over, the listing of the choices, which are the same in another order. Assumes nothing.
+-- Both keep what unify_lists unifies: Algorithm 1 of what it goes over, the listing of the choices, which are the same in another order.
+-- Assumes nothing.
 use Prim.Native.Nat.{ℕ}
 use mathlib.Core.List.Memᴰ
 use mathlib.Core.List.{List, [], ◌∷◌, ◌++◌, map, Memᴰ, Permᴰ}
@@ -52,7 +53,8 @@ module _ (t : Sides) where
   unfolding gone_over choice_result half_choices
   goes_over_choices =
       rw
-      (left_tags_long t, right_tags_long t) at (goes_over (left_tags t) t.half.left_labels (right_tags t) t.half.right_labels (left_tags_distinct t) (right_tags_distinct t))
+      (left_tags_long t, right_tags_long t) at (goes_over (left_tags t) t.half.left_labels (right_tags t) t.half.right_labels (left_tags_distinct t)
+      (right_tags_distinct t))
 
   -- nothing is gone over twice
   pub gone_over_once : Distinct (gone_over t)
@@ -100,7 +102,8 @@ module _ (t : Sides) where
       there : Admissible (problem t) ds → Memᴰ (choice_result t ds) (algorithm1 t)
       there a =
           rw keeps_unified
-          (in_kept (λ r. unifying r.pairing) (λ r. r) (gone_over t) (choice_result t ds) (choice_gone_over ds c) (choice_unifying ds c ∙ (pairs_decided g ds c).1 ((one_admissible t.half t.nodes ds).0 a).1))
+          (in_kept (λ r. unifying r.pairing) (λ r. r) (gone_over t) (choice_result t ds) (choice_gone_over ds c)
+          (choice_unifying ds c ∙ (pairs_decided g ds c).1 ((one_admissible t.half t.nodes ds).0 a).1))
 
       back : Memᴰ (choice_result t ds) (algorithm1 t) → Admissible (problem t) ds
       back m =
@@ -128,7 +131,8 @@ module _ (t : Sides) where
       go (ds, a, e) =
           let b = (one_admissible t.half t.nodes ds).0 a in
           rw (ap (λ (q : Result). node_pairs t q.pairing) e ∙ choice_pairs ds b.0)
-          (unifier_most_general t.nodes g.well_formed (half_pairs t.half ds) (half_inside t.half (one_posed t.half t.nodes g) ds b.0) ((pairs_decided g ds b.0).1 b.1))
+          (unifier_most_general t.nodes g.well_formed (half_pairs t.half ds) (half_inside t.half (one_posed t.half t.nodes g) ds b.0)
+          ((pairs_decided g ds b.0).1 b.1))
 
   -- what is kept of a choice's entry is what is kept of the choice
   entry_kept : (ds ws : List ℕ) → HalfChoice t.half ds → (o : Outcome) → map (entry_result t) (kept o (ds ++ ws)) ≡ kept o (choice_result t ds)
@@ -142,7 +146,8 @@ module _ (t : Sides) where
   listing_kept =
       ap (map (entry_result t)) (one_listing t.half t.nodes)
       ∙ map_flat (entry_result t) _ (half_choices t.half)
-      ∙ flat_same _ _ (half_choices t.half) (λ ds m. let c = (half_choices_lem t.half ds).0 m in entry_kept ds _ c (outcome t.nodes (half_pairs t.half ds)) ∙ ap (λ (o : Outcome). kept o (choice_result t ds)) (sym (choice_unifying ds c)))
+      ∙ flat_same _ _ (half_choices t.half) (λ ds m. let c = (half_choices_lem t.half ds).0 m in
+      entry_kept ds _ c (outcome t.nodes (half_pairs t.half ds)) ∙ ap (λ (o : Outcome). kept o (choice_result t ds)) (sym (choice_unifying ds c)))
       ∙ sym (flat_map_lem (λ r. kept (unifying r.pairing) r) (choice_result t) (half_choices t.half))
 
   -- the listing is what Algorithm 1 gives, in document 01's order
@@ -152,7 +157,8 @@ module _ (t : Sides) where
 -- demand 2: the entries that a finished call leaves are what Algorithm 1 gives, in document 01's order
 pub finished_results : (t lent : List ℕ) → (listed (conditions t) (complete_listing (problem_of t)) (length lent)).answer ≡ 0 →
     Permᴰ (algorithm1 (sides_of t))
-    (map (entry_result (sides_of t)) (entries_in (problem_of t) (listed (conditions t) (complete_listing (problem_of t)) (length lent)).entries (lent_after (conditions t) (complete_listing (problem_of t)) lent)))
+    (map (entry_result (sides_of t)) (entries_in (problem_of t) (listed (conditions t) (complete_listing (problem_of t)) (length lent)).entries
+    (lent_after (conditions t) (complete_listing (problem_of t)) lent)))
 finished_results t lent e =
     let f = page14_finished (problem_of t) (conditions t) (table_refusals t) (held_posed t) lent e in
     let g = held_posed t ((finished_exactly (conditions t) (complete_listing (problem_of t)) (length lent) (table_refusals t)).0 e).0 in

@@ -1,4 +1,5 @@
--- What Algorithm 1's unifier of an entry maps a label to: the terms that the digits put there, under the unifier of the pairs, and a variable for its rest, or none where the other side has no label.
+-- What Algorithm 1's unifier of an entry maps a label to: the terms that the digits put there, under the unifier of the pairs, and a
+-- variable for its rest, or none where the other side has no label.
 -- The labels are all different, so that each is mapped as is said at its place. Assumes nothing.
 use Prim.Native.Nat.{ℕ, zero, suc, ◌<◌}
 use mathlib.Core.Bool.{Bool, true, false, false≢true}
@@ -87,7 +88,8 @@ module _ (t : Sides) (e : List ℕ) where
   unfolding unifier_of compose apply on_contexts standing entry_result choice_result gone_over_as
   mapped_terms M S h =
       rw (h, itself_alone S.variables)
-      (append-nil _ ∙ map-map (sub unifier_in) (λ a. term_of t.nodes (node_of t a)) S.terms ∙ sym (map-map (value t.nodes unifier_in) (node_of t) S.terms))
+      (append-nil _ ∙ map-map (sub unifier_in) (λ a. term_of t.nodes (node_of t a)) S.terms ∙
+      sym (map-map (value t.nodes unifier_in) (node_of t) S.terms))
 
   -- and the variables stay
   mapped_variables : (M : ℕ) (S : Mmset ℕ) → image t (entry_result t e).contexts M ≡ standing t S → (mapped M).variables ≡ S.variables
@@ -100,7 +102,9 @@ module _ (t : Sides) (e : List ℕ) where
     pub rests : (p : ℕ) → p < length ks → Rests (word ks p) exact (rests_in t e (word ks p))
 
   -- so it is where each is said to hold tags that stand for its part
-  maps : (exact : Bool) (ks : List ℕ) (tags part : ℕ → List ℕ) → ((p : ℕ) → p < length ks → image t (entry_result t e).contexts (word ks p) ≡ standing t (context exact (word ks p) (tags p)).1) → ((p : ℕ) → map (node_of t) (tags p) ≡ part p) → Maps exact ks part
+  maps : (exact : Bool) (ks : List ℕ) (tags part : ℕ → List ℕ) →
+      ((p : ℕ) → p < length ks → image t (entry_result t e).contexts (word ks p) ≡ standing t (context exact (word ks p) (tags p)).1) →
+      ((p : ℕ) → map (node_of t) (tags p) ≡ part p) → Maps exact ks part
   maps exact ks tags part h s =
       record {
         terms =
@@ -119,7 +123,8 @@ module _ (t : Sides) (e : List ℕ) where
     right_tags_at = in_right (left_tags t) (right_tags t) (digits_of (problem t) e)
 
     left_image : (p : ℕ) → p < length t.half.left_labels →
-        image t (entry_result t e).contexts (word t.half.left_labels p) ≡ standing t (context (eqb (length t.half.right_labels) 0) (word t.half.left_labels p) (left_tags_at p)).1
+        image t (entry_result t e).contexts (word t.half.left_labels p)
+        ≡ standing t (context (eqb (length t.half.right_labels) 0) (word t.half.left_labels p) (left_tags_at p)).1
     unfolding entry_result choice_result gone_over_as
     left_image p h =
         let ks = t.half.left_labels in
@@ -130,7 +135,8 @@ module _ (t : Sides) (e : List ℕ) where
         ∙ ap (λ (us : List ℕ). standing t (context b (word ks p) us).1) (tabulate_at (length ks) left_tags_at [] p h)
 
     right_image : (q : ℕ) → q < length t.half.right_labels →
-        image t (entry_result t e).contexts (word t.half.right_labels q) ≡ standing t (context (eqb (length t.half.left_labels) 0) (word t.half.right_labels q) (right_tags_at q)).1
+        image t (entry_result t e).contexts (word t.half.right_labels q)
+        ≡ standing t (context (eqb (length t.half.left_labels) 0) (word t.half.right_labels q) (right_tags_at q)).1
     unfolding entry_result choice_result gone_over_as
     right_image q h =
         let ks = t.half.left_labels in

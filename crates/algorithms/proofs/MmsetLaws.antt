@@ -1,4 +1,5 @@
--- Substitutions of mmsets: nothing changes where everything is mapped to itself, and two substitutions are one. Equality modulo a theory is an equivalence.
+-- Substitutions of mmsets: nothing changes where everything is mapped to itself, and two substitutions are one. Equality modulo a theory is
+-- an equivalence.
 -- How often each term occurs is counted; multiset variables stay in one order. Assumes nothing.
 use mathlib.Core.List.{List, [], ◌∷◌, ◌++◌, map, flat_map, append-nil, map-map, map-id, map-append}
 use mathlib.Core.Path.{◌≡◌, refl, sym, ◌∙◌}
@@ -34,7 +35,8 @@ unchanged = record { on_terms = var; on_variables = itself }
 pub apply_unchanged : (S : Mmset Term) → apply unchanged S ≡ S
 unfolding apply
 apply_unchanged S =
-    let t : map (sub var) S.terms ++ flat_map (λ M. (itself M).terms) S.variables ≡ S.terms = rw (itself_alone S.variables) (append-nil _ ∙ terms_unchanged S.terms) in
+    let t : map (sub var) S.terms ++ flat_map (λ M. (itself M).terms) S.variables ≡ S.terms =
+    rw (itself_alone S.variables) (append-nil _ ∙ terms_unchanged S.terms) in
     rw (t, itself_stays S.variables) refl
 
 -- two lists for each element, or one after the other
@@ -64,13 +66,15 @@ module _ (σ τ : MmsetSubstitution) (S : Mmset Term) where
       let vs = S.variables in
       let f : MultisetVariable → List Term = λ M. map (sub τ.on_terms) (σ.on_variables M).terms in
       let g : MultisetVariable → List Term = λ M. flat_map (λ N. (τ.on_variables N).terms) (σ.on_variables M).variables in
-      let x : map (sub (λ y. sub τ.on_terms (σ.on_terms y))) S.terms ≡ map (sub τ.on_terms) (map (sub σ.on_terms) S.terms) = map_same _ _ S.terms (λ t m. sym (sub_sub τ.on_terms σ.on_terms t)) ∙ sym (map-map (sub τ.on_terms) (sub σ.on_terms) S.terms) in
+      let x : map (sub (λ y. sub τ.on_terms (σ.on_terms y))) S.terms ≡ map (sub τ.on_terms) (map (sub σ.on_terms) S.terms) =
+      map_same _ _ S.terms (λ t m. sym (sub_sub τ.on_terms σ.on_terms t)) ∙ sym (map-map (sub τ.on_terms) (sub σ.on_terms) S.terms) in
       let y = map-append (sub τ.on_terms) (map (sub σ.on_terms) S.terms) (flat_map (λ M. (σ.on_variables M).terms) vs) in
       let z = map_flat (sub τ.on_terms) (λ M. (σ.on_variables M).terms) vs in
       let w = flat_flat (λ N. (τ.on_variables N).terms) (λ M. (σ.on_variables M).variables) vs in
       rw (x, y, z, w) (count u (map (sub τ.on_terms) (map (sub σ.on_terms) S.terms)) f g vs)
     where
-      count : (u : Term) (ts : List Term) (f g : MultisetVariable → List Term) (vs : List MultisetVariable) → occurrences u (ts ++ flat_map (λ M. f M ++ g M) vs) ≡ occurrences u (ts ++ flat_map f vs ++ flat_map g vs)
+      count : (u : Term) (ts : List Term) (f g : MultisetVariable → List Term) (vs : List MultisetVariable) →
+          occurrences u (ts ++ flat_map (λ M. f M ++ g M) vs) ≡ occurrences u (ts ++ flat_map f vs ++ flat_map g vs)
       count u ts f g vs =
           let a = occurrences_append u ts (flat_map (λ M. f M ++ g M) vs) in
           let b = each_both f g vs u in

@@ -56,5 +56,6 @@ numbers_stand f a (suc n) [] e h = absurd (omega arith)
 numbers_stand f a (suc n) (u ∷ us) e h =
     let z : a ≡ a + 0 = omega arith in
     let x : f a ≡ u = ap f z ∙ h 0 (omega arith) in
-    let r : map f (numbers (suc a) n) ≡ us = numbers_stand f (suc a) n us (omega arith) (λ i l. let y : suc a + i ≡ a + suc i = omega arith in ap f y ∙ h (suc i) (omega arith)) in
+    let r : map f (numbers (suc a) n) ≡ us = numbers_stand f (suc a) n us (omega arith)
+    (λ i l. let y : suc a + i ≡ a + suc i = omega arith in ap f y ∙ h (suc i) (omega arith)) in
     rw (x, r)

@@ -14,7 +14,8 @@ use Rattle.algorithms.proofs.InsertedLaws.{Inserted, here, after, taken_out, ins
 -- what is put in can as well come first
 inserted_permuted : {A : Type 0} {x : A} {ys zs : List A} → Inserted x ys zs → Permᴰ (x ∷ ys) zs
 inserted_permuted (here {ys = ys}) = mathlib.Core.List.Permᴰ.refl (_ ∷ ys)
-inserted_permuted (after i) = mathlib.Core.List.Permᴰ.trans (mathlib.Core.List.Permᴰ.swap refl refl) (mathlib.Core.List.Permᴰ.cons refl (inserted_permuted i))
+inserted_permuted (after i) = mathlib.Core.List.Permᴰ.trans (mathlib.Core.List.Permᴰ.swap refl refl)
+    (mathlib.Core.List.Permᴰ.cons refl (inserted_permuted i))
 
 -- lists without repeats that have the same elements are one list in two orders
 pub distinct_permuted : {A : Type 0} (xs ys : List A) → Distinct xs → Distinct ys → ((x : A) → Memᴰ x xs ↔ Memᴰ x ys) → Permᴰ xs ys
@@ -48,7 +49,8 @@ permuted_member (mathlib.Core.List.Permᴰ.trans p q) x m = permuted_member q x 
 -- two lists before a third can change places
 changed_places : {A : Type 0} (xs ys zs : List A) → Permᴰ (xs ++ (ys ++ zs)) (ys ++ (xs ++ zs))
 changed_places [] ys zs = mathlib.Core.List.Permᴰ.refl (ys ++ zs)
-changed_places (x ∷ xs) ys zs = mathlib.Core.List.Permᴰ.trans (mathlib.Core.List.Permᴰ.cons refl (changed_places xs ys zs)) (mathlib.Core.List.Permᴰ.symm (mathlib.Core.List.Permᴰ.middle x ys (xs ++ zs)))
+changed_places (x ∷ xs) ys zs = mathlib.Core.List.Permᴰ.trans (mathlib.Core.List.Permᴰ.cons refl (changed_places xs ys zs))
+    (mathlib.Core.List.Permᴰ.symm (mathlib.Core.List.Permᴰ.middle x ys (xs ++ zs)))
 
 -- nor about what is made of its elements
 pub permuted_flat : {A B : Type 0} (f : A → List B) {xs ys : List A} → Permᴰ xs ys → Permᴰ (flat_map f xs) (flat_map f ys)

@@ -26,7 +26,8 @@ Added a q f g = (g q ≡ a ∷ f q) × ((i : ℕ) → (i ≡ q → ⊥) → g i 
 -- what is added to the first part leaves the others
 added_first : {a : ℕ} {f g : ℕ → List ℕ} (k : ℕ) → Added a 0 f g → tabulate (suc k) g ≡ (a ∷ f 0) ∷ tabulate k (λ i. f (suc i))
 added_first {a} {f} {g} k (h, n) =
-    let e : tabulate k (λ i. g (suc i)) ≡ tabulate k (λ i. f (suc i)) = tabulate_same k (λ i. g (suc i)) (λ i. f (suc i)) (λ i q. n (suc i) (λ z. absurd (omega (arith, z)))) in
+    let e : tabulate k (λ i. g (suc i)) ≡ tabulate k (λ i. f (suc i)) =
+    tabulate_same k (λ i. g (suc i)) (λ i. f (suc i)) (λ i q. n (suc i) (λ z. absurd (omega (arith, z)))) in
     tabulate_first k g ∙ rw (h, e)
 
 added_later : {a q : ℕ} {f g : ℕ → List ℕ} → Added a (suc q) f g → Added a q (λ i. f (suc i)) (λ i. g (suc i))
@@ -41,10 +42,12 @@ unfolding in_each
 in_each_lem a zero q f g h d = absurd (omega arith)
 in_each_lem a (suc k) zero f g h d = rw (tabulate_first k f) (mathlib.Core.List.Memᴰ.head (added_first k d))
 in_each_lem a (suc k) (suc q) f g h d =
-    let m : Memᴰ (tabulate k (λ i. g (suc i))) (in_each a (tabulate k (λ i. f (suc i)))) = in_each_lem a k q (λ i. f (suc i)) (λ i. g (suc i)) (omega arith) (added_later d) in
+    let m : Memᴰ (tabulate k (λ i. g (suc i))) (in_each a (tabulate k (λ i. f (suc i)))) =
+    in_each_lem a k q (λ i. f (suc i)) (λ i. g (suc i)) (omega arith) (added_later d) in
     rw (tabulate_first k f, first_left k d) (mathlib.Core.List.Memᴰ.tail (mathlib.Core.List.Memᴰ.map (f 0 ∷◌) m))
 
-each_from : (a k : ℕ) (f : ℕ → List ℕ) (p : List (List ℕ)) → Memᴰ p (in_each a (tabulate k f)) → (q : ℕ) × (q < k) × ((g : ℕ → List ℕ) → Added a q f g → p ≡ tabulate k g)
+each_from : (a k : ℕ) (f : ℕ → List ℕ) (p : List (List ℕ)) → Memᴰ p (in_each a (tabulate k f)) → (q : ℕ) × (q < k) ×
+    ((g : ℕ → List ℕ) → Added a q f g → p ≡ tabulate k g)
 unfolding in_each tabulate
 each_from a zero f p m = absurd (mathlib.Core.List.Memᴰ.not-nil m)
 each_from a (suc k) f p m = pick (rw (tabulate_first k f) at m) (λ r n. each_from a k (λ i. f (suc i)) r n)
@@ -58,7 +61,8 @@ each_from a (suc k) f p m = pick (rw (tabulate_first k f) at m) (λ r n. each_fr
     further : (r : List (List ℕ)) → f 0 ∷ r ≡ p → Rest r → Found
     further r e (q, h, s) = (suc q, omega arith, λ g d. sym e ∙ ap (f 0 ∷◌) (s (λ i. g (suc i)) (added_later d)) ∙ sym (first_left k d))
 
-    pick : Memᴰ p (in_each a (f 0 ∷ tabulate k (λ i. f (suc i)))) → ((r : List (List ℕ)) → Memᴰ r (in_each a (tabulate k (λ i. f (suc i)))) → Rest r) → Found
+    pick : Memᴰ p (in_each a (f 0 ∷ tabulate k (λ i. f (suc i)))) →
+        ((r : List (List ℕ)) → Memᴰ r (in_each a (tabulate k (λ i. f (suc i)))) → Rest r) → Found
     pick (mathlib.Core.List.Memᴰ.head e) r = (0, omega arith, λ g d. e ∙ sym (added_first k d))
     pick (mathlib.Core.List.Memᴰ.tail n) r =
         let s = mathlib.Core.List.Memᴰ.of_map (f 0 ∷◌) (in_each a (tabulate k (λ i. f (suc i)))) n in
@@ -69,28 +73,37 @@ digit_added : (a q : ℕ) (ts qs : List ℕ) → Added a q (λ i. with_digit i t
 digit_added a q ts qs = (with_digit_lem q a ts qs, λ i n. without_digit i q a ts qs (λ e. n (sym e)))
 
 -- the ordered partitions are the parts that arise by putting each element in one of k parts
-pub partitions_are : (ts : List ℕ) (k : ℕ) (p : List (List ℕ)) → Memᴰ p (ordered_partitions ts k) ↔ ((qs : List ℕ) × Placing k ts qs × (p ≡ parts k ts qs))
+pub partitions_are : (ts : List ℕ) (k : ℕ) (p : List (List ℕ)) → Memᴰ p (ordered_partitions ts k) ↔
+    ((qs : List ℕ) × Placing k ts qs × (p ≡ parts k ts qs))
 unfolding ordered_partitions parts with_digit
 partitions_are [] k p = ((λ m. ([], none, mathlib.Core.List.Memᴰ.eq_of_singleton m)), (λ s. mathlib.Core.List.Memᴰ.head s.2))
-partitions_are (a ∷ ts) k p = ((λ m. there ((in_flat (in_each a) (ordered_partitions ts k) p).0 m) (partitions_are ts k)), (λ s. back s.0 s.1 s.2 (partitions_are ts k)))
+partitions_are (a ∷ ts) k p = (
+  (λ m. there ((in_flat (in_each a) (ordered_partitions ts k) p).0 m) (partitions_are ts k)),
+  (λ s. back s.0 s.1 s.2 (partitions_are ts k)),
+)
   where
     Are : Type 0
     Are = (r : List (List ℕ)) → Memᴰ r (ordered_partitions ts k) ↔ ((qs : List ℕ) × Placing k ts qs × (r ≡ parts k ts qs))
 
-    placed : (r : List (List ℕ)) → Memᴰ p (in_each a r) → (qs : List ℕ) × Placing k ts qs × (r ≡ parts k ts qs) → (qs : List ℕ) × Placing k (a ∷ ts) qs × (p ≡ parts k (a ∷ ts) qs)
+    placed : (r : List (List ℕ)) → Memᴰ p (in_each a r) → (qs : List ℕ) × Placing k ts qs × (r ≡ parts k ts qs) → (qs : List ℕ) ×
+        Placing k (a ∷ ts) qs × (p ≡ parts k (a ∷ ts) qs)
     placed r n (qs, l, e) =
         let m : Memᴰ p (in_each a (parts k ts qs)) = rw (← e) n in
         let s = each_from a k (λ i. with_digit i ts qs) p m in
         (s.0 ∷ qs, put s.1 l, s.2 (λ i. with_digit i (a ∷ ts) (s.0 ∷ qs)) (digit_added a s.0 ts qs))
 
-    there : (r : List (List ℕ)) × Memᴰ r (ordered_partitions ts k) × Memᴰ p (in_each a r) → Are → (qs : List ℕ) × Placing k (a ∷ ts) qs × (p ≡ parts k (a ∷ ts) qs)
+    there : (r : List (List ℕ)) × Memᴰ r (ordered_partitions ts k) × Memᴰ p (in_each a r) → Are → (qs : List ℕ) × Placing k (a ∷ ts) qs ×
+        (p ≡ parts k (a ∷ ts) qs)
     there (r, m, n) are = placed r n ((are r).0 m)
 
     back : (qs : List ℕ) → Placing k (a ∷ ts) qs → p ≡ parts k (a ∷ ts) qs → Are → Memᴰ p (flat_map (in_each a) (ordered_partitions ts k))
     back [] x e are = elim x [ ]
     back (q ∷ qs) (put h l) e are =
-        (in_flat (in_each a) (ordered_partitions ts k) p).1
-        (parts k ts qs, (are (parts k ts qs)).1 (qs, l, refl), rw e (in_each_lem a k q (λ i. with_digit i ts qs) (λ i. with_digit i (a ∷ ts) (q ∷ qs)) h (digit_added a q ts qs)))
+        (in_flat (in_each a) (ordered_partitions ts k) p).1 (
+          parts k ts qs,
+          (are (parts k ts qs)).1 (qs, l, refl),
+          rw e (in_each_lem a k q (λ i. with_digit i ts qs) (λ i. with_digit i (a ∷ ts) (q ∷ qs)) h (digit_added a q ts qs)),
+        )
 
 -- a is in none of the parts.
 abbrev New : ℕ → List (List ℕ) → Type 0

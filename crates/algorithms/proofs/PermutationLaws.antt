@@ -49,8 +49,10 @@ same_none (x ∷ P) h = absurd (Memᴰ.not-nil ((h x).0 (Memᴰ.head refl)))
 pub permutations_are : (S : List ℕ) → Distinct S → (P : List ℕ) → Memᴰ P (permutations S) ↔ (Distinct P × SameMembers P S)
 unfolding permutations
 permutations_are [] d P = ((λ m. rw (Memᴰ.eq_of_singleton m) (end, λ x. (λ n. n, λ n. n))), (λ s. Memᴰ.head (same_none P s.1)))
-permutations_are (a ∷ S) (before b d) P =
-    ((λ m. there ((in_flat (at_each a) (permutations S) P).0 m) (permutations_are S d)), (λ s. back s (taken_out P ((s.1 a).1 (Memᴰ.head refl))) (permutations_are S d)))
+permutations_are (a ∷ S) (before b d) P = (
+  (λ m. there ((in_flat (at_each a) (permutations S) P).0 m) (permutations_are S d)),
+  (λ s. back s (taken_out P ((s.1 a).1 (Memᴰ.head refl))) (permutations_are S d)),
+)
   where
     Are : Type 0
     Are = (Q : List ℕ) → Memᴰ Q (permutations S) ↔ (Distinct Q × SameMembers Q S)

@@ -1,4 +1,5 @@
--- What digits pair and put, by the families `Lefts` and `Rights`: document 01's pairs, and its terms in each label; and every way to pair and put has its digits.
+-- What digits pair and put, by the families `Lefts` and `Rights`: document 01's pairs, and its terms in each label; and every way to pair
+-- and put has its digits.
 -- By induction on the families. Assumes nothing.
 use Prim.Native.Nat.{ℕ, suc, ◌+◌, ◌-◌, ◌<◌}
 use mathlib.Core.List.{List, [], ◌∷◌, zip, zip_with, Memᴰ}
@@ -50,7 +51,8 @@ module _ {rs fs : List ℕ} {l : ℕ} where
       without_digit (length rs + suc q) (suc s) a F ds (λ e. omega (arith, e)) ∙ lefts_put r q
   lefts_put (put {a} {q = o} {F} {ds} {R = R} {qs = qs} h r) q = pick (ℕ_discrete o q) (lefts_put r q)
     where
-      pick : Dec (o ≡ q) → with_digit (length rs + suc q) F ds ≡ with_digit q R qs → with_digit (length rs + suc q) (a ∷ F) ((length rs + suc o) ∷ ds) ≡ with_digit q (a ∷ R) (o ∷ qs)
+      pick : Dec (o ≡ q) → with_digit (length rs + suc q) F ds ≡ with_digit q R qs →
+          with_digit (length rs + suc q) (a ∷ F) ((length rs + suc o) ∷ ds) ≡ with_digit q (a ∷ R) (o ∷ qs)
       pick (yes e) i = rw e (with_digit_lem (length rs + suc q) a F ds ∙ ap (a ∷◌) i ∙ sym (with_digit_lem q a R qs))
       pick (no n) i =
           without_digit (length rs + suc q) (length rs + suc o) a F ds (λ e. n (omega (arith, e))) ∙ i ∙ sym (without_digit q o a R qs n)
@@ -62,7 +64,8 @@ module _ {rs fs : List ℕ} {l : ℕ} where
   lefts_rest (put h r) = lefts_rest r
 
 -- any way to pair and put left terms has its digits
-pub split_lefts : (rs : List ℕ) (l : ℕ) (fs : List ℕ) {F T R : List ℕ} → Split F T R → (S qs : List ℕ) → length T ≡ length S → ((x : ℕ) → Memᴰ x S → Memᴰ x rs) → Placing l R qs → (ds : List ℕ) × Lefts rs l fs F ds T S R qs
+pub split_lefts : (rs : List ℕ) (l : ℕ) (fs : List ℕ) {F T R : List ℕ} → Split F T R → (S qs : List ℕ) → length T ≡ length S →
+    ((x : ℕ) → Memᴰ x S → Memᴰ x rs) → Placing l R qs → (ds : List ℕ) × Lefts rs l fs F ds T S R qs
 split_lefts rs l fs (left {a = a} {F = F} {T = T} {R = R} c) S [] e h p = elim p [ ]
 split_lefts rs l fs none [] qs e h none = (fs, none)
 split_lefts rs l fs none (s ∷ S) qs e h p = absurd (omega (arith, e))
@@ -70,7 +73,8 @@ split_lefts rs l fs (chosen c) [] qs e h p = absurd (omega (arith, e))
 split_lefts rs l fs (chosen {a} {F} {T} {R} c) (x ∷ S) qs e h p =
     go (split_lefts rs l fs c S qs (omega (arith, e)) (λ y m. h y (Memᴰ.tail m)) p) (member_place rs x (h x (Memᴰ.head refl)))
   where
-    go : (ds : List ℕ) × Lefts rs l fs F ds T S R qs → (s : ℕ) × (s < length rs) × (x ≡ word rs s) → (ds : List ℕ) × Lefts rs l fs (a ∷ F) ds (a ∷ T) (x ∷ S) R qs
+    go : (ds : List ℕ) × Lefts rs l fs F ds T S R qs → (s : ℕ) × (s < length rs) × (x ≡ word rs s) → (ds : List ℕ) ×
+        Lefts rs l fs (a ∷ F) ds (a ∷ T) (x ∷ S) R qs
     go (ds, r) (s, b, w) = (suc s ∷ ds, rw w (pair b r))
 split_lefts rs l fs (left c) S (q ∷ qs) e h (put b p) =
     let i = split_lefts rs l fs c S qs e h p in

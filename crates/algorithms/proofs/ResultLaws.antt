@@ -24,13 +24,16 @@ told_at n f g e i h =
     sym (tabulate_at n f [] i h) ∙ ap (λ (xs : List (List ℕ)). get_or xs i []) e ∙ tabulate_at n g [] i h
 
 -- equal parts of a list without repeats have equal digits
-part_told : (ts ds es : List ℕ) (d i : ℕ) → Distinct ts → 0 < d → i < length ts → word ds i ≡ d → with_digit d ts ds ≡ with_digit d ts es → word es i ≡ d
+part_told : (ts ds es : List ℕ) (d i : ℕ) → Distinct ts → 0 < d → i < length ts → word ds i ≡ d → with_digit d ts ds ≡ with_digit d ts es →
+    word es i ≡ d
 part_told ts ds es d i u z h e q =
     let s = (with_digit_means d z ts es (word ts i)).0 (rw q at ((with_digit_means d z ts ds (word ts i)).1 (i, h, e, refl))) in
     ap (word es) (one_place ts u i s.0 h s.1 s.3) ∙ s.2
 
-module _ (ls ks rs qs : List ℕ) (dl : Distinct ls) (dr : Distinct rs) (ds es : List ℕ) (c : IsChoice (length ls) (length rs) (length ks) (length qs) ds) (d : IsChoice (length ls) (length rs) (length ks) (length qs) es) where
-  module _ (paired : pairs ls rs ds ≡ pairs ls rs es) (in_left_lem : (p : ℕ) → p < length ks → in_left ls rs ds p ≡ in_left ls rs es p) (in_right_lem : (q : ℕ) → q < length qs → in_right ls rs ds q ≡ in_right ls rs es q) where
+module _ (ls ks rs qs : List ℕ) (dl : Distinct ls) (dr : Distinct rs) (ds es : List ℕ)
+    (c : IsChoice (length ls) (length rs) (length ks) (length qs) ds) (d : IsChoice (length ls) (length rs) (length ks) (length qs) es) where
+  module _ (paired : pairs ls rs ds ≡ pairs ls rs es) (in_left_lem : (p : ℕ) → p < length ks → in_left ls rs ds p ≡ in_left ls rs es p)
+      (in_right_lem : (q : ℕ) → q < length qs → in_right ls rs ds q ≡ in_right ls rs es q) where
     left_told : (i : ℕ) → i < length ls → word ds i ≡ word es i
     unfolding in_right
     left_told i h = go (dec_lt (length rs) (word ds i))
@@ -66,7 +69,8 @@ module _ (ls ks rs qs : List ℕ) (dl : Distinct ls) (dr : Distinct rs) (ds es :
             let p = word ds (length ls + j) - 1 in
             let e : word ds (length ls + j) ≡ suc p = omega (arith, g) in
             let b : p < length ks = let r = c.right_digits j h in omega (arith, g, r) in
-            let x = part_told rs (drop (length ls) ds) (drop (length ls) es) (suc p) j dr (omega arith) h (get_or-drop (length ls) ds j 0 ∙ e) (in_left_lem p b) in
+            let x = part_told rs (drop (length ls) ds) (drop (length ls) es) (suc p) j dr (omega arith) h (get_or-drop (length ls) ds j 0 ∙ e)
+            (in_left_lem p b) in
             e ∙ sym x ∙ get_or-drop (length ls) es j 0
 
     all_told : ds ≡ es
@@ -82,5 +86,7 @@ module _ (ls ks rs qs : List ℕ) (dl : Distinct ls) (dr : Distinct rs) (ds es :
   pub result_tells : gone_over_as ls ks rs qs ds ≡ gone_over_as ls ks rs qs es → ds ≡ es
   unfolding gone_over_as
   result_tells e =
-      let s = contexts_tell ks qs (tabulate (length ks) (in_left ls rs ds)) (tabulate (length ks) (in_left ls rs es)) (tabulate (length qs) (in_right ls rs ds)) (tabulate (length qs) (in_right ls rs es)) (tabulate_length _ _) (tabulate_length _ _) (tabulate_length _ _) (tabulate_length _ _) (ap (λ (r : Result). r.contexts) e) in
+      let s = contexts_tell ks qs (tabulate (length ks) (in_left ls rs ds)) (tabulate (length ks) (in_left ls rs es))
+      (tabulate (length qs) (in_right ls rs ds)) (tabulate (length qs) (in_right ls rs es)) (tabulate_length _ _) (tabulate_length _ _)
+      (tabulate_length _ _) (tabulate_length _ _) (ap (λ (r : Result). r.contexts) e) in
       all_told (ap (λ (r : Result). r.pairing) e) (told_at (length ks) _ _ s.0) (told_at (length qs) _ _ s.1)

@@ -55,13 +55,17 @@ module _ (n m k l : ℕ) (f : ℕ → List Result) where
   up_to c h =
       record {
         sizes = numbers 0 c;
-        are = λ x. ((λ i. (h x).0 (let r = ((numbers_are 0 c x).0 i).1 in omega (arith, r))), (λ z. let r = (h x).1 z in (numbers_are 0 c x).1 (omega arith, omega (arith, r))));
+        are = λ x. (
+          (λ i. (h x).0 (let r = ((numbers_are 0 c x).0 i).1 in omega (arith, r))),
+          (λ z. let r = (h x).1 z in (numbers_are 0 c x).1 (omega arith, omega (arith, r))),
+        );
         once = numbers_distinct 0 c;
         loop = refl;
       }
 
 -- unify_terms is unify_c with all terms chosen, where there is no label
-all_chosen : (o : List (ℕ × ℕ) → Outcome) (ts Ms ss Ns : List ℕ) → length Ms ≡ 0 → length Ns ≡ 0 → length ts ≡ length ss → unify_c o (length ts) ts Ms ss Ns ≡ composed (unify_terms o ts ss) ([] ∷ [])
+all_chosen : (o : List (ℕ × ℕ) → Outcome) (ts Ms ss Ns : List ℕ) → length Ms ≡ 0 → length Ns ≡ 0 → length ts ≡ length ss →
+    unify_c o (length ts) ts Ms ss Ns ≡ composed (unify_terms o ts ss) ([] ∷ [])
 unfolding unify_c flat_map unify_distribute distribute product
 all_chosen o ts Ms ss Ns a b e =
     rw (length_none Ms a, length_none Ns b, choose_all ts) (rw (e, choose_all ss) (append-nil _ ∙ append-nil _))
@@ -72,36 +76,59 @@ module _ (o : List (ℕ × ℕ) → Outcome) (ts Ms ss Ns : List ℕ) where
   LoopOf = Loop (length ts) (length ss) (length Ms) (length Ns) (λ c. unify_c o c ts Ms ss Ns)
 
   -- lines 1 to 3
-  no_labels : length Ms ≡ 0 → length Ns ≡ 0 → (b : Bool) → eqb (length ts) (length ss) ≡ b → LoopOf (cond b (composed (unify_terms o ts ss) ([] ∷ [])) [])
+  no_labels : length Ms ≡ 0 → length Ns ≡ 0 → (b : Bool) → eqb (length ts) (length ss) ≡ b →
+      LoopOf (cond b (composed (unify_terms o ts ss) ([] ∷ [])) [])
   no_labels p q true e =
       let g = eqb-true (length ts) (length ss) e in
       rw (all_chosen o ts Ms ss Ns p q g) at
-      (only (length ts) (length ss) (length Ms) (length Ns) (λ c. unify_c o c ts Ms ss Ns) (length ts) (record { in_left_lem = omega arith; in_right_lem = omega (arith, g); no_left = λ z. omega (arith, g); no_right = λ z. refl }) (λ x s. s.no_right q))
-  no_labels p q false e = no_size (length ts) (length ss) (length Ms) (length Ns) _ (λ x s. let y = s.no_left p in let z = s.no_right q in eqb-false (length ts) (length ss) e (omega (arith, y, z)))
+      (only (length ts) (length ss) (length Ms) (length Ns) (λ c. unify_c o c ts Ms ss Ns) (length ts)
+      (record { in_left_lem = omega arith; in_right_lem = omega (arith, g); no_left = λ z. omega (arith, g); no_right = λ z. refl })
+      (λ x s. s.no_right q))
+  no_labels p q false e = no_size (length ts) (length ss) (length Ms) (length Ns) _
+      (λ x s. let y = s.no_left p in let z = s.no_right q in eqb-false (length ts) (length ss) e (omega (arith, y, z)))
 
   -- lines 4 to 6
-  no_left_labels : length Ms ≡ 0 → (length Ns ≡ 0 → ⊥) → (b : Bool) → leb (length ss) (length ts) ≡ b → LoopOf (cond b (unify_c o (length ss) ts Ms ss Ns) [])
+  no_left_labels : length Ms ≡ 0 → (length Ns ≡ 0 → ⊥) → (b : Bool) → leb (length ss) (length ts) ≡ b →
+      LoopOf (cond b (unify_c o (length ss) ts Ms ss Ns) [])
   no_left_labels p q true e =
       let g = leb-true (length ss) (length ts) e in
-      only (length ts) (length ss) (length Ms) (length Ns) (λ c. unify_c o c ts Ms ss Ns) (length ss) (record { in_left_lem = g; in_right_lem = omega arith; no_left = λ z. refl; no_right = λ z. absurd (q z) }) (λ x s. s.no_left p)
-  no_left_labels p q false e = no_size (length ts) (length ss) (length Ms) (length Ns) _ (λ x s. let g = leb-false (length ss) (length ts) e in let y = s.no_left p in omega (arith, g, y, s.in_left_lem))
+      only (length ts) (length ss) (length Ms) (length Ns) (λ c. unify_c o c ts Ms ss Ns) (length ss)
+      (record { in_left_lem = g; in_right_lem = omega arith; no_left = λ z. refl; no_right = λ z. absurd (q z) }) (λ x s. s.no_left p)
+  no_left_labels p q false e = no_size (length ts) (length ss) (length Ms) (length Ns) _
+      (λ x s. let g = leb-false (length ss) (length ts) e in let y = s.no_left p in omega (arith, g, y, s.in_left_lem))
 
   -- lines 7 to 9
-  no_right_labels : (length Ms ≡ 0 → ⊥) → length Ns ≡ 0 → (b : Bool) → leb (length ts) (length ss) ≡ b → LoopOf (cond b (unify_c o (length ts) ts Ms ss Ns) [])
+  no_right_labels : (length Ms ≡ 0 → ⊥) → length Ns ≡ 0 → (b : Bool) → leb (length ts) (length ss) ≡ b →
+      LoopOf (cond b (unify_c o (length ts) ts Ms ss Ns) [])
   no_right_labels p q true e =
       let g = leb-true (length ts) (length ss) e in
-      only (length ts) (length ss) (length Ms) (length Ns) (λ c. unify_c o c ts Ms ss Ns) (length ts) (record { in_left_lem = omega arith; in_right_lem = g; no_left = λ z. absurd (p z); no_right = λ z. refl }) (λ x s. s.no_right q)
-  no_right_labels p q false e = no_size (length ts) (length ss) (length Ms) (length Ns) _ (λ x s. let g = leb-false (length ts) (length ss) e in let y = s.no_right q in omega (arith, g, y, s.in_right_lem))
+      only (length ts) (length ss) (length Ms) (length Ns) (λ c. unify_c o c ts Ms ss Ns) (length ts)
+      (record { in_left_lem = omega arith; in_right_lem = g; no_left = λ z. absurd (p z); no_right = λ z. refl }) (λ x s. s.no_right q)
+  no_right_labels p q false e = no_size (length ts) (length ss) (length Ms) (length Ns) _
+      (λ x s. let g = leb-false (length ts) (length ss) e in let y = s.no_right q in omega (arith, g, y, s.in_right_lem))
 
   -- Algorithm 1 is one loop over unify_c
   pub one_loop : LoopOf (unify o ts Ms ss Ns)
   unfolding unify
   one_loop = pick _ refl _ refl
     where
-      pick : (b : Bool) → eqb (length Ms) 0 ≡ b → (d : Bool) → eqb (length Ns) 0 ≡ d → LoopOf (cond (b && d) (cond (eqb (length ts) (length ss)) (composed (unify_terms o ts ss) ([] ∷ [])) []) (cond b (cond (leb (length ss) (length ts)) (unify_c o (length ss) ts Ms ss Ns) []) (cond d (cond (leb (length ts) (length ss)) (unify_c o (length ts) ts Ms ss Ns) []) (flat_map (λ c. unify_c o c ts Ms ss Ns) (numbers 0 (suc (min (length ts) (length ss))))))))
+      pick : (b : Bool) → eqb (length Ms) 0 ≡ b → (d : Bool) → eqb (length Ns) 0 ≡ d →
+          LoopOf (cond (b && d) (cond (eqb (length ts) (length ss)) (composed (unify_terms o ts ss) ([] ∷ [])) [])
+          (cond b (cond (leb (length ss) (length ts)) (unify_c o (length ss) ts Ms ss Ns) [])
+          (cond d (cond (leb (length ts) (length ss)) (unify_c o (length ts) ts Ms ss Ns) [])
+          (flat_map (λ c. unify_c o c ts Ms ss Ns) (numbers 0 (suc (min (length ts) (length ss))))))))
       pick true p true q = no_labels (eqb-true _ _ p) (eqb-true _ _ q) _ refl
       pick true p false q = no_left_labels (eqb-true _ _ p) (eqb-false _ _ q) _ refl
       pick false p true q = no_right_labels (eqb-false _ _ p) (eqb-true _ _ q) _ refl
       pick false p false q =
           up_to (length ts) (length ss) (length Ms) (length Ns) _ _
-          (λ x. (λ h. record { in_left_lem = omega (arith, h); in_right_lem = omega (arith, h); no_left = λ z. absurd (eqb-false _ _ p z); no_right = λ z. absurd (eqb-false _ _ q z) }, λ s. omega (arith, s.in_left_lem, s.in_right_lem)))
+          (λ x. (
+            λ h. record {
+              in_left_lem = omega (arith, h);
+              in_right_lem = omega (arith, h);
+              no_left = λ z. absurd (eqb-false _ _ p z);
+              no_right =
+                  λ z. absurd (eqb-false _ _ q z);
+            },
+            λ s. omega (arith, s.in_left_lem, s.in_right_lem),
+          ))

@@ -1,4 +1,5 @@
--- Tags stand for terms, each for one: there are as many, no tag stands twice, and what digits pair and put somewhere as tags stands for what they pair and put there as terms.
+-- Tags stand for terms, each for one: there are as many, no tag stands twice, and what digits pair and put somewhere as tags stands for
+-- what they pair and put there as terms.
 -- The tags of a side, as nodes, are its terms; pairing and putting go through such a map. Assumes nothing.
 use Prim.Native.Nat.{ℕ, suc, ◌+◌, ◌-◌, ◌<◌}
 use mathlib.Core.Bool.{Bool, true, false, cond}
@@ -24,12 +25,14 @@ with_map f d [] ds = refl
 with_map f d (a ∷ ts) [] = refl
 with_map f d (a ∷ ts) (e ∷ ds) = pick (eqb e d) (with_map f d ts ds)
   where
-    pick : (b : Bool) → map f (with_digit d ts ds) ≡ with_digit d (map f ts) ds → map f (cond b (a ∷ with_digit d ts ds) (with_digit d ts ds)) ≡ cond b (f a ∷ with_digit d (map f ts) ds) (with_digit d (map f ts) ds)
+    pick : (b : Bool) → map f (with_digit d ts ds) ≡ with_digit d (map f ts) ds →
+        map f (cond b (a ∷ with_digit d ts ds) (with_digit d ts ds)) ≡ cond b (f a ∷ with_digit d (map f ts) ds) (with_digit d (map f ts) ds)
     pick true r = ap (f a ∷◌) r
     pick false r = r
 
 -- what stands for two terms of a pair is a pair, where left digits are above 0
-pairs_map : (f : ℕ → ℕ) (ls rs ds : List ℕ) → ((i : ℕ) → i < length ls → 0 < word ds i) → map (λ p. (f p.0, f p.1)) (pairs ls rs ds) ≡ pairs (map f ls) (map f rs) ds
+pairs_map : (f : ℕ → ℕ) (ls rs ds : List ℕ) → ((i : ℕ) → i < length ls → 0 < word ds i) →
+    map (λ p. (f p.0, f p.1)) (pairs ls rs ds) ≡ pairs (map f ls) (map f rs) ds
 unfolding pairs
 pairs_map f [] rs ds h = refl
 pairs_map f (a ∷ ls) rs [] h = refl
@@ -38,7 +41,9 @@ pairs_map f (a ∷ ls) rs (d ∷ ds) h = rw (length-map rs f) (pick (leb d (leng
     both : ℕ × ℕ → ℕ × ℕ
     both p = (f p.0, f p.1)
 
-    pick : (b : Bool) → leb d (length rs) ≡ b → map both (pairs ls rs ds) ≡ pairs (map f ls) (map f rs) ds → map both (cond b ((a, word rs (d - 1)) ∷ pairs ls rs ds) (pairs ls rs ds)) ≡ cond b ((f a, word (map f rs) (d - 1)) ∷ pairs (map f ls) (map f rs) ds) (pairs (map f ls) (map f rs) ds)
+    pick : (b : Bool) → leb d (length rs) ≡ b → map both (pairs ls rs ds) ≡ pairs (map f ls) (map f rs) ds →
+        map both (cond b ((a, word rs (d - 1)) ∷ pairs ls rs ds) (pairs ls rs ds))
+        ≡ cond b ((f a, word (map f rs) (d - 1)) ∷ pairs (map f ls) (map f rs) ds) (pairs (map f ls) (map f rs) ds)
     pick true e r =
         let z : 0 < d = h 0 (omega arith) in
         let k = leb-true d (length rs) e in
@@ -81,7 +86,8 @@ right_nodes t =
 pub pairs_stand : (t : Sides) (ds : List ℕ) → HalfChoice t.half ds → node_pairs t (pairs (left_tags t) (right_tags t) ds) ≡ half_pairs t.half ds
 unfolding node_pairs
 pairs_stand t ds c =
-    pairs_map (node_of t) (left_tags t) (right_tags t) ds (λ i h. (c.left_digits i (rw (← left_tags_long t) h)).0) ∙ rw (left_nodes t, right_nodes t) refl
+    pairs_map (node_of t) (left_tags t) (right_tags t) ds (λ i h. (c.left_digits i (rw (← left_tags_long t) h)).0) ∙
+    rw (left_nodes t, right_nodes t) refl
 
 -- the tags in each label stand for the terms that the choice puts there
 pub lefts_stand : (t : Sides) (ds : List ℕ) (p : ℕ) →

@@ -1,5 +1,6 @@
 -- Theorems 1 and 2 of document 000, of its algorithm, and page 14.
--- Algorithm 1's results are those of the entries of the complete listing, so page 14 holds of it. A substitution that makes the sides equal is an assignment, with variables for the rests: page 14 gives the unifier that it comes after. Assumes nothing.
+-- Algorithm 1's results are those of the entries of the complete listing, so page 14 holds of it. A substitution that makes the sides equal
+-- is an assignment, with variables for the rests: page 14 gives the unifier that it comes after. Assumes nothing.
 use Prim.Native.Nat.{ℕ, ◌≤◌}
 use mathlib.Core.List.Memᴰ
 use mathlib.Core.List.Permᴰ
@@ -107,7 +108,8 @@ module _ (t : Sides) (σ : MmsetSubstitution) where
         labels = λ M i u. ap (occurrences u) (sym (same M));
       }
     where
-      same : (M : ℕ) → map (sub var) (σ.on_variables (given M)).terms ++ flat_map (λ N. []) (σ.on_variables (given M)).variables ≡ (σ.on_variables (given M)).terms
+      same : (M : ℕ) → map (sub var) (σ.on_variables (given M)).terms ++ flat_map (λ N. []) (σ.on_variables (given M)).variables
+          ≡ (σ.on_variables (given M)).terms
       same M =
           let ts = (σ.on_variables (given M)).terms in
           rw (flat_none {B = Term} (λ N. []) (σ.on_variables (given M)).variables (λ N. refl))
@@ -118,7 +120,8 @@ pub unifies_agree : (t : Sides) → Posed (problem t) → (σ τ : MmsetSubstitu
     ((x : ℕ) → Present t.nodes x → σ.on_terms x ≡ τ.on_terms x) →
     ((M : ℕ) → Memᴰ M (half_labels t.half) → σ.on_variables (given M) ≡ τ.on_variables (given M)) → UnifiesSides t σ → UnifiesSides t τ
 unifies_agree t ok σ τ x l s =
-    let g : Agree (problem t) (assignment_of σ) (assignment_of τ) = record { variables = x; labels = λ h k. rw (Memᴰ.eq_of_singleton k) (λ M i u. ap (λ (S : Mmset Term). occurrences u S.terms) (l M i)) } in
+    let g : Agree (problem t) (assignment_of σ) (assignment_of τ) =
+    record { variables = x; labels = λ h k. rw (Memᴰ.eq_of_singleton k) (λ M i u. ap (λ (S : Mmset Term). occurrences u S.terms) (l M i)) } in
     unifies t τ ((equal_agree (problem t) ok (assignment_of σ) (assignment_of τ) g).0 ((sides_equal t σ).0 s.terms))
 
 -- Theorem 1: "Soundness. If unify(M, N) ↦ {σ_1, .., σ_n} then ∀σ_i. M σ_i =_{T_σ_i} N σ_i"
@@ -153,13 +156,17 @@ module _ (σ : MmsetSubstitution) where
   one_rest M vs (inr e) = rw e (append-nil (rests_by M))
 
   -- where none does, as the other side has no label, the rests equal nothing together, and so it does
-  rests_kept : (Ms Ns : List ℕ) (M : ℕ) → Memᴰ M Ms → (vs : List MultisetVariable) → (Ns ≡ [] → vs ≡ []) → ((Ns ≡ [] → ⊥) → (vs ≡ given M ∷ []) ⊎ (vs ≡ fresh M ∷ [])) → (ρ : MultisetVariable → List Term) → Same (flat_map (λ N. flat_map ρ (rests_by N)) Ms) (flat_map (λ N. flat_map ρ (rests_by N)) Ns) → Same (flat_map ρ (rests_by M)) (flat_map ρ (rests_for vs))
+  rests_kept : (Ms Ns : List ℕ) (M : ℕ) → Memᴰ M Ms → (vs : List MultisetVariable) → (Ns ≡ [] → vs ≡ []) →
+      ((Ns ≡ [] → ⊥) → (vs ≡ given M ∷ []) ⊎ (vs ≡ fresh M ∷ [])) → (ρ : MultisetVariable → List Term) →
+      Same (flat_map (λ N. flat_map ρ (rests_by N)) Ms) (flat_map (λ N. flat_map ρ (rests_by N)) Ns) →
+      Same (flat_map ρ (rests_by M)) (flat_map ρ (rests_for vs))
   unfolding flat_map occurrences
   rests_kept Ms [] M i vs e o ρ h u =
       let a = in_all (λ N. flat_map ρ (rests_by N)) Ms M i u in
       rw (e refl) (omega (arith, a, h u))
   rests_kept Ms (N ∷ Ns) M i vs e o ρ h u =
-      ap (λ (ws : List MultisetVariable). occurrences u (flat_map ρ ws)) (sym (one_rest M vs (o (λ q. let l = ap length q in absurd (omega (arith, l))))))
+      ap (λ (ws : List MultisetVariable). occurrences u (flat_map ρ ws))
+      (sym (one_rest M vs (o (λ q. let l = ap length q in absurd (omega (arith, l))))))
 
   module _ (t : Sides) (ok : Posed (problem t)) (e : List ℕ) where
     -- the substitution has for the rest of a label what it has for what stands for it, modulo its theory,
@@ -214,7 +221,8 @@ completeness t z σ s =
 pub completeness_plain : (t : Sides) → Posed (problem t) → (t.half.left_labels ≡ [] → ⊥) → (t.half.right_labels ≡ [] → ⊥) →
     (σ : MmsetSubstitution) → UnifiesSides t σ →
     (σᵢ : MmsetSubstitution) × Memᴰ σᵢ (unifiers_of t) ×
-    ((σ' : MmsetSubstitution) × SameOn t (theory_of t σ) σ (compose σᵢ σ') × ((M : ℕ) → Memᴰ M (half_labels t.half) → (σ.on_variables (given M)).variables ≡ ((compose σᵢ σ').on_variables (given M)).variables))
+    ((σ' : MmsetSubstitution) × SameOn t (theory_of t σ) σ (compose σᵢ σ') ×
+    ((M : ℕ) → Memᴰ M (half_labels t.half) → (σ.on_variables (given M)).variables ≡ ((compose σᵢ σ').on_variables (given M)).variables))
 completeness_plain t z l r σ s =
     let i = unifies_allowed t z σ s in
     (unifier_of t (entry_result t i.0), entry_unifier t i.0 i.1, (follower σ t z i.0 i.2, follows σ t z i.0 i.2, follows_plain σ t z i.0 i.2 l r))

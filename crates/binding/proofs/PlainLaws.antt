@@ -113,7 +113,8 @@ word_noted nodes heads by u v h r d e z q =
     rw y (q ∙ ap (word by) b)
 
 -- and where it is an application
-pub word_head : (nodes heads by : List ℕ) (u v h : ℕ) → v ≡ u → h ≡ class_of heads v → eqb (kind_of nodes h) 0 ≡ false → h ≡ plain_word nodes heads by u
+pub word_head : (nodes heads by : List ℕ) (u v h : ℕ) → v ≡ u → h ≡ class_of heads v → eqb (kind_of nodes h) 0 ≡ false →
+    h ≡ plain_word nodes heads by u
 unfolding plain_word
 word_head nodes heads by u v h d e z =
     let b : h ≡ class_of heads u = e ∙ ap (class_of heads) d in
@@ -242,7 +243,8 @@ module _ (nodes arguments : List ℕ) (s : Sections nodes arguments) (counts hea
   as_many : (i j : ℕ) → i < node_count nodes → j < node_count nodes → (kind_of nodes i ≡ 0 → ⊥) → (kind_of nodes j ≡ 0 → ⊥) →
       value ns σ i ≡ value ns σ j → count_of nodes i ≡ count_of nodes j
   as_many i j p q a b e =
-      let d : app (name_of nodes i) (each (value ns σ) (run nodes arguments i)) ≡ app (name_of nodes j) (each (value ns σ) (run nodes arguments j)) = sym (applied_value σ i p a) ∙ e ∙ applied_value σ j q b in
+      let d : app (name_of nodes i) (each (value ns σ) (run nodes arguments i)) ≡ app (name_of nodes j) (each (value ns σ) (run nodes arguments j)) =
+      sym (applied_value σ i p a) ∙ e ∙ applied_value σ j q b in
       let c : each (value ns σ) (run nodes arguments i) ≡ each (value ns σ) (run nodes arguments j) = cc in
       sym (run_long nodes arguments s i p)
       ∙ each_long (value ns σ) (value ns σ) (run nodes arguments i) (run nodes arguments j) c
@@ -345,7 +347,8 @@ module _ (nodes arguments : List ℕ) (s : Sections nodes arguments) (counts hea
               pick : j ≤ i → Dec (j ≡ i) → word (variables_of ns) j ≤ u
               pick l (yes y) = let c = ap (word (variables_of ns)) y in omega (arith, c, a)
               pick l (no y) =
-                  let c = rising_places (variables_of ns) (variables_rise ns) j i (omega (arith, l, y)) (rw (list_long nodes arguments list e) at h) in
+                  let c = rising_places (variables_of ns) (variables_rise ns) j i (omega (arith, l, y)) (rw (list_long nodes arguments list e) at h)
+                  in
                   omega (arith, c, a)
 
       -- which is its word

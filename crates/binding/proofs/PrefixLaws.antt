@@ -66,7 +66,8 @@ module _ (nodes arguments : List ℕ) (s : Sections nodes arguments) (counts hea
             (is_node nodes arguments i m.node) (application_from nodes arguments i m.node m.applied)
 
         at : (x y : ℕ) →
-            (j : ℕ) × (j < count_of nodes g) × (j < count_of nodes h) × (x ≡ argument_of nodes arguments g j) × (y ≡ argument_of nodes arguments h j) →
+            (j : ℕ) × (j < count_of nodes g) × (j < count_of nodes h) × (x ≡ argument_of nodes arguments g j) ×
+            (y ≡ argument_of nodes arguments h j) →
             term_at x ≡ term_at y
         at x y (j, i, i', u, v) =
             let b = k.below g p.node p j i in
@@ -235,7 +236,8 @@ module _ (nodes arguments : List ℕ) (s : Sections nodes arguments) (counts hea
         z : length order ≡ length closed + length placed
         z = length-append closed placed
 
-        met : (word counts (class_of heads i) ≡ 0 → ⊥) → Met (word counts) placed (length placed) (class_of heads i) → IsPlaced order (class_of heads i)
+        met : (word counts (class_of heads i) ≡ 0 → ⊥) → Met (word counts) placed (length placed) (class_of heads i) →
+            IsPlaced order (class_of heads i)
         met n (leaf e) = absurd (n e)
         met n (before q m e) =
             (length closed + q, omega (arith, z, m), get_or-append-add closed placed q 0 ∙ e)

@@ -102,7 +102,9 @@ module _ (ns : List Node) (w : WellFormed ns) (rs : List ℕ) (right : (j : ℕ)
   cannot [] (row ∷ rows) z left s ds ps marks lm p i never e = absurd (omega (arith, z))
   cannot (a ∷ ls) [] z left s ds ps marks lm p i never e = absurd (omega (arith, z))
   cannot (a ∷ ls) (row ∷ rows) z left s ds ps marks lm p i never e =
-      let rest : (t : ℕ) (es : List ℕ) (qs : List (ℕ × ℕ)) (zs : List ℕ) → length zs ≡ length rs → PairedSet zs t → Inside ns qs → ((q j : ℕ) → q < length ls → j < length rs → has (word rows q) j ≡ false → NeverOn ns qs (word ls q) (word rs j)) → completes (length rs) k l rows t ≡ false → below ns rs k l ls es qs zs ≡ [] =
+      let rest : (t : ℕ) (es : List ℕ) (qs : List (ℕ × ℕ)) (zs : List ℕ) → length zs ≡ length rs → PairedSet zs t → Inside ns qs →
+      ((q j : ℕ) → q < length ls → j < length rs → has (word rows q) j ≡ false → NeverOn ns qs (word ls q) (word rs j)) →
+      completes (length rs) k l rows t ≡ false → below ns rs k l ls es qs zs ≡ [] =
       cannot ls rows (omega (arith, z)) (λ q h. left (suc q) (omega arith)) in
       let later : (q j : ℕ) → q < length ls → j < length rs → has (word rows q) j ≡ false → NeverOn ns ps (word ls q) (word rs j) = λ q j h g o. never
       (suc q) j (omega arith) g o in

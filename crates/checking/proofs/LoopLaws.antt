@@ -101,7 +101,8 @@ module _ (ns args : List ℕ) (i first count j : ℕ) (f : first ≡ first_of ns
       let s : word args (first + j) ≡ word args (first_of ns i + j) = ap (λ (k : ℕ). word args (k + j)) f in
       sym (some_here (argument_is_wrong ns args i) j (count_of ns i) (omega arith) (le-leb i (word args (first_of ns i + j)) (omega arith)))
 
-  pub argument_right : (x : ℕ) → x ≡ word args (first + j) → x < i → some_below j (argument_is_wrong ns args i) ≡ false → some_below (j + 1) (argument_is_wrong ns args i) ≡ false
+  pub argument_right : (x : ℕ) → x ≡ word args (first + j) → x < i → some_below j (argument_is_wrong ns args i) ≡ false →
+      some_below (j + 1) (argument_is_wrong ns args i) ≡ false
   unfolding argument_is_wrong
   argument_right x e l b =
       let s : word args (first + j) ≡ word args (first_of ns i + j) = ap (λ (k : ℕ). word args (k + j)) f in

@@ -42,7 +42,8 @@ module _ (nodes arguments counts heads : List ℕ) (s : Sections nodes arguments
           inside = longer nodes arguments counts s heads f a b p q ps d;
           closure =
               closure_at_last (nodes_from nodes arguments) ((a, b) ∷ ps) heads
-              (already (nodes_from nodes arguments) ((a, b) ∷ ps) heads a b [] (in_list f.partition a p) (in_list f.partition b q) e (waiting nodes arguments counts s heads f a b p q ps d));
+              (already (nodes_from nodes arguments) ((a, b) ∷ ps) heads a b [] (in_list f.partition a p) (in_list f.partition b q) e
+              (waiting nodes arguments counts s heads f a b p q ps d));
         }
 
     -- applications of different symbols: a clash

@@ -50,7 +50,8 @@ module _ (nodes arguments counts : List ℕ) (s : Sections nodes arguments) (r :
       paired : (k : ℕ) → k < count_of nodes i → Joined ns ps (argument_of nodes arguments i k) (argument_of nodes arguments j k)
       paired k l =
           by-arguments first_node second_node (names, long) q
-          ((pair_place nodes arguments s i j m.node n.node (argument_of nodes arguments i k) (argument_of nodes arguments j k)).1 (k, l, rw (← as_many) l, refl, refl))
+          ((pair_place nodes arguments s i j m.node n.node (argument_of nodes arguments i k) (argument_of nodes arguments j k)).1
+          (k, l, rw (← as_many) l, refl, refl))
 
       -- with arguments of one term each they are of one term
       made : ((k : ℕ) → k < count_of nodes i → SameTerm nodes arguments (argument_of nodes arguments i k) (argument_of nodes arguments j k)) →
@@ -63,7 +64,8 @@ module _ (nodes arguments counts : List ℕ) (s : Sections nodes arguments) (r :
           ∙ sym (value_application ns w var j (name_of nodes j) (run nodes arguments j) (is_node nodes arguments j n.node) second_node)
         where
           pairs : (a b : ℕ) → Memᴰ (a, b) (zip (run nodes arguments i) (run nodes arguments j)) → SameTerm nodes arguments a b
-          pairs a b k = let p = (pair_place nodes arguments s i j m.node n.node a b).0 k in ap (value ns var) p.3 ∙ f p.0 p.1 ∙ sym (ap (value ns var) p.4)
+          pairs a b k = let p = (pair_place nodes arguments s i j m.node n.node a b).0 k in ap (value ns var) p.3 ∙ f p.0 p.1 ∙
+              sym (ap (value ns var) p.4)
 
       -- the first k pairs of arguments are of one term each, or some clash
       firsts :
@@ -74,7 +76,8 @@ module _ (nodes arguments counts : List ℕ) (s : Sections nodes arguments) (r :
       firsts f (suc k) h =
           let l : k < count_of nodes i = h k (omega arith) in
           go (firsts f k (λ p b. h p (omega arith)))
-          (f (argument_of nodes arguments i k) (argument_of nodes arguments j k) (s.smaller i k m.node l) (r.below i m.node m k l) (r.below j n.node n k (rw (← as_many) l)) (paired k l))
+          (f (argument_of nodes arguments i k) (argument_of nodes arguments j k) (s.smaller i k m.node l) (r.below i m.node m k l)
+          (r.below j n.node n k (rw (← as_many) l)) (paired k l))
         where
           last : ((p : ℕ) → p < k → SameTerm nodes arguments (argument_of nodes arguments i p) (argument_of nodes arguments j p)) →
               SameTerm nodes arguments (argument_of nodes arguments i k) (argument_of nodes arguments j k) → (p : ℕ) → p < suc k → Dec (p ≡ k) →
@@ -96,7 +99,8 @@ module _ (nodes arguments counts : List ℕ) (s : Sections nodes arguments) (r :
       all f = go (firsts f (count_of nodes i) (λ p l. l))
         where
           go :
-              Clash ns ps ⊎ ((p : ℕ) → p < count_of nodes i → SameTerm nodes arguments (argument_of nodes arguments i p) (argument_of nodes arguments j p)) →
+              Clash ns ps ⊎ ((p : ℕ) → p < count_of nodes i →
+              SameTerm nodes arguments (argument_of nodes arguments i p) (argument_of nodes arguments j p)) →
               Clash ns ps ⊎ SameTerm nodes arguments i j
           go (inl c) = inl c
           go (inr e) = inr (made e)

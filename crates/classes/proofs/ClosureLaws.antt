@@ -42,7 +42,13 @@ retold ns ps heads todo todo' k w c =
       one_variable = c.one_variable;
       applications = λ i f us p d.
           let x = c.applications i f us p d in
-          record { arguments = x.arguments; applied = x.applied; as_long = x.as_long; linked = λ a b m. linked_on heads heads todo todo' refl (λ i j p q e. e) k a b (x.linked a b m) };
+          record {
+            arguments = x.arguments;
+            applied = x.applied;
+            as_long = x.as_long;
+            linked =
+                λ a b m. linked_on heads heads todo todo' refl (λ i j p q e. e) k a b (x.linked a b m);
+          };
     }
 
 -- a pair of one class is done
@@ -85,7 +91,8 @@ module _ (ns : List Node) (ps : List (ℕ × ℕ)) (heads : List ℕ) (x y : ℕ
       go h (yes z) = through (meet f h.arguments (ap (node_at ns) (sym z) ∙ h.applied))
         where
           through :
-              ((vs : List ℕ) × (node_at ns (class_of heads x) ≡ application f vs) × (length h.arguments ≡ length vs) × ((a b : ℕ) → Memᴰ (a, b) (zip h.arguments vs) → Linked (join heads (x, y)) todo' a b)) →
+              ((vs : List ℕ) × (node_at ns (class_of heads x) ≡ application f vs) × (length h.arguments ≡ length vs) ×
+              ((a b : ℕ) → Memᴰ (a, b) (zip h.arguments vs) → Linked (join heads (x, y)) todo' a b)) →
               HeadLinks ns (join heads (x, y)) todo' i f us
           through (vs, e, n, r) =
               record {

@@ -72,7 +72,8 @@ module _ (nodes arguments counts : List ℕ) (s : Sections nodes arguments) (hea
         Extends nodes arguments counts heads next a b Clash heads'' next''
     extends_clash t {heads''} {next''} u =
         extends_failed nodes arguments counts heads next a b heads'' next'' Clash u (λ z. let y : ◌≡◌ {A = ℕ} 0 1 = cc in omega arith)
-        (λ ps d. (outcome_clash (nodes_from nodes arguments) (sections_well_formed nodes arguments s) ((a, b) ∷ ps) (longer ps d)).1 (j.clashes t ((a, b) ∷ ps) [] (waiting ps d)))
+        (λ ps d. (outcome_clash (nodes_from nodes arguments) (sections_well_formed nodes arguments s) ((a, b) ∷ ps) (longer ps d)).1
+        (j.clashes t ((a, b) ∷ ps) [] (waiting ps d)))
 
     module _ (t : fine ≡ true) (k : Counts nodes arguments counts (node_count nodes)) where
       -- classes of the longer list

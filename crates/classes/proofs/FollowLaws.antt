@@ -157,7 +157,8 @@ module _ {nodes arguments heads : List ℕ} {due : ℕ → ℕ} {h j found : ℕ
     (o : Onward nodes arguments due heads h j found) (l : j < due h) {g : ℕ} (e : g ≡ class_of heads (argument_of nodes arguments h j))
     (inside : g < node_count nodes) where
   -- it leads on, and nothing before it leads on to another head
-  onward_to : ((i : ℕ) → i < j → (due (class_of heads (argument_of nodes arguments h i)) ≡ 0) ⊎ (class_of heads (argument_of nodes arguments h i) ≡ g)) →
+  onward_to : ((i : ℕ) → i < j → (due (class_of heads (argument_of nodes arguments h i)) ≡ 0) ⊎
+      (class_of heads (argument_of nodes arguments h i) ≡ g)) →
       Onward nodes arguments due heads h (j + 1) g
   onward_to f =
       record {

@@ -55,14 +55,18 @@ module _ (nodes counts : List ℕ) (g h : ℕ) (hg : g < node_count nodes) (hh :
       go false y a b z = inl (sym p ∙ a)
       go true true a b z =
           let k : (closed_test nodes counts g && closed_test nodes counts h) ≡ true = sym q ∙ b in
-          inr
-          (closed_true nodes counts g hg (and_true_left (closed_test nodes counts g) (closed_test nodes counts h) k), closed_true nodes counts h hh (and_true_right (closed_test nodes counts g) (closed_test nodes counts h) k))
+          inr (
+            closed_true nodes counts g hg (and_true_left (closed_test nodes counts g) (closed_test nodes counts h) k),
+            closed_true nodes counts h hh (and_true_right (closed_test nodes counts g) (closed_test nodes counts h) k),
+          )
       go true false a b z = absurd (false≢true z)
 
   -- and where they are neither
   pub alike_tested : (not r || s) ≡ false → (symbol_test nodes g h ≡ true) × (IsClosed nodes counts g → IsClosed nodes counts h → ⊥)
-  alike_tested e =
-      (sym p ∙ not-false r (or_false_left (not r) s e), λ m n. go (closed_test nodes counts g) (closed_test nodes counts h) refl refl (sym q ∙ or_false_right (not r) s e) m n)
+  alike_tested e = (
+    sym p ∙ not-false r (or_false_left (not r) s e),
+    λ m n. go (closed_test nodes counts g) (closed_test nodes counts h) refl refl (sym q ∙ or_false_right (not r) s e) m n,
+  )
     where
       go : (x y : Bool) → closed_test nodes counts g ≡ x → closed_test nodes counts h ≡ y → (x && y) ≡ false → IsClosed nodes counts g →
           IsClosed nodes counts h → ⊥
@@ -78,7 +82,8 @@ pub tested_by : (f : ℕ → ℕ → Bool) (x y g h : ℕ) (r : Bool) → x ≡ 
 tested_by f x y g h r d e q = q ∙ ap (λ (k : ℕ). f k y) d ∙ ap (f g) e
 
 -- an argument of a head, by the head's number
-pub argument_of_lem : (nodes arguments : List ℕ) (j : ℕ) {g h x : ℕ} → x ≡ argument_of nodes arguments g j → g ≡ h → x ≡ argument_of nodes arguments h j
+pub argument_of_lem : (nodes arguments : List ℕ) (j : ℕ) {g h x : ℕ} → x ≡ argument_of nodes arguments g j → g ≡ h →
+    x ≡ argument_of nodes arguments h j
 argument_of_lem nodes arguments j e d = e ∙ ap (λ (k : ℕ). argument_of nodes arguments k j) d
 
 module _ (nodes arguments : List ℕ) (s : Sections nodes arguments) (g h : ℕ) (hg : g < node_count nodes) (hh : h < node_count nodes)
@@ -195,14 +200,17 @@ module _ (nodes arguments counts : List ℕ) (g h : ℕ) where
       arguments_clash t ps todo l c =
           w.clashes t ps (argument_pairs nodes arguments g h ++ todo)
           (next_waits ps (argument_pairs nodes arguments g h ++ todo)
-          (retold (nodes_from nodes arguments) ps heads (argument_pairs nodes arguments g h ++ todo) (first_pairs nodes arguments g h (j + 1) ++ (argument_pairs nodes arguments g h ++ todo)) (λ ds u v x y m. v x y (Memᴰ.append_right (first_pairs nodes arguments g h (j + 1)) m)) wanted_all c))
+          (retold (nodes_from nodes arguments) ps heads (argument_pairs nodes arguments g h ++ todo)
+          (first_pairs nodes arguments g h (j + 1) ++ (argument_pairs nodes arguments g h ++ todo))
+          (λ ds u v x y m. v x y (Memᴰ.append_right (first_pairs nodes arguments g h (j + 1)) m)) wanted_all c))
         where
           first_among : (p : ℕ × ℕ) → Memᴰ p (first_pairs nodes arguments g h (j + 1)) → Memᴰ p (argument_pairs nodes arguments g h)
           first_among p m =
               let r = tabulate_from (j + 1) (argument_pair nodes arguments g h) p m in
               rw r.2 (tabulate_member (count_of nodes g) (argument_pair nodes arguments g h) r.0 (let k = r.1 in omega (arith, k)))
 
-          wanted_all : Wanted (nodes_from nodes arguments) ps (first_pairs nodes arguments g h (j + 1) ++ (argument_pairs nodes arguments g h ++ todo))
+          wanted_all : Wanted (nodes_from nodes arguments) ps
+              (first_pairs nodes arguments g h (j + 1) ++ (argument_pairs nodes arguments g h ++ todo))
           wanted_all x y m = go (Memᴰ.append_cases (first_pairs nodes arguments g h (j + 1)) m)
             where
               go : Memᴰ (x, y) (first_pairs nodes arguments g h (j + 1)) ⊎ Memᴰ (x, y) (argument_pairs nodes arguments g h ++ todo) →
@@ -373,7 +381,8 @@ module _ {nodes arguments counts heads next : List ℕ} {a b : ℕ} (m : Meeting
       Joins nodes arguments counts heads next a b false heads next
   join_closed p q =
       refused
-      (λ ps todo c. go (closed_joined nodes arguments counts m.joinable.sections m.joinable.counts_right ps (class_of heads a) (class_of heads b) p q (heads_joined ps todo c)))
+      (λ ps todo c. go (closed_joined nodes arguments counts m.joinable.sections m.joinable.counts_right ps (class_of heads a) (class_of heads b) p q
+      (heads_joined ps todo c)))
     where
       go : {ps : List (ℕ × ℕ)} → Clash ns ps ⊎ SameTerm nodes arguments (class_of heads a) (class_of heads b) → Clash ns ps
       go (inl c) = c
@@ -383,7 +392,8 @@ module _ {nodes arguments counts heads next : List ℕ} {a b : ℕ} (m : Meeting
 
   -- heads that clash
   pub join_clash : (kind_of nodes (class_of heads a) ≡ 0 → ⊥) × (kind_of nodes (class_of heads b) ≡ 0 → ⊥) →
-      (symbol_test nodes (class_of heads a) (class_of heads b) ≡ false) ⊎ (IsClosed nodes counts (class_of heads a) × IsClosed nodes counts (class_of heads b)) →
+      (symbol_test nodes (class_of heads a) (class_of heads b) ≡ false) ⊎
+      (IsClosed nodes counts (class_of heads a) × IsClosed nodes counts (class_of heads b)) →
       Joins nodes arguments counts heads next a b false heads next
   join_clash k (inl e) = join_differ k.0 k.1 e
   join_clash k (inr r) = join_closed r.0 r.1
@@ -419,11 +429,13 @@ module _ {nodes arguments counts heads next : List ℕ} {a b : ℕ} (m : Meeting
 
     -- the pair is done
     pair_done : (es : List ℕ) →
-        ((i j : ℕ) → i < length (join heads (x, y)) → j < length (join heads (x, y)) → class_of (join heads (x, y)) i ≡ class_of (join heads (x, y)) j → class_of es i ≡ class_of es j) →
+        ((i j : ℕ) → i < length (join heads (x, y)) → j < length (join heads (x, y)) →
+        class_of (join heads (x, y)) i ≡ class_of (join heads (x, y)) j → class_of es i ≡ class_of es j) →
         class_of es a ≡ class_of es b
     pair_done es v =
         either_between (λ i j. class_of es i ≡ class_of es j) (λ i j e. sym e) (either_back o)
-        (v x y (rw (join_length heads (x, y)) (in_list partition x hx)) (rw (join_length heads (x, y)) (in_list partition y hy)) (united heads x y (in_list partition x hx) (in_list partition y hy)))
+        (v x y (rw (join_length heads (x, y)) (in_list partition x hx)) (rw (join_length heads (x, y)) (in_list partition y hy))
+        (united heads x y (in_list partition x hx) (in_list partition y hy)))
 
     module _ (new : List (ℕ × ℕ)) (meet : (todo : List (ℕ × ℕ)) → HeadsMeet ns heads x y (new ++ todo))
         (want : (ps : List (ℕ × ℕ)) → Joined ns ps (class_of heads a) (class_of heads b) → Wanted ns ps new) where
@@ -466,15 +478,18 @@ module _ {nodes arguments counts heads next : List ℕ} {a b : ℕ} (m : Meeting
         goes : kind_of nodes (class_of heads y) ≡ 0 → Trades nodes arguments counts heads next a b [] ds next'
         goes k =
             made_one []
-            (λ todo. variable_meets ns heads x y (name_of nodes (class_of heads y)) todo (variable_from nodes arguments (class_of heads y) (partition.below y hy) k))
+            (λ todo. variable_meets ns heads x y (name_of nodes (class_of heads y)) todo
+            (variable_from nodes arguments (class_of heads y) (partition.below y hy) k))
             (λ ps q i j n. absurd (Memᴰ.not-nil n)) (λ p q. p.applied k)
 
-        go : (kind_of nodes (class_of heads x) ≡ 0) ⊎ (kind_of nodes (class_of heads y) ≡ 0) → Trades nodes arguments counts heads next a b [] ds next'
+        go : (kind_of nodes (class_of heads x) ≡ 0) ⊎ (kind_of nodes (class_of heads y) ≡ 0) →
+            Trades nodes arguments counts heads next a b [] ds next'
         go (inl k) = goes (weaker_variable nodes counts (class_of heads y) (class_of heads x) z.weaker k)
         go (inr k) = goes k
 
   module _ (ds next' : List ℕ)
-      (u : Goes nodes counts heads next (class_of heads a) (class_of heads b) ds next' ⊎ Goes nodes counts heads next (class_of heads b) (class_of heads a) ds next')
+      (u : Goes nodes counts heads next (class_of heads a) (class_of heads b) ds next' ⊎ Goes nodes counts heads next (class_of heads b)
+      (class_of heads a) ds next')
     where
       -- one of the heads is a variable
       pub join_variable : (kind_of nodes (class_of heads a) ≡ 0) ⊎ (kind_of nodes (class_of heads b) ≡ 0) →
@@ -482,7 +497,8 @@ module _ {nodes arguments counts heads next : List ℕ} {a b : ℕ} (m : Meeting
       join_variable k = done (go u)
         where
           go :
-              Goes nodes counts heads next (class_of heads a) (class_of heads b) ds next' ⊎ Goes nodes counts heads next (class_of heads b) (class_of heads a) ds next' →
+              Goes nodes counts heads next (class_of heads a) (class_of heads b) ds next' ⊎ Goes nodes counts heads next (class_of heads b)
+              (class_of heads a) ds next' →
               Trades nodes arguments counts heads next a b [] ds next'
           go (inl z) = variable_goes b a swapped ds next' z k
           go (inr z) = variable_goes a b straight ds next' z k
@@ -528,8 +544,11 @@ module _ {nodes arguments counts heads next : List ℕ} {a b : ℕ} (m : Meeting
 
     -- they have one symbol
     same_symbol_lem : OneSymbol (name_of nodes g) (run nodes arguments g) (name_of nodes h) (run nodes arguments h)
-    same_symbol_lem =
-        (one_name, run_long nodes arguments m.joinable.sections g meeting_inside.0 ∙ one_count ∙ sym (run_long nodes arguments m.joinable.sections h meeting_inside.1))
+    same_symbol_lem = (
+      one_name,
+      run_long nodes arguments m.joinable.sections g meeting_inside.0 ∙ one_count ∙
+          sym (run_long nodes arguments m.joinable.sections h meeting_inside.1),
+    )
 
     -- their arguments are joined in pairs
     arguments_wanted : (ps : List (ℕ × ℕ)) → Joined ns ps g h → Wanted ns ps (argument_pairs nodes arguments g h)
@@ -542,31 +561,37 @@ module _ {nodes arguments counts heads next : List ℕ} {a b : ℕ} (m : Meeting
         Memᴰ (i, j) (zip (run nodes arguments (class_of heads y)) (run nodes arguments (class_of heads x))) → class_of es i ≡ class_of es j
     argument_link straight es u i j k =
         sym
-        (u j i (zip_pairs nodes arguments m.joinable.sections g h meeting_inside.0 meeting_inside.1 one_count j i (zip_back (run nodes arguments h) (run nodes arguments g) i j k)))
+        (u j i (zip_pairs nodes arguments m.joinable.sections g h meeting_inside.0 meeting_inside.1 one_count j i
+        (zip_back (run nodes arguments h) (run nodes arguments g) i j k)))
     argument_link swapped es u i j k =
         u i j (zip_pairs nodes arguments m.joinable.sections g h meeting_inside.0 meeting_inside.1 one_count i j k)
 
-    module _ (x y : ℕ) (o : Either a b x y) (ds next' : List ℕ) (z : Goes nodes counts heads next (class_of heads y) (class_of heads x) ds next') where
-      -- the head that goes meets the one that stays
-      heads_meet : (todo : List (ℕ × ℕ)) → HeadsMeet ns heads x y (argument_pairs nodes arguments g h ++ todo)
-      heads_meet todo f us e =
-          let l = either_both (λ i. class_of heads i < node_count nodes) o meeting_inside.0 meeting_inside.1 in
-          let k = either_both (λ i. kind_of nodes (class_of heads i) ≡ 0 → ⊥) o s.first_applied s.second_applied in
-          let n : name_of nodes (class_of heads x) ≡ name_of nodes (class_of heads y) = either_between (λ i j. name_of nodes (class_of heads i) ≡ name_of nodes (class_of heads j)) (λ i j q. sym q) o one_name in
-          let c : length (run nodes arguments (class_of heads x)) ≡ length (run nodes arguments (class_of heads y)) = either_between (λ i j. length (run nodes arguments (class_of heads i)) ≡ length (run nodes arguments (class_of heads j))) (λ i j q. sym q) o same_symbol_lem.1 in
-          let r = from_application nodes arguments (class_of heads y) l.1 f us e in (
-            run nodes arguments (class_of heads x),
-            application_from nodes arguments (class_of heads x) l.0 k.0
-                ∙ ap (λ (q : ℕ). application q (run nodes arguments (class_of heads x))) (n ∙ sym r.1),
-            ap length r.2 ∙ sym c,
-            λ i j q es v u. argument_link o es (λ p t w. u p t (Memᴰ.append_left todo w)) i j (rw r.2 at q),
-          )
+    module _ (x y : ℕ) (o : Either a b x y) (ds next' : List ℕ) (z : Goes nodes counts heads next (class_of heads y) (class_of heads x) ds next')
+      where
+        -- the head that goes meets the one that stays
+        heads_meet : (todo : List (ℕ × ℕ)) → HeadsMeet ns heads x y (argument_pairs nodes arguments g h ++ todo)
+        heads_meet todo f us e =
+            let l = either_both (λ i. class_of heads i < node_count nodes) o meeting_inside.0 meeting_inside.1 in
+            let k = either_both (λ i. kind_of nodes (class_of heads i) ≡ 0 → ⊥) o s.first_applied s.second_applied in
+            let n : name_of nodes (class_of heads x) ≡ name_of nodes (class_of heads y) =
+            either_between (λ i j. name_of nodes (class_of heads i) ≡ name_of nodes (class_of heads j)) (λ i j q. sym q) o one_name in
+            let c : length (run nodes arguments (class_of heads x)) ≡ length (run nodes arguments (class_of heads y)) =
+            either_between (λ i j. length (run nodes arguments (class_of heads i)) ≡ length (run nodes arguments (class_of heads j)))
+            (λ i j q. sym q) o same_symbol_lem.1 in
+            let r = from_application nodes arguments (class_of heads y) l.1 f us e in (
+              run nodes arguments (class_of heads x),
+              application_from nodes arguments (class_of heads x) l.0 k.0
+                  ∙ ap (λ (q : ℕ). application q (run nodes arguments (class_of heads x))) (n ∙ sym r.1),
+              ap length r.2 ∙ sym c,
+              λ i j q es v u. argument_link o es (λ p t w. u p t (Memᴰ.append_left todo w)) i j (rw r.2 at q),
+            )
 
-      -- the classes are made one
-      applications_made_one : Trades nodes arguments counts heads next a b (argument_pairs nodes arguments g h) ds next'
-      applications_made_one =
-          made_one x y o ds next' z (argument_pairs nodes arguments g h) heads_meet arguments_wanted
-          (λ p q. either_between (λ i j. IsClosed nodes counts (class_of heads i) → IsClosed nodes counts (class_of heads j) → ⊥) (λ i j f k l. f l k) o s.not_both q p)
+        -- the classes are made one
+        applications_made_one : Trades nodes arguments counts heads next a b (argument_pairs nodes arguments g h) ds next'
+        applications_made_one =
+            made_one x y o ds next' z (argument_pairs nodes arguments g h) heads_meet arguments_wanted
+            (λ p q. either_between (λ i j. IsClosed nodes counts (class_of heads i) → IsClosed nodes counts (class_of heads j) → ⊥)
+            (λ i j f k l. f l k) o s.not_both q p)
 
     -- their classes are made one
     pub applications_united : (ds next' : List ℕ) → Goes nodes counts heads next g h ds next' ⊎ Goes nodes counts heads next h g ds next' →
@@ -621,5 +646,6 @@ module _ {nodes arguments counts heads next : List ℕ} {a b : ℕ} (m : Meeting
             kept = λ i k. w.kept i k ∙ v.kept i k ∙ t.kept i k;
             done = λ q. absurd (false≢true q);
             clashes =
-                λ q ps todo c. arguments_clash nodes arguments counts g h ds next₁ j heads' next' v x y fine heads'' next'' dx dy w r ps todo l (t.trades ps todo c);
+                λ q ps todo c. arguments_clash nodes arguments counts g h ds next₁ j heads' next' v x y fine heads'' next'' dx dy w r ps todo l
+                (t.trades ps todo c);
           }

@@ -53,7 +53,8 @@ listed_more : (nodes arguments : List ℕ) (due : ℕ → ℕ) (heads order : Li
     h < node_count nodes → 0 < due h → ((q : ℕ) → q < length order → word order q ≡ h → ⊥) →
     ((j : ℕ) → j < due h → Met due order (length order) (class_of heads (argument_of nodes arguments h j))) →
     Listed nodes arguments due heads (order ++ (h ∷ []))
-listed_more nodes arguments due heads order l h inside some new first = record { node = node; compound = compound; once = once; first = λ p q. firsts p q (at p q) }
+listed_more nodes arguments due heads order l h inside some new first =
+    record { node = node; compound = compound; once = once; first = λ p q. firsts p q (at p q) }
   where
     longer : length (order ++ (h ∷ [])) ≡ suc (length order)
     longer = let e = length-append order (h ∷ []) in omega (arith, e)
@@ -160,13 +161,16 @@ module _ (nodes arguments : List ℕ) (s : Sections nodes arguments) (ps : List 
     given_together i j (Memᴰ.tail m) = inl (c.given i j m)
 
     -- an argument of a node whose head is reached
-    argument_reached : (i f : ℕ) (us vs : List ℕ) → i < length ns → node_at ns i ≡ application f us → length us ≡ length vs → Reached i → (x y : ℕ) → Memᴰ (x, y) (zip us vs) → Reached x
+    argument_reached : (i f : ℕ) (us vs : List ℕ) → i < length ns → node_at ns i ≡ application f us → length us ≡ length vs → Reached i → (x y : ℕ) →
+        Memᴰ (x, y) (zip us vs) → Reached x
     argument_reached i f us vs p d l r x y m = go (c'.applications i f us p d)
       where
         go : HeadFits ns (class_of heads) i f us → Reached x
         go h =
             let t = zip_through us h.arguments vs h.as_long (sym h.as_long ∙ l) x y m in
-            let g : class_of heads i < node_count nodes = counted nodes arguments (class_of heads i) (closure_inside ns (sections_well_formed nodes arguments s) ((a, b) ∷ ps) inside' (class_of heads) c' i p) in
+            let g : class_of heads i < node_count nodes =
+            counted nodes arguments (class_of heads i)
+            (closure_inside ns (sections_well_formed nodes arguments s) ((a, b) ∷ ps) inside' (class_of heads) c' i p) in
             let q = argument_place nodes arguments s (class_of heads i) g f h.arguments h.applied t.0 (zip_right us h.arguments x t.0 t.1) in
             reached_same (argument_of nodes arguments (class_of heads i) q.0) x
             (ap (class_of heads) (sym q.2) ∙ sym (h.one_head x t.0 t.1)) (reached_argument (class_of heads i) g r q.0 q.1)
@@ -181,9 +185,11 @@ module _ (nodes arguments : List ℕ) (s : Sections nodes arguments) (ps : List 
         go : (i < length ns) × (j < length ns) → OneHead i j → OneHead x y
         go (p, r) (inl z) =
             inl
-            (joined_head ns (sections_well_formed nodes arguments s) ps inside (class_of old) c (by-arguments d e l (on (rw z at (c.joined i p)) (back (c.joined j r))) m))
+            (joined_head ns (sections_well_formed nodes arguments s) ps inside (class_of old) c
+            (by-arguments d e l (on (rw z at (c.joined i p)) (back (c.joined j r))) m))
         go (p, r) (inr (v, w, z)) =
-            let o : class_of heads x ≡ class_of heads y = joined_head ns (sections_well_formed nodes arguments s) ((a, b) ∷ ps) inside' (class_of heads) c' (by-arguments d e l q m) in
+            let o : class_of heads x ≡ class_of heads y =
+            joined_head ns (sections_well_formed nodes arguments s) ((a, b) ∷ ps) inside' (class_of heads) c' (by-arguments d e l q m) in
             let t = argument_reached i f us vs p d l.1 v x y m in
             inr (t, reached_same x y o t, o)
     joined_together (same p) = inl refl
@@ -242,14 +248,16 @@ module _ (nodes arguments : List ℕ) (s : Sections nodes arguments) (ps : List 
             go q l (no k) = let e : q ≡ p = omega arith in rw e t
 
         -- it is put behind the others
-        mended_put : (p : ℕ) (order : List ℕ) → p < length earlier → Mended p order → ((q : ℕ) → q < length order → word order q ≡ word earlier p → ⊥) → Mended (suc p) (order ++ (word earlier p ∷ []))
+        mended_put : (p : ℕ) (order : List ℕ) → p < length earlier → Mended p order →
+            ((q : ℕ) → q < length order → word order q ≡ word earlier p → ⊥) → Mended (suc p) (order ++ (word earlier p ∷ []))
         mended_put p order l m new =
             mended_passed p (order ++ (word earlier p ∷ []))
             (record {
               listed =
                   listed_more nodes arguments (word counts) heads order m.listed (word earlier p) (o.listed.node p l)
                   (o.listed.compound p l) new
-                  (λ j q. mended_met p order m (argument_of nodes arguments (word earlier p) j) (looked_node nodes arguments s counts k (word earlier p) j (o.listed.node p l) q) (o.listed.first p l j q));
+                  (λ j q. mended_met p order m (argument_of nodes arguments (word earlier p) j)
+                  (looked_node nodes arguments s counts k (word earlier p) j (o.listed.node p l) q) (o.listed.first p l j q));
               reached = λ g r. still g (m.reached g r);
               kept = λ q k e. still (word earlier q) (m.kept q k e);
             })
@@ -258,9 +266,11 @@ module _ (nodes arguments : List ℕ) (s : Sections nodes arguments) (ps : List 
             longer : length (order ++ (word earlier p ∷ [])) ≡ suc (length order)
             longer = let e = length-append order (word earlier p ∷ []) in omega (arith, e)
 
-            still : (g : ℕ) → Met (word counts) order (length order) g → Met (word counts) (order ++ (word earlier p ∷ [])) (length (order ++ (word earlier p ∷ []))) g
+            still : (g : ℕ) → Met (word counts) order (length order) g →
+                Met (word counts) (order ++ (word earlier p ∷ [])) (length (order ++ (word earlier p ∷ []))) g
             still g t =
-                met_later (word counts) (order ++ (word earlier p ∷ [])) (length order) (length (order ++ (word earlier p ∷ []))) g (omega (arith, longer)) (met_longer (word counts) order (word earlier p) (length order) g (omega arith) t)
+                met_later (word counts) (order ++ (word earlier p ∷ [])) (length order) (length (order ++ (word earlier p ∷ []))) g
+                (omega (arith, longer)) (met_longer (word counts) order (word earlier p) (length order) g (omega arith) t)
 
         -- one place more
         mended_next : (p : ℕ) → p < length earlier → (order : List ℕ) × Mended p order → (order : List ℕ) × Mended (suc p) order

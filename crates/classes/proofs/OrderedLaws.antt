@@ -43,7 +43,8 @@ place_of (y ∷ ys) x zero h e = pick (eqb y x) refl
     pick false z = absurd (eqb-false y x z e)
 place_of (y ∷ ys) x (suc q) h e = pick (eqb y x) refl (place_of ys x q (omega arith) e)
   where
-    pick : (b : Bool) → eqb y x ≡ b → (place_in ys x ≤ q) × (word ys (place_in ys x) ≡ x) → (cond b 0 (suc (place_in ys x)) ≤ suc q) × (word (y ∷ ys) (cond b 0 (suc (place_in ys x))) ≡ x)
+    pick : (b : Bool) → eqb y x ≡ b → (place_in ys x ≤ q) × (word ys (place_in ys x) ≡ x) → (cond b 0 (suc (place_in ys x)) ≤ suc q) ×
+        (word (y ∷ ys) (cond b 0 (suc (place_in ys x))) ≡ x)
     pick true z r = (omega arith, eqb-true y x z)
     pick false z r = (omega (arith, r.0), r.1)
 
@@ -57,7 +58,8 @@ unfolding rank
 rank_leaf nodes counts order h e = rw (eq-eqb (word counts h) 0 e)
 
 -- that of any other
-rank_compound : (nodes counts order : List ℕ) (h : ℕ) → (word counts h ≡ 0 → ⊥) → rank nodes counts order h ≡ node_count nodes + suc (place_in order h)
+rank_compound : (nodes counts order : List ℕ) (h : ℕ) → (word counts h ≡ 0 → ⊥) →
+    rank nodes counts order h ≡ node_count nodes + suc (place_in order h)
 unfolding rank
 rank_compound nodes counts order h n = rw (ne_eqb (word counts h) 0 n)
 
@@ -82,7 +84,8 @@ rank_falls nodes arguments counts heads order l h (leaf e) j k n = absurd (omega
 rank_falls nodes arguments counts heads order l h (before q b e) j k n =
     let t = place_of order h q b e in
     let p : place_in order h < length order = omega (arith, t.0) in
-    let m : Met (word counts) order (place_in order h) (class_of heads (argument_of nodes arguments h j)) = rw t.1 at (l.first (place_in order h) p) j k in
+    let m : Met (word counts) order (place_in order h) (class_of heads (argument_of nodes arguments h j)) =
+    rw t.1 at (l.first (place_in order h) p) j k in
     let r = rank_compound nodes counts order h (λ z. omega arith) in
     let s = rank_met nodes counts order (place_in order h) (class_of heads (argument_of nodes arguments h j)) (omega arith) n m in
     omega arith
@@ -125,11 +128,14 @@ module _ (nodes arguments : List ℕ) (s : Sections nodes arguments) (counts : L
 
 -- what leads reaches
 pub leads_reaches :
-    (nodes arguments : List ℕ) (s : Sections nodes arguments) (heads : List ℕ) (ps : List (ℕ × ℕ)) (h : Inside (nodes_from nodes arguments) ps) (c : IsClosure (nodes_from nodes arguments) ps (class_of heads)) (counts : List ℕ) (k : Counts nodes arguments counts (node_count nodes)) {i j : ℕ} →
+    (nodes arguments : List ℕ) (s : Sections nodes arguments) (heads : List ℕ) (ps : List (ℕ × ℕ)) (h : Inside (nodes_from nodes arguments) ps)
+    (c : IsClosure (nodes_from nodes arguments) ps (class_of heads)) (counts : List ℕ) (k : Counts nodes arguments counts (node_count nodes))
+    {i j : ℕ} →
     Leads nodes arguments (word counts) heads i j → Reaches (nodes_from nodes arguments) ps i j
 leads_reaches nodes arguments s heads ps h c counts k (next {h = i} {g = g} j b l e) =
     let n : j < count_of nodes i = looked_at k i j b l in
-    let a : argument_of nodes arguments i j < length (nodes_from nodes arguments) = rw (nodes_long nodes arguments) (looked_node nodes arguments s counts k i j b l) in
+    let a : argument_of nodes arguments i j < length (nodes_from nodes arguments) =
+    rw (nodes_long nodes arguments) (looked_node nodes arguments s counts k i j b l) in
     let d : i < length (nodes_from nodes arguments) = rw (nodes_long nodes arguments) b in
     step (same {i = i} d) (application_from nodes arguments i b (counted_application nodes arguments s i j b n))
     (place_argument nodes arguments s i j b n)

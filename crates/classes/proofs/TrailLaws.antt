@@ -323,7 +323,8 @@ one_way_back : {n : ℕ} {heads next heads₁ next₁ heads' next' : List ℕ} �
 one_way_back {n = n} {heads = heads} {next = next} {heads₁ = heads₁} {next₁ = next₁} {heads' = heads'} {next' = next'} (g, h, m) (g₁, h₁, m₁) = (
   classes_back n heads next g h m.two heads₁ m₁.two.partition.size
       (λ k l f. first_follows n heads₁ next₁ g₁ h₁ m₁.two k (over f) ∙ sym g≡)
-      (λ k l f. other_back n heads₁ next₁ g₁ h₁ heads' next' m₁ (gone next') refl k l (λ d. f (back d)) ∙ ap (λ (x : List ℕ). class_of x k) m.renames),
+      (λ k l f. other_back n heads₁ next₁ g₁ h₁ heads' next' m₁ (gone next') refl k l (λ d. f (back d)) ∙
+      ap (λ (x : List ℕ). class_of x k) m.renames),
   n≡,
 )
   where

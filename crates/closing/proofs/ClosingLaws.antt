@@ -1,4 +1,5 @@
--- What each answer of `list` says of a table's two sides, however many words were lent. A finished listing says it by page 14: no entry, no assignment; an entry, some assignment.
+-- What each answer of `list` says of a table's two sides, however many words were lent. A finished listing says it by page 14: no entry, no
+-- assignment; an entry, some assignment.
 -- A full one leaves entries out, so there is one; and a refusal is not that of an accepted table. Assumes nothing.
 use Prim.Native.Nat.{ℕ}
 use mathlib.Core.Bool.{Bool, true, false, false≢true}

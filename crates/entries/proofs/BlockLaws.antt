@@ -65,7 +65,8 @@ set_put at xs lent j d h l =
 
 -- one more of the lent words is copied behind them
 pub moved_next : (lent : List ℕ) (from count at i : ℕ) {lent' : List ℕ} → from + count ≤ at → at + count ≤ length lent → i < count →
-    lent' ≡ paste lent at (take count (drop from lent)) i → set lent' (at + i) (get_or lent' (from + i) 0) ≡ paste lent at (take count (drop from lent))
+    lent' ≡ paste lent at (take count (drop from lent)) i →
+    set lent' (at + i) (get_or lent' (from + i) 0) ≡ paste lent at (take count (drop from lent))
     (i + 1)
 moved_next lent from count at i {lent'} h l m e =
     let words = take count (drop from lent) in
@@ -119,7 +120,8 @@ fitting_wide width room zero (e ∷ es) h a b =
 fitting_wide width room (suc j) (e ∷ es) h a b =
     let c = h e (mathlib.Core.List.Memᴰ.head refl) in
     let s = suc-mul j width in
-    let r = fitting_wide width (room - length e) j es (λ f m. h f (mathlib.Core.List.Memᴰ.tail m)) (omega (arith, a, c, s)) (omega (arith, b, a, c, s)) in
+    let r = fitting_wide width (room - length e) j es (λ f m. h f (mathlib.Core.List.Memᴰ.tail m)) (omega (arith, a, c, s))
+    (omega (arith, b, a, c, s)) in
     rw (le-leb (length e) room (omega (arith, a, c, s))) (ap (e ∷◌) r)
 
 -- the first ones of what is mapped
@@ -276,7 +278,8 @@ module _ {es : List (List ℕ)} {width : ℕ} {lent : List ℕ} {from : ℕ} (at
       }
 
   -- and with another digit are put in their own place
-  pub moved_digit : (p d : ℕ) {lent'' : List ℕ} → lent'' ≡ put at (flatten (with_digit p d es)) lent' → lent'' ≡ put at (flatten (with_digit p d es)) lent
+  pub moved_digit : (p d : ℕ) {lent'' : List ℕ} → lent'' ≡ put at (flatten (with_digit p d es)) lent' →
+      lent'' ≡ put at (flatten (with_digit p d es)) lent
   moved_digit p d e =
       let n : count ≡ length (flatten es) = omega (arith, b.end) in
       e ∙ ap (put at (flatten (with_digit p d es))) (c ∙ ap (λ (r : List ℕ). put at r lent) moved_words)

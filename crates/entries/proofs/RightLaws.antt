@@ -63,7 +63,8 @@ next_digit : (e : List ℕ) (p : ℕ) → p < length e → take (p + 1) e ≡ ta
 next_digit e p h = ap (λ (n : ℕ). take n e) (add-one p) ∙ take-suc e p 0 h
 
 -- the word at the place is 0: the entries from the next place on
-rights_paired : (k : ℕ) (e : List ℕ) (p end : ℕ) → p < end → end ≤ length e → get_or e p 0 ≡ 0 → right_entries k e p end ≡ right_entries k e (p + 1) end
+rights_paired : (k : ℕ) (e : List ℕ) (p end : ℕ) → p < end → end ≤ length e → get_or e p 0 ≡ 0 →
+    right_entries k e p end ≡ right_entries k e (p + 1) end
 unfolding right_entries
 rights_paired k e p end h l z =
     let m = marked k (marks_from e (p + 1) end) in

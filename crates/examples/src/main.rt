@@ -2,12 +2,13 @@
 // A name that begins `unify A B with L lent` asks for a unification and one that begins `list with L lent` for a listing, with L words lent; they are printed after the answer.
 #![tactic(auto)]
 
-ghost use Rattle.std.specs.Prelude.{◌≡◌, ◌+◌, ◌≤◌, ◌<◌, length, take, IfOk, IfSome};
+ghost use Rattle.std.specs.Prelude.{◌≡◌, ◌+◌, ◌≤◌, ◌<◌, length};
 
 use multiset_unification::Listing;
 use std::io;
-use std::io::{ErrorKind, Read, Write};
+use std::io::Write;
 use table::{Checked, Node, Refusal};
+use text::reading::read_full;
 use unification::Unification;
 
 // More bytes than the input has.
@@ -288,26 +289,6 @@ fn run(out: &mut impl Write, input: &[u8]) -> io::Result<()> {
         at = end + 1;
     }
     Ok(())
-}
-
-// Reads until the bytes are full or the input ends, and answers how many were read. A read that is interrupted is tried again.
-fn read_full<R: Read>(input: &mut R, bytes: &mut [u8]) -> io::Result<usize>
-    ensures { IfOk result (λ n. (n ≤ length bytes.new) × IfSome (R.remaining input.old) (λ xs. take n bytes.new ≡ take (length bytes.old) xs)) }
-{
-    let mut n: usize = 0;
-    // A loop is proved to end, so this one counts its turns.
-    for _ in 0..u64::MAX {
-        if n == bytes.len() {
-            return Ok(n);
-        }
-        match input.read(&mut bytes[n..]) {
-            Ok(0) => return Ok(n),
-            Ok(more) => n += more,
-            Err(e) if e.kind() == ErrorKind::Interrupted => {}
-            Err(e) => return Err(e),
-        }
-    }
-    Err(ErrorKind::TimedOut.into())
 }
 
 fn main(rt: HostRuntime) -> io::Result<()> {

@@ -22,7 +22,12 @@ decimal_short zero n h = omega (arith, ap length (decimal_one n (omega (arith, h
 decimal_short (suc k) n h =
     dite (dec_lt n 10)
     (λ q. omega (arith, ap length (decimal_one n q)))
-    (λ q. omega (arith, ap length (decimal_more n (omega (arith, q))), length-append (decimal (n / 10)) (last_digit n), decimal_short k (n / 10) (omega (arith, h, pow-suc 10 (suc k)))))
+    (λ q. omega (
+      arith,
+      ap length (decimal_more n (omega (arith, q))),
+      length-append (decimal (n / 10)) (last_digit n),
+      decimal_short k (n / 10) (omega (arith, h, pow-suc 10 (suc k))),
+    ))
 
 -- a word of 32 bits has ten at most
 pub word_short : (n : ℕ) → n < 4294967296 → length (decimal n) ≤ 10
@@ -66,8 +71,16 @@ module _ (words : List ℕ) (s : Small words) where
   unfolding lines flat_map parts tabulate
   lines_short width zero q h = omega arith
   lines_short width (suc i) q h =
-      let p : length (part width words i) ≡ width = length-take-le width (drop (width * i) words) (omega (arith, h, mul-suc width i, length-drop (width * i) words)) in
-      omega (arith, part_long width words i, mul-suc width i, lines_short width i q (omega (arith, h, mul-suc width i)), line_short (small_take width (small_drop (width * i) s)) (omega (arith, p, q)), p)
+      let p : length (part width words i) ≡ width =
+      length-take-le width (drop (width * i) words) (omega (arith, h, mul-suc width i, length-drop (width * i) words)) in
+      omega (
+        arith,
+        part_long width words i,
+        mul-suc width i,
+        lines_short width i q (omega (arith, h, mul-suc width i)),
+        line_short (small_take width (small_drop (width * i) s)) (omega (arith, p, q)),
+        p,
+      )
 
   -- lines without words
   lines_empty : (i : ℕ) → length (lines (parts 0 i words)) ≡ i
@@ -93,6 +106,17 @@ title_short text n h q = omega (arith, titled_long text n, word_short n q)
 pub title_fits : (text : List ℕ) (n l : ℕ) → length text ≤ 8 → n < 4294967296 → most_printed ≤ l → 0 + length (titled text n) ≤ l
 title_fits text n l h q r = omega (arith, title_short text n h q)
 
-pub lines_fit : (text words : List ℕ) (width count : ℕ) {o p : List ℕ} {j : ℕ} → length text ≤ 8 → Printable width count words → ((i : ℕ) → i < length words → get_or words i 0 < 4294967296) → most_printed ≤ length o → Wrote o 0 (titled text count) p j → (width * count ≤ length words) × (j + length (lines (parts width count words)) ≤ length p)
-lines_fit text words width count h p f r w =
-    (omega (arith, p.inside, p.lent), omega (arith, r, w.ends, w.kept, title_short text count h (omega (arith, few_entries width count words p)), entries_short words (small words f) width count p))
+pub lines_fit : (text words : List ℕ) (width count : ℕ) {o p : List ℕ} {j : ℕ} → length text ≤ 8 → Printable width count words →
+    ((i : ℕ) → i < length words → get_or words i 0 < 4294967296) → most_printed ≤ length o → Wrote o 0 (titled text count) p j →
+    (width * count ≤ length words) × (j + length (lines (parts width count words)) ≤ length p)
+lines_fit text words width count h p f r w = (
+  omega (arith, p.inside, p.lent),
+  omega (
+    arith,
+    r,
+    w.ends,
+    w.kept,
+    title_short text count h (omega (arith, few_entries width count words p)),
+    entries_short words (small words f) width count p,
+  ),
+)

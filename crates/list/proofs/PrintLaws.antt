@@ -62,7 +62,12 @@ module _ (t lent words : List ℕ) (k width : ℕ) (long : length lent ≡ 16384
           lent = ap length left ∙ lent_long (conditions t) (complete_listing (problem_of t)) lent ∙ long;
           inside = omega (arith, words_right, entries_fit (conditions t) (complete_listing (problem_of t)) (length lent), long);
           one =
-              λ n. omega (arith, one_at_most (problem_of t) (held_posed t z) (sym width_right ∙ n), count_right, length-take answered.entries (complete_listing (problem_of t)));
+              λ n. omega (
+                arith,
+                one_at_most (problem_of t) (held_posed t z) (sym width_right ∙ n),
+                count_right,
+                length-take answered.entries (complete_listing (problem_of t)),
+              );
         }
 
     -- they lie in the words
@@ -83,7 +88,8 @@ module _ (t lent words : List ℕ) (k width : ℕ) (long : length lent ≡ 16384
   pub finished_printable : record { answer = 0; entries = k } ≡ answered → Printable width k words
   finished_printable e = printable (finished_held e) (ap (λ (w : Told). w.entries) e)
 
-  pub finished_printed : {o p : List ℕ} {j : ℕ} → record { answer = 0; entries = k } ≡ answered → Wrote o 0 (titled entries_text k ++ lines (parts width k words)) p j → Wrote o 0 (printed_table t) p j
+  pub finished_printed : {o p : List ℕ} {j : ℕ} → record { answer = 0; entries = k } ≡ answered →
+      Wrote o 0 (titled entries_text k ++ lines (parts width k words)) p j → Wrote o 0 (printed_table t) p j
   unfolding printed_table title
   finished_printed e w =
       rw (← long, ← e) (rw (lie (finished_held e) (ap (λ (w : Told). w.entries) e), ← long) at w)
@@ -92,13 +98,16 @@ module _ (t lent words : List ℕ) (k width : ℕ) (long : length lent ≡ 16384
   pub full_printable : record { answer = 10; entries = k } ≡ answered → Printable width k words
   full_printable e = printable (full_held e) (ap (λ (w : Told). w.entries) e)
 
-  pub full_printed : {o p : List ℕ} {j : ℕ} → record { answer = 10; entries = k } ≡ answered → Wrote o 0 (titled full_text k ++ lines (parts width k words)) p j → Wrote o 0 (printed_table t) p j
+  pub full_printed : {o p : List ℕ} {j : ℕ} → record { answer = 10; entries = k } ≡ answered →
+      Wrote o 0 (titled full_text k ++ lines (parts width k words)) p j → Wrote o 0 (printed_table t) p j
   unfolding printed_table title
   full_printed e w =
       rw (← long, ← e) (rw (lie (full_held e) (ap (λ (w : Told). w.entries) e), ← long) at w)
 
 -- a refused table
-pub refused_printed : (t : List ℕ) (lent : ℕ) (r : Refusal) (n : ℕ) {o p : List ℕ} {j : ℕ} → lent ≡ 16384 → record { answer = number_of r; entries = 0 } ≡ listed (conditions t) (complete_listing (problem_of t)) lent → n ≡ number_of r → Wrote o 0 (titled refused_text n) p j → Wrote o 0 (printed_table t) p j
+pub refused_printed : (t : List ℕ) (lent : ℕ) (r : Refusal) (n : ℕ) {o p : List ℕ} {j : ℕ} → lent ≡ 16384 →
+    record { answer = number_of r; entries = 0 } ≡ listed (conditions t) (complete_listing (problem_of t)) lent → n ≡ number_of r →
+    Wrote o 0 (titled refused_text n) p j → Wrote o 0 (printed_table t) p j
 unfolding printed_table title listed lines flat_map
 refused_printed t lent r n long e f w =
     let z = length_none (entries_left (conditions t) (complete_listing (problem_of t)) lent) (sym (ap (λ (w : Told). w.entries) e)) in
@@ -110,11 +119,13 @@ pub wrote_all : {o s p : List ℕ} {j : ℕ} → Wrote o 0 s p j → (j ≤ leng
 wrote_all {s = s} {p = p} {j = j} w = (omega (arith, w.ends, ap length w.written, length-take j p), w.written)
 
 -- bytes that are refused, and bytes that are words
-pub wrong_printed : (bs : List ℕ) {o p : List ℕ} {j : ℕ} → wrong_bytes (length bs) ≡ true → Wrote o 0 (titled refused_text 11) p j → (j ≤ length p) × (take j p ≡ printed bs)
+pub wrong_printed : (bs : List ℕ) {o p : List ℕ} {j : ℕ} → wrong_bytes (length bs) ≡ true → Wrote o 0 (titled refused_text 11) p j → (j ≤ length p) ×
+    (take j p ≡ printed bs)
 unfolding printed
 wrong_printed bs e w = rw e (wrote_all w)
 
-pub right_printed : (bs ws : List ℕ) (n : ℕ) {o p : List ℕ} {j : ℕ} → wrong_bytes (length bs) ≡ false → take n ws ≡ words_of_bytes bs → Wrote o 0 (printed_table (take (n - 0) ws)) p j → (j ≤ length p) × (take j p ≡ printed bs)
+pub right_printed : (bs ws : List ℕ) (n : ℕ) {o p : List ℕ} {j : ℕ} → wrong_bytes (length bs) ≡ false → take n ws ≡ words_of_bytes bs →
+    Wrote o 0 (printed_table (take (n - 0) ws)) p j → (j ≤ length p) × (take j p ≡ printed bs)
 unfolding printed
 right_printed bs ws n e f w = rw (e, ← f) (wrote_all (rw (sub-zero n) at w))
 

@@ -1,40 +1,21 @@
 // The program `list`: lists the unifiers of the two sides of the table on its standard input.
 #![tactic(auto)]
 
-ghost use Rattle.std.specs.Prelude.{length, take, IfOk, IfSome, OnOk, ◌≡◌, ◌≤◌};
+ghost use Rattle.std.specs.Prelude.{IfSome, OnOk};
 ghost use Rattle.std.specs.Io.KnownBytes.{Appends};
 ghost use Rattle.list.specs.Printed.{printed};
 
 use print::{MAX_PRINTED, print};
 use std::io;
-use std::io::{ErrorKind, Read, Write};
+use std::io::{Read, Write};
 use text::input::MAX_BYTES;
+use text::reading::read_full;
 
 // What is printed for an input: `print`.
 mod print;
 
 // One byte more than are accepted is enough to see that there are too many.
 const READ: usize = MAX_BYTES + 1;
-
-// Reads until the bytes are full or the input ends, and answers how many were read. A read that is interrupted is tried again.
-fn read_full<R: Read>(input: &mut R, bytes: &mut [u8]) -> io::Result<usize>
-    ensures { IfOk result (λ n. (n ≤ length bytes.new) × IfSome (R.remaining input.old) (λ xs. take n bytes.new ≡ take (length bytes.old) xs)) }
-{
-    let mut n: usize = 0;
-    // A loop is proved to end, so this one counts its turns.
-    for _ in 0..u64::MAX {
-        if n == bytes.len() {
-            return Ok(n);
-        }
-        match input.read(&mut bytes[n..]) {
-            Ok(0) => return Ok(n),
-            Ok(more) => n += more,
-            Err(e) if e.kind() == ErrorKind::Interrupted => {}
-            Err(e) => return Err(e),
-        }
-    }
-    Err(ErrorKind::TimedOut.into())
-}
 
 // Writes what is printed for an input.
 fn run<R: Read, W: Write>(input: &mut R, output: &mut W) -> io::Result<()>

@@ -297,7 +297,8 @@ module _ {nodes arguments left right : List ℕ} {k l : ℕ} {heads next known :
             size = part_long (replicate 80 1) width width_room ∙ sym same_width;
             depth = omega arith;
             small = λ j h. let q : word first_entry (left_count known' + j) ≡ 1 = ap (λ (x : List ℕ). word x (left_count known' + j)) first_ones
-                ∙ get_or-replicate {A = ℕ} (left_count known' + (right_count known' + word known' 577)) (left_count known' + j) 1 0 (omega (arith, h)) in
+                ∙ get_or-replicate {A = ℕ} (left_count known' + (right_count known' + word known' 577)) (left_count known' + j) 1 0
+                (omega (arith, h)) in
                 omega (arith, q);
             set_of = rw first_marks (paired_first (right_count known'));
           };
@@ -368,7 +369,8 @@ pub all_entries_lem : (t : List ℕ) → Accepted t → {k l : ℕ} → k ≡ le
     side_entries (nodes_of t) (arguments_of t) (left_terms_of t) (right_terms_of t) k l ≡ complete_listing (problem_of t)
 all_entries_lem t g k l =
     let h = one_posed (half_at t left_terms) (nodes_in t) (posed t g) in
-    rw (← nodes_of_sections t, k, l) (below_listing (nodes_in t) (well_formed t g) (half_at t left_terms) h) ∙ sym (complete_admissible (problem_of t))
+    rw (← nodes_of_sections t, k, l) (below_listing (nodes_in t) (well_formed t g) (half_at t left_terms) h) ∙
+    sym (complete_admissible (problem_of t))
 
 -- a list of one word
 one_word : (xs : List ℕ) (a : ℕ) → length xs ≡ 1 → a ≡ word xs 0 → xs ≡ a ∷ []
@@ -408,7 +410,8 @@ module _ {t nodes arguments left right : List ℕ} {k l : ℕ} (p : Parts t node
   parts_listed y = rw parts_entries at y
 
   -- also where they are two single terms without labels
-  pub parts_single : {lent lent' : List ℕ} {w : Told} {a b : ℕ} → length left ≡ 1 → length right ≡ 1 → k ≡ 0 → l ≡ 0 → a ≡ word left 0 → b ≡ word right 0 →
+  pub parts_single : {lent lent' : List ℕ} {w : Told} {a b : ℕ} → length left ≡ 1 → length right ≡ 1 → k ≡ 0 → l ≡ 0 → a ≡ word left 0 →
+      b ≡ word right 0 →
       LeavesEntries (below (nodes_from nodes arguments) (b ∷ []) 0 0 (a ∷ []) [] [] (1 ∷ [])) lent w lent' →
       LeavesEntries (complete_listing (problem_of t)) lent w lent'
   parts_single {a = a} {b} h g z w d e y = parts_listed (rw (single_sides nodes arguments left right k l a b h g z w d e) y)

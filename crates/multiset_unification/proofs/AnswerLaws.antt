@@ -28,7 +28,8 @@ pub record Greatest (lent : ℕ) (es : List (List ℕ)) (k : ℕ) : Type 0 where
   pub fits : length (flatten (take k es)) ≤ lent
   pub greatest : (j : ℕ) → j ≤ length es → length (flatten (take j es)) ≤ lent → j ≤ k
 
-greatest_next : (lent : ℕ) (e : List ℕ) (es : List (List ℕ)) (k : ℕ) → length e ≤ lent → Greatest (lent - length e) es k → Greatest lent (e ∷ es) (suc k)
+greatest_next : (lent : ℕ) (e : List ℕ) (es : List (List ℕ)) (k : ℕ) → length e ≤ lent → Greatest (lent - length e) es k →
+    Greatest lent (e ∷ es) (suc k)
 unfolding flatten
 greatest_next lent e es k h g =
     record {
@@ -58,7 +59,8 @@ unfolding fitting flatten
 fitting_greatest lent [] = record { there = omega arith; fits = omega arith; greatest = λ j l f. l }
 fitting_greatest lent (e ∷ es) = pick (leb (length e) lent) refl (fitting_greatest (lent - length e) es)
   where
-    pick : (b : Bool) → leb (length e) lent ≡ b → Greatest (lent - length e) es (length (fitting (lent - length e) es)) → Greatest lent (e ∷ es) (length (cond b (e ∷ fitting (lent - length e) es) []))
+    pick : (b : Bool) → leb (length e) lent ≡ b → Greatest (lent - length e) es (length (fitting (lent - length e) es)) →
+        Greatest lent (e ∷ es) (length (cond b (e ∷ fitting (lent - length e) es) []))
     pick true q g = greatest_next lent e es _ (leb-true (length e) lent q) g
     pick false q g = greatest_none lent e es (leb-false (length e) lent q)
 
@@ -68,7 +70,8 @@ unfolding fitting
 fitting_first lent [] = refl
 fitting_first lent (e ∷ es) = pick (leb (length e) lent) (fitting_first (lent - length e) es)
   where
-    pick : (b : Bool) → fitting (lent - length e) es ≡ take (length (fitting (lent - length e) es)) es → cond b (e ∷ fitting (lent - length e) es) [] ≡ take (length (cond b (e ∷ fitting (lent - length e) es) [])) (e ∷ es)
+    pick : (b : Bool) → fitting (lent - length e) es ≡ take (length (fitting (lent - length e) es)) es →
+        cond b (e ∷ fitting (lent - length e) es) [] ≡ take (length (cond b (e ∷ fitting (lent - length e) es) [])) (e ∷ es)
     pick true r = ap (e ∷◌) r
     pick false r = refl
 
@@ -151,7 +154,8 @@ module _ (cs : List (ℕ × Bool)) (es : List (List ℕ)) (lent : ℕ) where
     pub answered_finished : length (flatten es) ≤ lent → listed cs es lent ≡ record { answer = 0; entries = length es }
     unfolding listed list_conditions
     answered_finished h =
-        let f : first_held (list_conditions cs es lent) ≡ 0 = held_after cs _ g z ∙ not_held _ [] (le-ltb lent (length (flatten es)) h) ∙ nothing_held in
+        let f : first_held (list_conditions cs es lent) ≡ 0 = held_after cs _ g z ∙ not_held _ [] (le-ltb lent (length (flatten es)) h) ∙
+        nothing_held in
         told_same f (ap length (fitting_left z ∙ fitting_all lent es h))
 
     pub answered_full : lent < length (flatten es) → listed cs es lent ≡ record { answer = 10; entries = length (fitting lent es) }
@@ -164,7 +168,8 @@ module _ (cs : List (ℕ × Bool)) (es : List (List ℕ)) (lent : ℕ) where
   data Answered : Type 0 where
     refusing : 0 < first_held cs → listed cs es lent ≡ record { answer = first_held cs; entries = 0 } → Answered
     finishing : first_held cs ≡ 0 → length (flatten es) ≤ lent → listed cs es lent ≡ record { answer = 0; entries = length es } → Answered
-    filling : first_held cs ≡ 0 → lent < length (flatten es) → listed cs es lent ≡ record { answer = 10; entries = length (fitting lent es) } → Answered
+    filling : first_held cs ≡ 0 → lent < length (flatten es) → listed cs es lent ≡ record { answer = 10; entries = length (fitting lent es) } →
+        Answered
 
   answered : Refusals cs → Answered
   answered g = go (dec_lt 0 (first_held cs)) (dec_lt lent (length (flatten es)))
@@ -270,7 +275,8 @@ module _ (cs : List (ℕ × Bool)) (es : List (List ℕ)) (lent : ℕ) where
         go (filling a l q) = (Full (length (fitting lent es)), sym q)
 
 -- where no condition holds, the answer is as if there were none
-pub answered_without : (cs : List (ℕ × Bool)) (es : List (List ℕ)) (lent : ℕ) → Refusals cs → first_held cs ≡ 0 → listed cs es lent ≡ listed [] es lent
+pub answered_without : (cs : List (ℕ × Bool)) (es : List (List ℕ)) (lent : ℕ) → Refusals cs → first_held cs ≡ 0 →
+    listed cs es lent ≡ listed [] es lent
 answered_without cs es lent g z = go (dec_lt lent (length (flatten es)))
   where
     go : Dec (lent < length (flatten es)) → listed cs es lent ≡ listed [] es lent
@@ -304,7 +310,8 @@ module _ (cs : List (ℕ × Bool)) (es : List (List ℕ)) (lent : List ℕ) wher
 
   -- and the others are as they were
   pub lent_rest :
-      drop (length (flatten (entries_left cs es (length lent)))) (lent_after cs es lent) ≡ drop (length (flatten (entries_left cs es (length lent)))) lent
+      drop (length (flatten (entries_left cs es (length lent)))) (lent_after cs es lent)
+      ≡ drop (length (flatten (entries_left cs es (length lent)))) lent
   unfolding lent_after
   lent_rest = drop-append_seam (flatten (entries_left cs es (length lent))) (drop (length (flatten (entries_left cs es (length lent)))) lent)
 

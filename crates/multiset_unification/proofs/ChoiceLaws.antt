@@ -60,7 +60,8 @@ branch_from d (suc k) f ds m = go (branch_from (suc d) k f ds) (mathlib.Core.Lis
     wider : {es : List ℕ} → Branched (suc d) k f es → Branched d (suc k) f es
     wider (with {e} a b n) = with {e = e} (omega arith) (omega arith) n
 
-    go : (Memᴰ ds (branch (suc d) k f) → Branched (suc d) k f ds) → Memᴰ ds (map (d ∷◌) (f d)) ⊎ Memᴰ ds (branch (suc d) k f) → Branched d (suc k) f ds
+    go : (Memᴰ ds (branch (suc d) k f) → Branched (suc d) k f ds) → Memᴰ ds (map (d ∷◌) (f d)) ⊎ Memᴰ ds (branch (suc d) k f) →
+        Branched d (suc k) f ds
     go r (inl n) = let s = mathlib.Core.List.Memᴰ.of_map (d ∷◌) (f d) n in rw (← s.2) (with {e = d} (omega arith) (omega arith) s.1)
     go r (inr n) = wider (r n)
 
@@ -69,7 +70,8 @@ unfolding branch
 in_branch d zero f e es a b m = absurd (omega arith)
 in_branch d (suc k) f e es a b m = go (in_branch (suc d) k f e es) (ℕ_discrete e d)
   where
-    go : (suc d ≤ e → e < suc d + k → Memᴰ es (f e) → Memᴰ (e ∷ es) (branch (suc d) k f)) → Dec (e ≡ d) → Memᴰ (e ∷ es) (map (d ∷◌) (f d) ++ branch (suc d) k f)
+    go : (suc d ≤ e → e < suc d + k → Memᴰ es (f e) → Memᴰ (e ∷ es) (branch (suc d) k f)) → Dec (e ≡ d) →
+        Memᴰ (e ∷ es) (map (d ∷◌) (f d) ++ branch (suc d) k f)
     go r (yes q) =
         let n : Memᴰ (e ∷ es) (map (d ∷◌) (f d)) = rw q (mathlib.Core.List.Memᴰ.map (d ∷◌) (rw q at m)) in
         mathlib.Core.List.Memᴰ.append_left (branch (suc d) k f) n
@@ -79,7 +81,8 @@ branch_rises : (d k : ℕ) (f : ℕ → List (List ℕ)) → ((e : ℕ) → Risi
 unfolding branch
 branch_rises d zero f h = end
 branch_rises d (suc k) f h =
-    rising_append Before (map (d ∷◌) (f d)) (branch (suc d) k f) (rising_map Before Before (d ∷◌) (f d) (λ x y m n b. later b) (h d)) (branch_rises (suc d) k f h)
+    rising_append Before (map (d ∷◌) (f d)) (branch (suc d) k f) (rising_map Before Before (d ∷◌) (f d) (λ x y m n b. later b) (h d))
+    (branch_rises (suc d) k f h)
     (λ x y m n. apart x y (mathlib.Core.List.Memᴰ.of_map (d ∷◌) (f d) m) (branch_from (suc d) k f y n))
   where
     apart : (x y : List ℕ) → (es : List ℕ) × Memᴰ es (f d) × (d ∷ es ≡ x) → Branched (suc d) k f y → Before x y
@@ -93,10 +96,12 @@ rights_from k used j (suc r) ds m = pick (among (suc j) used) refl (λ es. right
     Rest : List ℕ → Type 0
     Rest es = Memᴰ es (rights k used (suc j) r) → IsRights k used (suc j) r es
 
-    mated : Memᴰ (suc j) used → ((es : List ℕ) → Rest es) → {es : List ℕ} → Branched 0 1 (λ d. rights k used (suc j) r) es → IsRights k used j (suc r) es
+    mated : Memᴰ (suc j) used → ((es : List ℕ) → Rest es) → {es : List ℕ} → Branched 0 1 (λ d. rights k used (suc j) r) es →
+        IsRights k used j (suc r) es
     mated u f (with {e} {es} a b n) = let z : e ≡ 0 = omega arith in rw z (paired u (f es n))
 
-    alone : (Memᴰ (suc j) used → ⊥) → ((es : List ℕ) → Rest es) → {es : List ℕ} → Branched 1 k (λ d. rights k used (suc j) r) es → IsRights k used j (suc r) es
+    alone : (Memᴰ (suc j) used → ⊥) → ((es : List ℕ) → Rest es) → {es : List ℕ} → Branched 1 k (λ d. rights k used (suc j) r) es →
+        IsRights k used j (suc r) es
     alone u f (with {e} {es} a b n) = placed {d = e} u (omega arith) (omega arith) (f es n)
 
     pick : (b : Bool) → among (suc j) used ≡ b → ((es : List ℕ) → Rest es) → Memᴰ ds (cond b (branch 0 1 (λ d. rights k used (suc j) r)) (branch 1 k (λ d. rights k used (suc j) r))) → IsRights k used j (suc r) ds
@@ -138,7 +143,8 @@ lefts_from m k l used (suc n) ds h =
     go (λ d es. lefts_from m k l (d ∷ used) n es)
     (branch_from 1 (m + l) (following m k l used n) ds h)
   where
-    go : ((d : ℕ) (es : List ℕ) → Memᴰ es (lefts m k l (d ∷ used) n) → IsLefts m k l (d ∷ used) n es) → {es : List ℕ} → Branched 1 (m + l) (following m k l used n) es → IsLefts m k l used (suc n) es
+    go : ((d : ℕ) (es : List ℕ) → Memᴰ es (lefts m k l (d ∷ used) n) → IsLefts m k l (d ∷ used) n es) → {es : List ℕ} →
+        Branched 1 (m + l) (following m k l used n) es → IsLefts m k l used (suc n) es
     go f (with {e = d} {es} a b q) =
         let s = unbarred (leb d m && among d used) es (lefts m k l (d ∷ used) n) q in
         next {d = d} (omega arith) (omega arith) ((barred d m used).0 s.0) (f d es s.1)
@@ -215,7 +221,8 @@ to_smaller (d ∷ ds) (e ∷ es) (later b) = go (to_smaller ds es b)
         alike zero q = refl
         alike (suc j) q = s.alike j (omega arith)
 
-from_place : (ds es : List ℕ) (i : ℕ) → i < length ds → i < length es → word ds i < word es i → ((j : ℕ) → j < i → word ds j ≡ word es j) → Before ds es
+from_place : (ds es : List ℕ) (i : ℕ) → i < length ds → i < length es → word ds i < word es i → ((j : ℕ) → j < i → word ds j ≡ word es j) →
+    Before ds es
 from_place [] es i a b h f = absurd (omega arith)
 from_place (d ∷ ds) [] i a b h f = absurd (omega arith)
 from_place (d ∷ ds) (e ∷ es) zero a b h f = here h
@@ -244,7 +251,8 @@ before_one_way (d ∷ ds) (e ∷ es) a b = go (first_digits d e ds es a) (first_
     go (inr p) (inr q) f = f p.1 q.1
 
 -- a rising list of exactly the choices is the list of choices
-pub choices_one : (n m k l : ℕ) (dss : List (List ℕ)) → Rising Before dss → ((ds : List ℕ) → Memᴰ ds dss ↔ IsChoice n m k l ds) → dss ≡ choices n m k l
+pub choices_one : (n m k l : ℕ) (dss : List (List ℕ)) → Rising Before dss → ((ds : List ℕ) → Memᴰ ds dss ↔ IsChoice n m k l ds) →
+    dss ≡ choices n m k l
 choices_one n m k l dss r h =
     rising_same Before before_one_way dss (choices n m k l) r (choices_rise n m k l)
     (λ ds. ((λ q. (choices_are n m k l ds).1 ((h ds).0 q)), (λ q. (h ds).1 ((choices_are n m k l ds).0 q))))

@@ -70,7 +70,8 @@ total_first zero f = omega arith
 total_first (suc k) f = let r = total_first k f in omega (arith, r)
 
 -- the same of the lists that a function gives to the words of a list
-pub words_count : (t : Term) (f : ℕ → List Term) (xs : List ℕ) → occurrences t (flat_map f xs) ≡ total (length xs) (λ p. occurrences t (f (word xs p)))
+pub words_count : (t : Term) (f : ℕ → List Term) (xs : List ℕ) →
+    occurrences t (flat_map f xs) ≡ total (length xs) (λ p. occurrences t (f (word xs p)))
 unfolding flat_map occurrences total
 words_count t f [] = refl
 words_count t f (x ∷ xs) =

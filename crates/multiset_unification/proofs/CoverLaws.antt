@@ -1,4 +1,5 @@
--- Where the two sides are equal under the values, some choice accounts for it: each left term is found among the right terms that are not paired, or in a right label; then each right term that is left over is found in a left label. What remains in the labels are the rests.
+-- Where the two sides are equal under the values, some choice accounts for it: each left term is found among the right terms that are not
+-- paired, or in a right label; then each right term that is left over is found in a left label. What remains in the labels are the rests.
 -- By induction on the terms. Assumes nothing.
 use Prim.Native.Nat.{ℕ, suc, ◌+◌, ◌-◌, ◌<◌}
 use mathlib.Core.Bool.{Bool, true, false, false≢true}
@@ -37,7 +38,8 @@ module _ (v : ℕ → Term) where
     holds : Holds left_digit v k A rs digits rest
     remain : (t : Term) → count t k rest ≡ others t
 
-  rights_covered : (k : ℕ) (used : List ℕ) (j : ℕ) (rs : List ℕ) (A : ℕ → List Term) (others : Term → ℕ) → ((t : Term) → count t k A ≡ occurrences t (map v (unused j used rs)) + others t) → RightsCovered k used j rs A others
+  rights_covered : (k : ℕ) (used : List ℕ) (j : ℕ) (rs : List ℕ) (A : ℕ → List Term) (others : Term → ℕ) →
+      ((t : Term) → count t k A ≡ occurrences t (map v (unused j used rs)) + others t) → RightsCovered k used j rs A others
   unfolding unused with_digit occurrences
   rights_covered k used j [] A others h =
       record {
@@ -52,7 +54,9 @@ module _ (v : ℕ → Term) where
       Later : (ℕ → List Term) → Type 0
       Later B = RightsCovered k used (suc j) rs B others
 
-      pick : (b : Bool) → among (suc j) used ≡ b → ((B : ℕ → List Term) → ((t : Term) → count t k B ≡ occurrences t (map v (unused (suc j) used rs)) + others t) → Later B) → RightsCovered k used j (r ∷ rs) A others
+      pick : (b : Bool) → among (suc j) used ≡ b →
+          ((B : ℕ → List Term) → ((t : Term) → count t k B ≡ occurrences t (map v (unused (suc j) used rs)) + others t) → Later B) →
+          RightsCovered k used j (r ∷ rs) A others
       pick true e f = go (f A (λ t. rw e at (h t)))
         where
           go : Later A → RightsCovered k used j (r ∷ rs) A others
@@ -72,7 +76,9 @@ module _ (v : ℕ → Term) where
               let b = occurrences_append t (v r ∷ []) (map v (unused (suc j) used rs)) in
               omega (arith, a, b)
 
-          go : (o : TakenOut k A (v r)) → ((B : ℕ → List Term) → ((t : Term) → count t k B ≡ occurrences t (map v (unused (suc j) used rs)) + others t) → Later B) → RightsCovered k used j (r ∷ rs) A others
+          go : (o : TakenOut k A (v r)) → ((B : ℕ → List Term) →
+              ((t : Term) → count t k B ≡ occurrences t (map v (unused (suc j) used rs)) + others t) → Later B) →
+              RightsCovered k used j (r ∷ rs) A others
           go o g = back (g o.rest (λ t. omega (arith, now t, taken_count k A (v r) o t)))
             where
               out : Memᴰ (suc j) used → ⊥
@@ -101,7 +107,8 @@ module _ (v : ℕ → Term) where
 
   module _ (m k l : ℕ) (rs : List ℕ) (long : length rs ≡ m) where
     -- sides that are equal under the values are covered by digits
-    covered : (used ls : List ℕ) (A B : ℕ → List Term) → ((t : Term) → occurrences t (map v ls) + count t k A ≡ occurrences t (map v (unused 0 used rs)) + count t l B) → Covered m k l rs used ls A B
+    covered : (used ls : List ℕ) (A B : ℕ → List Term) →
+        ((t : Term) → occurrences t (map v ls) + count t k A ≡ occurrences t (map v (unused 0 used rs)) + count t l B) → Covered m k l rs used ls A B
     unfolding with_digit occurrences pairs
     covered used [] A B h = go (rights_covered k used 0 rs A (λ t. count t l B) (λ t. let e = h t in omega (arith, e)))
       where
@@ -131,7 +138,8 @@ module _ (v : ℕ → Term) where
             let y = occurrences_append t (v a ∷ []) (map v ls) in
             omega (arith, x, y)
 
-        choose : Dec (0 < occurrences (v a) (map v (unused 0 used rs))) → ((d : ℕ) (C : ℕ → List Term) → Hypothesis d C → Later d C) → Covered m k l rs used (a ∷ ls) A B
+        choose : Dec (0 < occurrences (v a) (map v (unused 0 used rs))) → ((d : ℕ) (C : ℕ → List Term) → Hypothesis d C → Later d C) →
+            Covered m k l rs used (a ∷ ls) A B
         choose (yes q) f = found (Memᴰ.of_map v (unused 0 used rs) ((occurs_member (v a) (map v (unused 0 used rs))).0 q))
           where
             found : (r : ℕ) × Memᴰ r (unused 0 used rs) × (v r ≡ v a) → Covered m k l rs used (a ∷ ls) A B
@@ -146,7 +154,8 @@ module _ (v : ℕ → Term) where
                     free : among (suc i) used ≡ false
                     free = rw place at o
 
-                    taken : (t : Term) → occurrences t (map v (unused 0 used rs)) ≡ occurrences t (v (word rs i) ∷ []) + occurrences t (map v (unused 0 (suc i ∷ used) rs))
+                    taken : (t : Term) → occurrences t (map v (unused 0 used rs))
+                        ≡ occurrences t (v (word rs i) ∷ []) + occurrences t (map v (unused 0 (suc i ∷ used) rs))
                     taken t = unused_taken v t 0 i (suc i) used rs b place free
 
                     equal : v a ≡ v (word rs i)
@@ -164,7 +173,8 @@ module _ (v : ℕ → Term) where
                           left_rest = c.left_rest;
                           right_rest = c.right_rest;
                           in_left_lem = c.in_left_lem;
-                          in_right_lem = holds_on (right_digit m) v l B c.right_rest (suc i) a ls c.digits (λ p x y. absurd (omega (arith, y))) c.in_right_lem;
+                          in_right_lem = holds_on (right_digit m) v l B c.right_rest (suc i) a ls c.digits (λ p x y. absurd (omega (arith, y)))
+                              c.in_right_lem;
                           remain = c.remain;
                         }
                       where
@@ -185,7 +195,8 @@ module _ (v : ℕ → Term) where
                 back c =
                     record {
                       digits = (m + suc o.place) ∷ c.digits;
-                      are = next {d = m + suc o.place} (omega arith) (omega (arith, o.below)) (λ x (y : Memᴰ (m + suc o.place) used). absurd (omega (arith, x))) c.are;
+                      are = next {d = m + suc o.place} (omega arith) (omega (arith, o.below))
+                          (λ x (y : Memᴰ (m + suc o.place) used). absurd (omega (arith, x))) c.are;
                       equal_pairs = λ x y z. c.equal_pairs x y (rw (without_pair rs a ls (m + suc o.place) c.digits (omega arith)) at z);
                       left_rest = c.left_rest;
                       right_rest = c.right_rest;
@@ -196,10 +207,20 @@ module _ (v : ℕ → Term) where
 
 module _ (ls ks rs qs : List ℕ) (v : ℕ → Term) (labels : ℕ → List Term) where
   -- equal sides are filled by a choice whose pairs are equal
-  pub equal_filled : ((t : Term) → occurrences t (map v ls) + in_labels labels t ks ≡ occurrences t (map v rs) + in_labels labels t qs) → (ds : List ℕ) × IsChoice (length ls) (length rs) (length ks) (length qs) ds × ((a b : ℕ) → Memᴰ (a, b) (pairs ls rs ds) → v a ≡ v b) × Filled ls ks rs qs ds v labels
+  pub equal_filled : ((t : Term) → occurrences t (map v ls) + in_labels labels t ks ≡ occurrences t (map v rs) + in_labels labels t qs) →
+      (ds : List ℕ) × IsChoice (length ls) (length rs) (length ks) (length qs) ds × ((a b : ℕ) → Memᴰ (a, b) (pairs ls rs ds) → v a ≡ v b) ×
+      Filled ls ks rs qs ds v labels
   unfolding in_left in_right
-  equal_filled h = go (covered v (length rs) (length ks) (length qs) rs refl [] ls (λ p. labels (word ks p)) (λ q. labels (word qs q)) (λ t. rw (unused_all 0 rs) (h t)))
+  equal_filled h = go (covered v (length rs) (length ks) (length qs) rs refl [] ls (λ p. labels (word ks p)) (λ q. labels (word qs q))
+      (λ t. rw (unused_all 0 rs) (h t)))
     where
-      go : Covered v (length rs) (length ks) (length qs) rs [] ls (λ p. labels (word ks p)) (λ q. labels (word qs q)) → (ds : List ℕ) × IsChoice (length ls) (length rs) (length ks) (length qs) ds × ((a b : ℕ) → Memᴰ (a, b) (pairs ls rs ds) → v a ≡ v b) × Filled ls ks rs qs ds v labels
-      go c =
-          (c.digits, (choice_digits (length ls) (length rs) (length ks) (length qs) c.digits).1 c.are, c.equal_pairs, filled ls ks rs qs c.digits v labels c.left_rest c.right_rest c.in_left_lem c.in_right_lem (λ t. places_count t (length ks) c.left_rest ∙ c.remain t ∙ sym (places_count t (length qs) c.right_rest)))
+      go : Covered v (length rs) (length ks) (length qs) rs [] ls (λ p. labels (word ks p)) (λ q. labels (word qs q)) → (ds : List ℕ) ×
+          IsChoice (length ls) (length rs) (length ks) (length qs) ds × ((a b : ℕ) → Memᴰ (a, b) (pairs ls rs ds) → v a ≡ v b) ×
+          Filled ls ks rs qs ds v labels
+      go c = (
+        c.digits,
+        (choice_digits (length ls) (length rs) (length ks) (length qs) c.digits).1 c.are,
+        c.equal_pairs,
+        filled ls ks rs qs c.digits v labels c.left_rest c.right_rest c.in_left_lem c.in_right_lem
+            (λ t. places_count t (length ks) c.left_rest ∙ c.remain t ∙ sym (places_count t (length qs) c.right_rest)),
+      )

@@ -20,7 +20,8 @@ pub data IsRights (k : ℕ) (used : List ℕ) : ℕ → ℕ → List ℕ → Typ
 -- The digits of n more left terms, after those in used, and then of all m right terms.
 pub data IsLefts (m k l : ℕ) : List ℕ → ℕ → List ℕ → Type 0 where
   last : {used ds : List ℕ} → IsRights k used 0 m ds → IsLefts m k l used 0 ds
-  next : {used ds : List ℕ} {n d : ℕ} → 0 < d → d ≤ m + l → (d ≤ m → Memᴰ d used → ⊥) → IsLefts m k l (d ∷ used) n ds → IsLefts m k l used (suc n) (d ∷ ds)
+  next : {used ds : List ℕ} {n d : ℕ} → 0 < d → d ≤ m + l → (d ≤ m → Memᴰ d used → ⊥) → IsLefts m k l (d ∷ used) n ds →
+      IsLefts m k l used (suc n) (d ∷ ds)
 
 -- What `IsRights` says, of all places at once.
 record Rights (k : ℕ) (used : List ℕ) (j r : ℕ) (ds : List ℕ) : Type 0 where
@@ -28,7 +29,8 @@ record Rights (k : ℕ) (used : List ℕ) (j r : ℕ) (ds : List ℕ) : Type 0 w
   pub range : (i : ℕ) → i < r → word ds i ≤ k
   pub nought : (i q : ℕ) → i < r → q ≡ j + i → word ds i ≡ 0 ↔ Memᴰ (suc q) used
 
-more_rights : (k : ℕ) (used : List ℕ) (j r d : ℕ) (ds : List ℕ) → d ≤ k → d ≡ 0 ↔ Memᴰ (suc j) used → Rights k used (suc j) r ds → Rights k used j (suc r) (d ∷ ds)
+more_rights : (k : ℕ) (used : List ℕ) (j r d : ℕ) (ds : List ℕ) → d ≤ k → d ≡ 0 ↔ Memᴰ (suc j) used → Rights k used (suc j) r ds →
+    Rights k used j (suc r) (d ∷ ds)
 more_rights k used j r d ds h e s =
     record { long = let l = s.long in omega (arith, l); range = range; nought = nought }
   where
@@ -51,7 +53,8 @@ less_rights k used j r d ds s =
 to_rights : {k : ℕ} {used : List ℕ} {j r : ℕ} {ds : List ℕ} → IsRights k used j r ds → Rights k used j r ds
 to_rights none = record { long = refl; range = λ i b. absurd (omega arith); nought = λ i q b p. absurd (omega arith) }
 to_rights {k} {used = used} (paired {j} {r} {ds} m s) = more_rights k used j r 0 ds (omega arith) ((λ e. m), (λ n. refl)) (to_rights s)
-to_rights {k} {used = used} (placed {j} {r} {d} {ds} n p b s) = more_rights k used j r d ds b ((λ e. absurd (omega arith)), (λ m. absurd (n m))) (to_rights s)
+to_rights {k} {used = used} (placed {j} {r} {d} {ds} n p b s) =
+    more_rights k used j r d ds b ((λ e. absurd (omega arith)), (λ m. absurd (n m))) (to_rights s)
 
 from_rights : (k : ℕ) (used : List ℕ) (j r : ℕ) (ds : List ℕ) → Rights k used j r ds → IsRights k used j r ds
 from_rights k used j zero [] s = none
@@ -118,7 +121,8 @@ only_rights m k l used ds s =
       nought = λ i q b e. let x = s.nought q i (omega arith) (omega arith) in ((λ z. taken_before used ds (suc q) (x.0 z)), (λ u. x.1 (inl u)));
     }
 
-more_lefts : (m k l : ℕ) (used : List ℕ) (n d : ℕ) (ds : List ℕ) → 0 < d → d ≤ m + l → (d ≤ m → Memᴰ d used → ⊥) → Lefts m k l (d ∷ used) n ds → Lefts m k l used (suc n) (d ∷ ds)
+more_lefts : (m k l : ℕ) (used : List ℕ) (n d : ℕ) (ds : List ℕ) → 0 < d → d ≤ m + l → (d ≤ m → Memᴰ d used → ⊥) → Lefts m k l (d ∷ used) n ds →
+    Lefts m k l used (suc n) (d ∷ ds)
 more_lefts m k l used n d ds pos top fresh s =
     record {
       long = let e = s.long in omega (arith, e);

@@ -74,7 +74,8 @@ module _ {A B : Type 0} (o : A → Outcome) (f : A → B) where
   in_kept (y ∷ xs) x (Memᴰ.tail m) e = Memᴰ.append_right (kept (o y) (f y)) (in_kept xs x m e)
 
   -- what is kept of a rising list rises
-  kept_rises : (Below : A → A → Type 0) (Under : B → B → Type 0) (xs : List A) → ((x y : A) → Memᴰ x xs → Memᴰ y xs → Below x y → Under (f x) (f y)) → Rising Below xs → Rising Under (keep xs)
+  kept_rises : (Below : A → A → Type 0) (Under : B → B → Type 0) (xs : List A) →
+      ((x y : A) → Memᴰ x xs → Memᴰ y xs → Below x y → Under (f x) (f y)) → Rising Below xs → Rising Under (keep xs)
   unfolding flat_map kept
   kept_rises Below Under [] h r = end
   kept_rises Below Under (x ∷ xs) h (before b r) =
@@ -138,8 +139,10 @@ module _ (p : Problem) where
     pub listing_digits :
         Rising Before (map (digits_of p) (admissible_listing p)) ×
         ((ds : List ℕ) → Memᴰ ds (map (digits_of p) (admissible_listing p)) ↔ Admissible p ds)
-    listing_digits =
-        (rising_map Earlier Before (digits_of p) (admissible_listing p) (λ e f m n b. b) listing_rises, λ ds. ((λ m. there ds m), (λ a. back_to ds a)))
+    listing_digits = (
+      rising_map Earlier Before (digits_of p) (admissible_listing p) (λ e f m n b. b) listing_rises,
+      λ ds. ((λ m. there ds m), (λ a. back_to ds a)),
+    )
       where
         there : (ds : List ℕ) → Memᴰ ds (map (digits_of p) (admissible_listing p)) → Admissible p ds
         there ds m =

@@ -1,4 +1,5 @@
--- Labels that are filled. Rests that together equal nothing are empty, so that document 01 need not say so of them: a term of one of them would be a term of all together.
+-- Labels that are filled. Rests that together equal nothing are empty, so that document 01 need not say so of them: a term of one of them
+-- would be a term of all together.
 -- Only the values of the terms of both sides matter. Assumes nothing.
 use Prim.Native.Nat.{ℕ, ◌<◌}
 use mathlib.Core.List.Memᴰ
@@ -31,10 +32,14 @@ rests_empty k rest rest' h p l = go (rest p) refl
     go : (us : List Term) → rest p ≡ us → us ≡ []
     go [] e = refl
     go (u ∷ us) e =
-        absurd (Memᴰ.not-nil (same_member (flatten (tabulate k rest)) [] h u (flattened u (rest p) (tabulate k rest) (tabulate_member k rest p l) (rw e (Memᴰ.head refl)))))
+        absurd (Memᴰ.not-nil (same_member (flatten (tabulate k rest)) [] h u
+        (flattened u (rest p) (tabulate k rest) (tabulate_member k rest p l) (rw e (Memᴰ.head refl)))))
 
 -- labels are filled where their terms and rests are right and the rests balance: the two clauses on empty rests follow
-pub filled : (ls ks rs qs ds : List ℕ) (v : ℕ → Term) (labels : ℕ → List Term) (left_rest right_rest : ℕ → List Term) → ((p : ℕ) → p < length ks → Same (labels (word ks p)) (map v (in_left ls rs ds p) ++ left_rest p)) → ((q : ℕ) → q < length qs → Same (labels (word qs q)) (map v (in_right ls rs ds q) ++ right_rest q)) → Same (flatten (tabulate (length ks) left_rest)) (flatten (tabulate (length qs) right_rest)) → Filled ls ks rs qs ds v labels
+pub filled : (ls ks rs qs ds : List ℕ) (v : ℕ → Term) (labels : ℕ → List Term) (left_rest right_rest : ℕ → List Term) →
+    ((p : ℕ) → p < length ks → Same (labels (word ks p)) (map v (in_left ls rs ds p) ++ left_rest p)) →
+    ((q : ℕ) → q < length qs → Same (labels (word qs q)) (map v (in_right ls rs ds q) ++ right_rest q)) →
+    Same (flatten (tabulate (length ks) left_rest)) (flatten (tabulate (length qs) right_rest)) → Filled ls ks rs qs ds v labels
 filled ls ks rs qs ds v labels left_rest right_rest l r b =
     record {
       left_rest = left_rest;
@@ -47,7 +52,8 @@ filled ls ks rs qs ds v labels left_rest right_rest l r b =
     }
 
 -- labels that are filled under values are filled under values that are the same for the terms of both sides
-pub filled_same : (ls ks rs qs ds : List ℕ) (v w : ℕ → Term) (labels : ℕ → List Term) → ((i : ℕ) → i < length ls → v (word ls i) ≡ w (word ls i)) → ((j : ℕ) → j < length rs → v (word rs j) ≡ w (word rs j)) → Filled ls ks rs qs ds v labels → Filled ls ks rs qs ds w labels
+pub filled_same : (ls ks rs qs ds : List ℕ) (v w : ℕ → Term) (labels : ℕ → List Term) → ((i : ℕ) → i < length ls → v (word ls i) ≡ w (word ls i)) →
+    ((j : ℕ) → j < length rs → v (word rs j) ≡ w (word rs j)) → Filled ls ks rs qs ds v labels → Filled ls ks rs qs ds w labels
 unfolding in_left in_right
 filled_same ls ks rs qs ds v w labels l r f =
     record {

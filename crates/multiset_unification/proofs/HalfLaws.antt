@@ -122,7 +122,8 @@ module _ {n : ℕ} (h : Half) (g : HalfPosed n h) where
         EqualPairs v (half_pairs h ds) → HalfFilled h ds v A.labels → Balanced ns h A
     filled_balanced A v e ds c p f =
         (balanced_counted ns h A).1
-        (λ u. (let s = terms_same (value ns A.variables) v e u in let b = filled_equal h.left h.left_labels h.right h.right_labels v A.labels ds c p f u in omega (arith, s.0, s.1, b)))
+        (λ u. (let s = terms_same (value ns A.variables) v e u in let b =
+        filled_equal h.left h.left_labels h.right h.right_labels v A.labels ds c p f u in omega (arith, s.0, s.1, b)))
 
     -- equal sides are filled by a choice whose pairs are equal
     pub balanced_filled : (A : Assignment) → Balanced ns h A →
@@ -140,8 +141,10 @@ module _ {n : ℕ} (h : Half) (g : HalfPosed n h) where
         (λ u. (
         let x = (balanced_counted ns h A).0 b u in
         let y = terms_same (value ns A.variables) (value ns B.variables) e u in
-        let l = total_same (length h.left_labels) (λ i. occurrences u (A.labels (word h.left_labels i))) (λ i. occurrences u (B.labels (word h.left_labels i))) (λ i q. same_left h A.labels B.labels s i q u) in
-        let r = total_same (length h.right_labels) (λ i. occurrences u (A.labels (word h.right_labels i))) (λ i. occurrences u (B.labels (word h.right_labels i))) (λ i q. same_right h A.labels B.labels s i q u) in
+        let l = total_same (length h.left_labels) (λ i. occurrences u (A.labels (word h.left_labels i)))
+        (λ i. occurrences u (B.labels (word h.left_labels i))) (λ i q. same_left h A.labels B.labels s i q u) in
+        let r = total_same (length h.right_labels) (λ i. occurrences u (A.labels (word h.right_labels i)))
+        (λ i. occurrences u (B.labels (word h.right_labels i))) (λ i q. same_right h A.labels B.labels s i q u) in
         omega (arith, x, y.0, y.1, l, r)))
 
 -- rests that are all empty are nothing together
@@ -177,7 +180,8 @@ module _ (h : Half) (ds : List ℕ) (v : ℕ → Term) (labels : ℕ → List Te
   in_its_right i q b l e =
       same_member (map v (in_right h.left h.right ds q) ++ f.right_rest q) (labels (word h.right_labels q))
       (same_sym _ _ (f.in_right_lem q l)) (v (word h.left i))
-      (Memᴰ.append_left (f.right_rest q) (Memᴰ.map v ((with_digit_means (length h.right + suc q) (omega arith) h.left ds (word h.left i)).1 (i, b, e, refl))))
+      (Memᴰ.append_left (f.right_rest q) (Memᴰ.map v
+      ((with_digit_means (length h.right + suc q) (omega arith) h.left ds (word h.left i)).1 (i, b, e, refl))))
 
   -- "p for left label p": so is a right term
   pub in_its_left : (j p : ℕ) → j < length h.right → p < length h.left_labels → word (drop (length h.left) ds) j ≡ suc p →
@@ -186,4 +190,5 @@ module _ (h : Half) (ds : List ℕ) (v : ℕ → Term) (labels : ℕ → List Te
   in_its_left j p b l e =
       same_member (map v (in_left h.left h.right ds p) ++ f.left_rest p) (labels (word h.left_labels p)) (same_sym _ _ (f.in_left_lem p l))
       (v (word h.right j))
-      (Memᴰ.append_left (f.left_rest p) (Memᴰ.map v ((with_digit_means (suc p) (omega arith) h.right (drop (length h.left) ds) (word h.right j)).1 (j, b, e, refl))))
+      (Memᴰ.append_left (f.left_rest p) (Memᴰ.map v
+      ((with_digit_means (suc p) (omega arith) h.right (drop (length h.left) ds) (word h.right j)).1 (j, b, e, refl))))

@@ -41,7 +41,8 @@ module _ (ks qs : List ℕ) (left right : ℕ → List Term) where
   unfolding held_by
   held_left d p h =
       let l = length-append ks qs in
-      ap (held (ks ++ qs) said) (sym (get_or-append ks qs 0 p h)) ∙ held_at (ks ++ qs) said d p (omega (arith, l, h)) ∙ rw (lt-ltb p (length ks) h) refl
+      ap (held (ks ++ qs) said) (sym (get_or-append ks qs 0 p h)) ∙ held_at (ks ++ qs) said d p (omega (arith, l, h)) ∙
+      rw (lt-ltb p (length ks) h) refl
 
   -- and so is that of a right label
   pub held_right : Different (ks ++ qs) → (q : ℕ) → q < length qs → held_by (word qs q) ≡ right q
@@ -49,7 +50,8 @@ module _ (ks qs : List ℕ) (left right : ℕ → List Term) where
   held_right d q h =
       let l = length-append ks qs in
       let e : length ks + q - length ks ≡ q = omega arith in
-      ap (held (ks ++ qs) said) (sym (get_or-append-add ks qs q 0)) ∙ held_at (ks ++ qs) said d (length ks + q) (omega (arith, l, h)) ∙ rw (le-ltb (length ks + q) (length ks) (omega arith), e) refl
+      ap (held (ks ++ qs) said) (sym (get_or-append-add ks qs q 0)) ∙ held_at (ks ++ qs) said d (length ks + q) (omega (arith, l, h)) ∙
+      rw (le-ltb (length ks + q) (length ks) (omega arith), e) refl
 
 module _ (ks qs : List ℕ) (d : Different (ks ++ qs)) where
   -- labels of both sides that are all different are so on each side

@@ -24,13 +24,15 @@ use Rattle.multiset_unification.proofs.CompleteLaws.{complete_entry, listing_com
 use Rattle.multiset_unification.proofs.AnswerLaws.{entries_left_lem}
 
 -- lists of one length, one after the other, are cut out again
-cut_out : (w : ℕ) (es : List (List ℕ)) → ((e : List ℕ) → Memᴰ e es → length e ≡ w) → (rest : List ℕ) → tabulate (length es) (λ i. take w (drop (w * i) (flatten es ++ rest))) ≡ es
+cut_out : (w : ℕ) (es : List (List ℕ)) → ((e : List ℕ) → Memᴰ e es → length e ≡ w) → (rest : List ℕ) →
+    tabulate (length es) (λ i. take w (drop (w * i) (flatten es ++ rest))) ≡ es
 unfolding flatten tabulate
 cut_out w [] h rest = refl
 cut_out w (e ∷ es) h rest =
     tabulate_first (length es) (λ i. take w (drop (w * i) (e ++ flatten es ++ rest)))
     ∙ ap (◌∷ tabulate (length es) (λ i. take w (drop (w * suc i) (e ++ flatten es ++ rest)))) first
-    ∙ ap (e ∷◌) (tabulate_same (length es) (λ i. take w (drop (w * suc i) (e ++ flatten es ++ rest))) (λ i. take w (drop (w * i) (flatten es ++ rest))) (λ i q. ap (take w) (next i)) ∙ cut_out w es (λ f m. h f (Memᴰ.tail m)) rest)
+    ∙ ap (e ∷◌) (tabulate_same (length es) (λ i. take w (drop (w * suc i) (e ++ flatten es ++ rest)))
+    (λ i. take w (drop (w * i) (flatten es ++ rest))) (λ i q. ap (take w) (next i)) ∙ cut_out w es (λ f m. h f (Memᴰ.tail m)) rest)
   where
     l : length e ≡ w
     l = h e (Memᴰ.head refl)
@@ -44,7 +46,8 @@ cut_out w (e ∷ es) h rest =
     next : (i : ℕ) → drop (w * suc i) (e ++ flatten es ++ rest) ≡ drop (w * i) (flatten es ++ rest)
     next i =
         let x : w * suc i ≡ w + w * i = mul-suc w i ∙ omega arith in
-        ap (λ (n : ℕ). drop n (e ++ flatten es ++ rest)) x ∙ sym (drop-drop (w * i) w (e ++ flatten es ++ rest)) ∙ ap (drop (w * i)) (ap (drop w) shift ∙ drop_at e (flatten es ++ rest) w l)
+        ap (λ (n : ℕ). drop n (e ++ flatten es ++ rest)) x ∙ sym (drop-drop (w * i) w (e ++ flatten es ++ rest)) ∙
+        ap (drop (w * i)) (ap (drop w) shift ∙ drop_at e (flatten es ++ rest) w l)
 
 pub taken_in : {A : Type 0} (k : ℕ) (xs : List A) (x : A) → Memᴰ x (take k xs) → Memᴰ x xs
 taken_in zero xs x m = absurd (Memᴰ.not-nil m)
@@ -90,7 +93,8 @@ module _ (p : Problem) (g : Posed p) where
 
     -- the entries that the answer counts lie in the lent words, one after the other from the first word on
     pub entries_lie : (lent : List ℕ) →
-        entries_in p (listed cs (complete_listing p) (length lent)).entries (lent_after cs (complete_listing p) lent) ≡ entries_left cs (complete_listing p) (length lent)
+        entries_in p (listed cs (complete_listing p) (length lent)).entries (lent_after cs (complete_listing p) lent)
+        ≡ entries_left cs (complete_listing p) (length lent)
     unfolding entries_in lent_after listed
     entries_lie lent =
         cut_out (entry_words p) (entries_left cs (complete_listing p) (length lent)) (left_long (length lent))

@@ -71,7 +71,8 @@ module _ (h : Half) where
   unfolding admissible_listing entry_of
   one_listing ns =
       rw one_choices
-      (flat_same _ _ (half_choices h) (λ ds m. ap (λ (ps : List (ℕ × ℕ)). kept (outcome ns ps) (ds ++ words_of ns ps)) (one_pairs ns ds ((half_choices_lem h ds).0 m))))
+      (flat_same _ _ (half_choices h) (λ ds m. ap (λ (ps : List (ℕ × ℕ)). kept (outcome ns ps) (ds ++ words_of ns ps))
+      (one_pairs ns ds ((half_choices_lem h ds).0 m))))
 
   -- "A choice is admissible if all its pairs have a common unifier.": those of the half
   pub one_admissible : (ns : List Node) (ds : List ℕ) → Admissible (one_half ns h) ds ↔ (HalfChoice h ds × Unifiable ns (half_pairs h ds))

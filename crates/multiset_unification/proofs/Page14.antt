@@ -44,7 +44,8 @@ module _ (p : Problem) (ok : Posed p) (A : Assignment) where
   instance_equal ds a n =
       let σ = n.unifier in
       let ρ = n.after in
-      let g = reading_most_general p.nodes ok.well_formed (pairs_of p ds) (pairs_inside p ok ds a.0) ((choice_decided p ok ds a.0).1 a.1) σ (rw (entry_bindings p ds a.0) at n.read) in
+      let g = reading_most_general p.nodes ok.well_formed (pairs_of p ds) (pairs_inside p ok ds a.0) ((choice_decided p ok ds a.0).1 a.1) σ
+      (rw (entry_bindings p ds a.0) at n.read) in
       filled_sides p ok A (λ c. sub ρ (value p.nodes σ c)) (after_values σ ρ n.variables) ds a.0
       (λ b c m. ap (sub ρ) (g.unifies b c m)) (rw (entry_digits p ds a.0) at n.labels)
 
@@ -82,7 +83,8 @@ module _ (p : Problem) (ok : Posed p) (A : Assignment) where
                 variables = h;
                 labels =
                     rw (entry_digits p ds c)
-                    (λ k es m. filled_values k (share_posed p ok ds k es m) (value p.nodes A.variables) (λ b. sub ρ (value p.nodes σ b)) (after_values σ ρ h) es A.labels (f.filled k es m));
+                    (λ k es m. filled_values k (share_posed p ok ds k es m) (value p.nodes A.variables) (λ b. sub ρ (value p.nodes σ b))
+                    (after_values σ ρ h) es A.labels (f.filled k es m));
               }
 
 -- the same of document 01's listing of all admissible choices
@@ -112,7 +114,8 @@ module _ (p : Problem) (cs : List (ℕ × Bool)) (g : Refusals cs) (ok : first_h
   page14_finished lent e =
       let es = complete_listing p in
       let q = ok ((finished_exactly cs es (length lent) g).0 e).0 in
-      let l : entries_in p (listed cs es (length lent)).entries (lent_after cs es lent) ≡ es = entries_lie p q cs lent ∙ left_finished cs es (length lent) g e in
+      let l : entries_in p (listed cs es (length lent)).entries (lent_after cs es lent) ≡ es = entries_lie p q cs lent ∙
+      left_finished cs es (length lent) g e in
       record { complete = rw l (listing_complete p q); exactly = λ A. rw l (page14 p q A) }
 
   -- "So a finished listing of 0 entries means that no assignment makes the sides equal."

@@ -1,5 +1,6 @@
 -- What a caller has of a finished listing, from demand 3 and what laws need of the problem alone: nothing else of the call is used here.
--- Equal sides would be an instance of an entry, and there is none; an entry has an instance, which makes the sides equal; and the entries are those of the complete listing. Assumes nothing.
+-- Equal sides would be an instance of an entry, and there is none; an entry has an instance, which makes the sides equal; and the entries
+-- are those of the complete listing. Assumes nothing.
 use Prim.Native.Nat.{ℕ, zero, suc, ◌*◌, ◌<◌}
 use mathlib.Core.List.Memᴰ
 use mathlib.Core.List.{List, Memᴰ}

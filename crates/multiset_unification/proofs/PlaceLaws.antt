@@ -1,4 +1,5 @@
--- What digits pair, and what they put where, by places: a digit speaks of the term at its own place, and of the right term or the label that it counts to.
+-- What digits pair, and what they put where, by places: a digit speaks of the term at its own place, and of the right term or the label
+-- that it counts to.
 -- By induction on the terms. Assumes nothing.
 use Prim.Native.Nat.{ℕ, zero, suc, ◌-◌, ◌<◌}
 use mathlib.Core.Bool.{Bool, true, false, cond}
@@ -26,7 +27,8 @@ with_from d (t ∷ ts) (e ∷ ds) a m = pick (eqb e d) refl m (λ n. further (wi
     further : At d ts ds a → At d (t ∷ ts) (e ∷ ds) a
     further (i, h, p, q) = (suc i, omega arith, p, q)
 
-    pick : (b : Bool) → eqb e d ≡ b → Memᴰ a (cond b (t ∷ with_digit d ts ds) (with_digit d ts ds)) → (Memᴰ a (with_digit d ts ds) → At d (t ∷ ts) (e ∷ ds) a) → At d (t ∷ ts) (e ∷ ds) a
+    pick : (b : Bool) → eqb e d ≡ b → Memᴰ a (cond b (t ∷ with_digit d ts ds) (with_digit d ts ds)) →
+        (Memᴰ a (with_digit d ts ds) → At d (t ∷ ts) (e ∷ ds) a) → At d (t ∷ ts) (e ∷ ds) a
     pick true z (Memᴰ.head q) r = (0, omega arith, eqb-true e d z, q)
     pick true z (Memᴰ.tail n) r = r n
     pick false z n r = r n
@@ -43,7 +45,8 @@ in_with d (t ∷ ts) (b ∷ ds) (suc i) z h e = pick (eqb b d) (in_with d ts ds 
     pick false m = m
 
 -- the terms with a digit above 0 are those at the places that have it
-pub with_digit_means : (d : ℕ) → 0 < d → (ts ds : List ℕ) (a : ℕ) → Memᴰ a (with_digit d ts ds) ↔ ((i : ℕ) × (i < length ts) × (word ds i ≡ d) × (a ≡ word ts i))
+pub with_digit_means : (d : ℕ) → 0 < d → (ts ds : List ℕ) (a : ℕ) → Memᴰ a (with_digit d ts ds) ↔
+    ((i : ℕ) × (i < length ts) × (word ds i ≡ d) × (a ≡ word ts i))
 with_digit_means d z ts ds a = (with_from d ts ds a, λ s. rw s.3 (in_with d ts ds s.0 z s.1 s.2))
 
 -- A left term, and the right term that its digit counts to.
@@ -60,7 +63,8 @@ pairs_from (c ∷ ls) rs (d ∷ ds) h a b m =
     further : Paired ls rs ds a b → Paired (c ∷ ls) rs (d ∷ ds) a b
     further (i, j, p, q, w, e, f) = (suc i, j, omega arith, q, w, e, f)
 
-    pick : (x : Bool) → leb d (length rs) ≡ x → Memᴰ (a, b) (cond x ((c, word rs (d - 1)) ∷ pairs ls rs ds) (pairs ls rs ds)) → (Memᴰ (a, b) (pairs ls rs ds) → Paired (c ∷ ls) rs (d ∷ ds) a b) → Paired (c ∷ ls) rs (d ∷ ds) a b
+    pick : (x : Bool) → leb d (length rs) ≡ x → Memᴰ (a, b) (cond x ((c, word rs (d - 1)) ∷ pairs ls rs ds) (pairs ls rs ds)) →
+        (Memᴰ (a, b) (pairs ls rs ds) → Paired (c ∷ ls) rs (d ∷ ds) a b) → Paired (c ∷ ls) rs (d ∷ ds) a b
     pick true e (Memᴰ.head q) r =
         let k = leb-true d (length rs) e in
         let z : 0 < d = h 0 (omega arith) in
@@ -77,10 +81,12 @@ in_pairs (a ∷ ls) rs (d ∷ ds) zero j h k e =
     rw (le-leb d (length rs) (omega (arith, e, k))) (Memᴰ.head (ap (λ (n : ℕ). (a, word rs n)) x))
 in_pairs (a ∷ ls) rs (d ∷ ds) (suc i) j h k e = pick (leb d (length rs)) (in_pairs ls rs ds i j (omega arith) k e)
   where
-    pick : (c : Bool) → Memᴰ (word ls i, word rs j) (pairs ls rs ds) → Memᴰ (word ls i, word rs j) (cond c ((a, word rs (d - 1)) ∷ pairs ls rs ds) (pairs ls rs ds))
+    pick : (c : Bool) → Memᴰ (word ls i, word rs j) (pairs ls rs ds) →
+        Memᴰ (word ls i, word rs j) (cond c ((a, word rs (d - 1)) ∷ pairs ls rs ds) (pairs ls rs ds))
     pick true m = Memᴰ.tail m
     pick false m = m
 
 -- where left digits are above 0, as in a choice, the pairs are those of a left term and the right term that its digit counts to
-pub pairs_mean : (ls rs ds : List ℕ) → ((i : ℕ) → i < length ls → 0 < word ds i) → (a b : ℕ) → Memᴰ (a, b) (pairs ls rs ds) ↔ ((i : ℕ) × (j : ℕ) × (i < length ls) × (j < length rs) × (word ds i ≡ suc j) × (a ≡ word ls i) × (b ≡ word rs j))
+pub pairs_mean : (ls rs ds : List ℕ) → ((i : ℕ) → i < length ls → 0 < word ds i) → (a b : ℕ) → Memᴰ (a, b) (pairs ls rs ds) ↔
+    ((i : ℕ) × (j : ℕ) × (i < length ls) × (j < length rs) × (word ds i ≡ suc j) × (a ≡ word ls i) × (b ≡ word rs j))
 pairs_mean ls rs ds h a b = (pairs_from ls rs ds h a b, λ s. rw (s.5, s.6) (in_pairs ls rs ds s.0 s.1 s.2 s.3 s.4))

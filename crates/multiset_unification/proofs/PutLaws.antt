@@ -34,13 +34,15 @@ map_same f g (a ∷ l) h =
     rw (e, r)
 
 -- and the same list of the terms with a digit
-pub with_same : (f g : ℕ → Term) (d : ℕ) (l ds : List ℕ) → ((i : ℕ) → i < length l → f (word l i) ≡ g (word l i)) → map f (with_digit d l ds) ≡ map g (with_digit d l ds)
+pub with_same : (f g : ℕ → Term) (d : ℕ) (l ds : List ℕ) → ((i : ℕ) → i < length l → f (word l i) ≡ g (word l i)) →
+    map f (with_digit d l ds) ≡ map g (with_digit d l ds)
 unfolding with_digit
 with_same f g d [] ds h = refl
 with_same f g d (a ∷ l) [] h = refl
 with_same f g d (a ∷ l) (e ∷ ds) h = pick (eqb e d) (with_same f g d l ds (λ i q. h (suc i) (omega arith)))
   where
-    pick : (b : Bool) → map f (with_digit d l ds) ≡ map g (with_digit d l ds) → map f (cond b (a ∷ with_digit d l ds) (with_digit d l ds)) ≡ map g (cond b (a ∷ with_digit d l ds) (with_digit d l ds))
+    pick : (b : Bool) → map f (with_digit d l ds) ≡ map g (with_digit d l ds) →
+        map f (cond b (a ∷ with_digit d l ds) (with_digit d l ds)) ≡ map g (cond b (a ∷ with_digit d l ds) (with_digit d l ds))
     pick true r = let s : f a ≡ g a = h 0 (omega arith) in rw (s, r)
     pick false r = r
 
@@ -56,9 +58,12 @@ module _ (digit : ℕ → ℕ) (v : ℕ → Term) where
       (λ p q. ap (λ (us : List ℕ). occurrences t (map v us)) (without_digit (digit p) d a ts ds (h p q)))
 
   -- the digit of a place puts its term there, once
-  pub put_once : ((p q : ℕ) → digit p ≡ digit q → p ≡ q) → (t : Term) (k p a : ℕ) (ts ds : List ℕ) → p < k → put t k (a ∷ ts) (digit p ∷ ds) ≡ occurrences t (v a ∷ []) + put t k ts ds
+  pub put_once : ((p q : ℕ) → digit p ≡ digit q → p ≡ q) → (t : Term) (k p a : ℕ) (ts ds : List ℕ) → p < k →
+      put t k (a ∷ ts) (digit p ∷ ds) ≡ occurrences t (v a ∷ []) + put t k ts ds
   put_once one t k p a ts ds h =
-      total_one k (λ q. occurrences t (map v (with_digit (digit q) (a ∷ ts) (digit p ∷ ds)))) (λ q. occurrences t (map v (with_digit (digit q) ts ds)))
+      total_one k (λ q. occurrences t (map v (with_digit (digit q) (a ∷ ts) (digit p ∷ ds))))
+      (λ q. occurrences t (map v (with_digit (digit q) ts ds)))
       (occurrences t (v a ∷ [])) p h
-      (ap (λ (us : List ℕ). occurrences t (map v us)) (with_digit_lem (digit p) a ts ds) ∙ occurrences_append t (v a ∷ []) (map v (with_digit (digit p) ts ds)))
+      (ap (λ (us : List ℕ). occurrences t (map v us)) (with_digit_lem (digit p) a ts ds) ∙
+      occurrences_append t (v a ∷ []) (map v (with_digit (digit p) ts ds)))
       (λ q i n. ap (λ (us : List ℕ). occurrences t (map v us)) (without_digit (digit q) (digit p) a ts ds (λ e. n (one q p (sym e)))))

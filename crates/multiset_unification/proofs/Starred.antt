@@ -74,17 +74,20 @@ label_twice = 12 ∷ 0 ∷ 12 ∷ 0 ∷ 12 ∷ 0 ∷ 12 ∷ 1 ∷ 13 ∷ 0 ∷ 1
 -- 0 a, 1 x, 2 y, 3 f(x), 4 f(y), 5 f(a); {3, 4} and {5, 5}
 abbrev pub two_and_two : List ℕ
 two_and_two =
-    12 ∷ 24 ∷ 36 ∷ 3 ∷ 39 ∷ 2 ∷ 41 ∷ 0 ∷ 41 ∷ 2 ∷ 43 ∷ 0 ∷ 1 ∷ 1 ∷ 0 ∷ 0 ∷ 0 ∷ 0 ∷ 0 ∷ 0 ∷ 0 ∷ 1 ∷ 0 ∷ 0 ∷ 1 ∷ 3 ∷ 0 ∷ 1 ∷ 1 ∷ 3 ∷ 1 ∷ 1 ∷ 1 ∷ 3 ∷ 2 ∷ 1 ∷ 1 ∷ 2 ∷ 0 ∷ 3 ∷ 4 ∷ 5 ∷ 5 ∷ []
+    12 ∷ 24 ∷ 36 ∷ 3 ∷ 39 ∷ 2 ∷ 41 ∷ 0 ∷ 41 ∷ 2 ∷ 43 ∷ 0 ∷ 1 ∷ 1 ∷ 0 ∷ 0 ∷ 0 ∷ 0 ∷ 0 ∷ 0 ∷ 0 ∷ 1 ∷ 0 ∷ 0 ∷ 1 ∷ 3 ∷ 0 ∷ 1 ∷ 1 ∷ 3 ∷ 1 ∷ 1 ∷ 1 ∷ 3 ∷ 2
+    ∷ 1 ∷ 1 ∷ 2 ∷ 0 ∷ 3 ∷ 4 ∷ 5 ∷ 5 ∷ []
 
 -- 0 x, 1 a, 2 b, 3 g(x), 4 f(x, a), 5 f(g(x), b)
 abbrev pub clash_and_cycle : List ℕ
 clash_and_cycle =
-    12 ∷ 24 ∷ 36 ∷ 5 ∷ 41 ∷ 0 ∷ 41 ∷ 0 ∷ 41 ∷ 0 ∷ 41 ∷ 0 ∷ 0 ∷ 0 ∷ 0 ∷ 0 ∷ 1 ∷ 1 ∷ 0 ∷ 0 ∷ 1 ∷ 2 ∷ 0 ∷ 0 ∷ 1 ∷ 4 ∷ 0 ∷ 1 ∷ 1 ∷ 3 ∷ 1 ∷ 2 ∷ 1 ∷ 3 ∷ 3 ∷ 2 ∷ 0 ∷ 0 ∷ 1 ∷ 3 ∷ 2 ∷ []
+    12 ∷ 24 ∷ 36 ∷ 5 ∷ 41 ∷ 0 ∷ 41 ∷ 0 ∷ 41 ∷ 0 ∷ 41 ∷ 0 ∷ 0 ∷ 0 ∷ 0 ∷ 0 ∷ 1 ∷ 1 ∷ 0 ∷ 0 ∷ 1 ∷ 2 ∷ 0 ∷ 0 ∷ 1 ∷ 4 ∷ 0 ∷ 1 ∷ 1 ∷ 3 ∷ 1 ∷ 2 ∷ 1 ∷ 3 ∷ 3
+    ∷ 2 ∷ 0 ∷ 0 ∷ 1 ∷ 3 ∷ 2 ∷ []
 
 -- 0 x, 1 a, 2 f(x), 3 p(x, x), 4 p(f(x), a)
 abbrev pub p_terms : List ℕ
 p_terms =
-    12 ∷ 20 ∷ 32 ∷ 5 ∷ 37 ∷ 0 ∷ 37 ∷ 0 ∷ 37 ∷ 0 ∷ 37 ∷ 0 ∷ 0 ∷ 0 ∷ 0 ∷ 0 ∷ 1 ∷ 1 ∷ 0 ∷ 0 ∷ 1 ∷ 3 ∷ 0 ∷ 1 ∷ 1 ∷ 5 ∷ 1 ∷ 2 ∷ 1 ∷ 5 ∷ 3 ∷ 2 ∷ 0 ∷ 0 ∷ 0 ∷ 2 ∷ 1 ∷ []
+    12 ∷ 20 ∷ 32 ∷ 5 ∷ 37 ∷ 0 ∷ 37 ∷ 0 ∷ 37 ∷ 0 ∷ 37 ∷ 0 ∷ 0 ∷ 0 ∷ 0 ∷ 0 ∷ 1 ∷ 1 ∷ 0 ∷ 0 ∷ 1 ∷ 3 ∷ 0 ∷ 1 ∷ 1 ∷ 5 ∷ 1 ∷ 2 ∷ 1 ∷ 5 ∷ 3 ∷ 2 ∷ 0 ∷ 0 ∷ 0
+    ∷ 2 ∷ 1 ∷ []
 
 -- 0 a, 1 f(a), 2 f(a, a)
 abbrev pub two_counts : List ℕ
@@ -132,7 +135,12 @@ examples =
     -- 6: "{ | M} and {}: 1 entry of 0 words."
     (list label_and_none, 7 ∷ [], listing (Finished 1), 7 ∷ []) ∷
     -- 7: "`1 2 0 0 0 0` and `2 1 0 0 0 0`"
-    (list two_and_two, 7 ∷ 7 ∷ 7 ∷ 7 ∷ 7 ∷ 7 ∷ 7 ∷ 7 ∷ 7 ∷ 7 ∷ 7 ∷ 7 ∷ 8 ∷ [], listing (Finished 2), 1 ∷ 2 ∷ 0 ∷ 0 ∷ 0 ∷ 0 ∷ 2 ∷ 1 ∷ 0 ∷ 0 ∷ 0 ∷ 0 ∷ 8 ∷ []) ∷
+    (
+      list two_and_two,
+      7 ∷ 7 ∷ 7 ∷ 7 ∷ 7 ∷ 7 ∷ 7 ∷ 7 ∷ 7 ∷ 7 ∷ 7 ∷ 7 ∷ 8 ∷ [],
+      listing (Finished 2),
+      1 ∷ 2 ∷ 0 ∷ 0 ∷ 0 ∷ 0 ∷ 2 ∷ 1 ∷ 0 ∷ 0 ∷ 0 ∷ 0 ∷ 8 ∷ [],
+    ) ∷
     -- 8: "x with f(x): occurs"
     (unify x_fx 0 1, 7 ∷ 8 ∷ 9 ∷ [], unifying Occurs, 7 ∷ 8 ∷ 9 ∷ []) ∷
     -- 9: "f(x, a) with f(g(x), b): clash"
@@ -158,13 +166,23 @@ examples =
 
 -- What the definitions compute for a call with lent words.
 abbrev pub computed : Call → List ℕ → Meaning × List ℕ
-computed (list t) lent =
-    (listing_is (listed (conditions t) (complete_listing (problem_of t)) (length lent)), lent_after (conditions t) (complete_listing (problem_of t)) lent)
+computed (list t) lent = (
+  listing_is (listed (conditions t) (complete_listing (problem_of t)) (length lent)),
+  lent_after (conditions t) (complete_listing (problem_of t)) lent,
+)
 computed (unify t a b) lent = (outcome_is (unification t a b (length lent)), Rattle.unification.specs.Answer.lent_after t a b lent)
 
 -- what they compute is what stands beside each call: for 1 to 12, what document 01 says
 pub starred : map (λ e. computed e.0 e.1) examples ≡ map (λ e. (stands_for e.2, e.3)) examples
-unfolding flatten flat_map ℕ_discrete counts_before some_below too_few_words end_before offset_is_wrong broken_pair words_are_wrong size_is_wrong over_limit right_variable start_of right_application right_node node_is_wrong wrong_node argument_is_wrong run_is_wrong wrong_argument term_is_wrong wrong_term labels_are_equal label_is_wrong wrong_label conditions first_held refusal equal sub tabulate read_node nodes_from nodes_in each spell term_within term_of zip zip_with insert variables_of renamed join join_all same_symbol asks gather asked round rounds classes differ clash_at clash_with clashes some_marked leads leads_at leads_from walks cyclic first_with least_node is_application is_variable is_node_of node_of resolved solution is_application_in is_variable_in head_in is_bound_to has_value word_for word_of binding_words outcome unifier words_of variable_count unify_conditions answer_after unification words_after pairs shares pairs_of entry_of among branch rights lefts choices kept half_choices cross halves_choices admissible_listing complete_listing list_conditions fitting entries_left listed lent_after Rattle.unification.specs.Answer.lent_after
+unfolding flatten flat_map ℕ_discrete counts_before some_below too_few_words end_before offset_is_wrong broken_pair words_are_wrong size_is_wrong
+    over_limit right_variable start_of right_application right_node node_is_wrong wrong_node argument_is_wrong run_is_wrong wrong_argument
+    term_is_wrong wrong_term labels_are_equal label_is_wrong wrong_label conditions first_held refusal equal sub tabulate read_node nodes_from
+    nodes_in each spell term_within term_of zip zip_with insert variables_of renamed join join_all same_symbol asks gather asked round rounds classes
+    differ clash_at clash_with clashes some_marked leads leads_at leads_from walks cyclic first_with least_node is_application is_variable is_node_of
+    node_of resolved solution is_application_in is_variable_in head_in is_bound_to has_value word_for word_of binding_words outcome unifier words_of
+    variable_count unify_conditions answer_after unification words_after pairs shares pairs_of entry_of among branch rights lefts choices kept
+    half_choices cross halves_choices admissible_listing complete_listing list_conditions fitting entries_left listed lent_after
+    Rattle.unification.specs.Answer.lent_after
 starred = refl
 
 -- {x} and {a}, and {x} and {b}: each half has an entry, the two together have none, as x would be a and b
@@ -189,5 +207,13 @@ labels_then_pair =
 
 -- what the definitions compute for problems of two halves
 pub two_halves : complete_listing x_two_ways ∷ complete_listing labels_then_pair ∷ [] ≡ [] ∷ ((1 ∷ 1 ∷ 0 ∷ 1 ∷ []) ∷ (2 ∷ 1 ∷ 0 ∷ 1 ∷ []) ∷ []) ∷ []
-unfolding flatten flat_map ℕ_discrete counts_before some_below too_few_words end_before offset_is_wrong broken_pair words_are_wrong size_is_wrong over_limit right_variable start_of right_application right_node node_is_wrong wrong_node argument_is_wrong run_is_wrong wrong_argument term_is_wrong wrong_term labels_are_equal label_is_wrong wrong_label conditions first_held refusal equal sub tabulate read_node nodes_from nodes_in each spell term_within term_of zip zip_with insert variables_of renamed join join_all same_symbol asks gather asked round rounds classes differ clash_at clash_with clashes some_marked leads leads_at leads_from walks cyclic first_with least_node is_application is_variable is_node_of node_of resolved solution is_application_in is_variable_in head_in is_bound_to has_value word_for word_of binding_words outcome unifier words_of variable_count unify_conditions answer_after unification words_after pairs shares pairs_of entry_of among branch rights lefts choices kept half_choices cross halves_choices admissible_listing complete_listing list_conditions fitting entries_left listed lent_after Rattle.unification.specs.Answer.lent_after
+unfolding flatten flat_map ℕ_discrete counts_before some_below too_few_words end_before offset_is_wrong broken_pair words_are_wrong size_is_wrong
+    over_limit right_variable start_of right_application right_node node_is_wrong wrong_node argument_is_wrong run_is_wrong wrong_argument
+    term_is_wrong wrong_term labels_are_equal label_is_wrong wrong_label conditions first_held refusal equal sub tabulate read_node nodes_from
+    nodes_in each spell term_within term_of zip zip_with insert variables_of renamed join join_all same_symbol asks gather asked round rounds classes
+    differ clash_at clash_with clashes some_marked leads leads_at leads_from walks cyclic first_with least_node is_application is_variable is_node_of
+    node_of resolved solution is_application_in is_variable_in head_in is_bound_to has_value word_for word_of binding_words outcome unifier words_of
+    variable_count unify_conditions answer_after unification words_after pairs shares pairs_of entry_of among branch rights lefts choices kept
+    half_choices cross halves_choices admissible_listing complete_listing list_conditions fitting entries_left listed lent_after
+    Rattle.unification.specs.Answer.lent_after
 two_halves = refl

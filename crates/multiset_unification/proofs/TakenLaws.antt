@@ -64,7 +64,8 @@ take_out k f u h = go (somewhere k (λ p. occurrences u (f p)) h)
             }
 
 -- and is then missing once
-pub taken_count : (k : ℕ) (f : ℕ → List Term) (u : Term) (o : TakenOut k f u) (t : Term) → total k (λ p. occurrences t (f p)) ≡ occurrences t (u ∷ []) + total k (λ p. occurrences t (o.rest p))
+pub taken_count : (k : ℕ) (f : ℕ → List Term) (u : Term) (o : TakenOut k f u) (t : Term) →
+    total k (λ p. occurrences t (f p)) ≡ occurrences t (u ∷ []) + total k (λ p. occurrences t (o.rest p))
 taken_count k f u o t =
     total_one k (λ p. occurrences t (f p)) (λ p. occurrences t (o.rest p)) (occurrences t (u ∷ [])) o.place o.below (o.here t)
     (λ q h n. ap (occurrences t) (o.elsewhere q n))
@@ -75,11 +76,13 @@ module _ (digit : ℕ → ℕ) (v : ℕ → Term) (k : ℕ) where
   Holds f ts ds rest = (p : ℕ) → p < k → Same (f p) (map v (with_digit (digit p) ts ds) ++ rest p)
 
   -- a digit of no place changes nothing
-  pub holds_on : (f rest : ℕ → List Term) (d a : ℕ) (ts ds : List ℕ) → ((p : ℕ) → p < k → d ≡ digit p → ⊥) → Holds f ts ds rest → Holds f (a ∷ ts) (d ∷ ds) rest
+  pub holds_on : (f rest : ℕ → List Term) (d a : ℕ) (ts ds : List ℕ) → ((p : ℕ) → p < k → d ≡ digit p → ⊥) → Holds f ts ds rest →
+      Holds f (a ∷ ts) (d ∷ ds) rest
   holds_on f rest d a ts ds n h p b = rw (without_digit (digit p) d a ts ds (n p b)) (h p b)
 
   -- the digit of the place where a term was taken out puts it back
-  pub holds_back : ((p q : ℕ) → digit p ≡ digit q → p ≡ q) → (f rest : ℕ → List Term) (a : ℕ) (o : TakenOut k f (v a)) (ts ds : List ℕ) → Holds o.rest ts ds rest → Holds f (a ∷ ts) (digit o.place ∷ ds) rest
+  pub holds_back : ((p q : ℕ) → digit p ≡ digit q → p ≡ q) → (f rest : ℕ → List Term) (a : ℕ) (o : TakenOut k f (v a)) (ts ds : List ℕ) →
+      Holds o.rest ts ds rest → Holds f (a ∷ ts) (digit o.place ∷ ds) rest
   holds_back one f rest a o ts ds h p b = go (ℕ_discrete p o.place)
     where
       go : Dec (p ≡ o.place) → Same (f p) (map v (with_digit (digit p) (a ∷ ts) (digit o.place ∷ ds)) ++ rest p)

@@ -43,7 +43,8 @@ unused_kept j d used (r ∷ rs) h =
     rw (e, s) refl
 
 -- one that pairs a term takes it out
-pub unused_taken : (v : ℕ → Term) (t : Term) (j i d : ℕ) (used rs : List ℕ) → i < length rs → suc (j + i) ≡ d → among d used ≡ false → occurrences t (map v (unused j used rs)) ≡ occurrences t (v (word rs i) ∷ []) + occurrences t (map v (unused j (d ∷ used) rs))
+pub unused_taken : (v : ℕ → Term) (t : Term) (j i d : ℕ) (used rs : List ℕ) → i < length rs → suc (j + i) ≡ d → among d used ≡ false →
+    occurrences t (map v (unused j used rs)) ≡ occurrences t (v (word rs i) ∷ []) + occurrences t (map v (unused j (d ∷ used) rs))
 unfolding unused
 unused_taken v t j i d used [] h e f = absurd (omega arith)
 unused_taken v t j zero d used (r ∷ rs) h e f =
@@ -56,7 +57,10 @@ unused_taken v t j (suc i) d used (r ∷ rs) h e f =
     let z = among_other (suc j) d used (λ q. absurd (omega (arith, q))) in
     rw z (pick (among (suc j) used) (unused_taken v t (suc j) i d used rs (omega arith) (omega arith) f))
   where
-    pick : (b : Bool) → occurrences t (map v (unused (suc j) used rs)) ≡ occurrences t (v (word rs i) ∷ []) + occurrences t (map v (unused (suc j) (d ∷ used) rs)) → occurrences t (map v (cond b (unused (suc j) used rs) (r ∷ unused (suc j) used rs))) ≡ occurrences t (v (word rs i) ∷ []) + occurrences t (map v (cond b (unused (suc j) (d ∷ used) rs) (r ∷ unused (suc j) (d ∷ used) rs)))
+    pick : (b : Bool) → occurrences t (map v (unused (suc j) used rs))
+        ≡ occurrences t (v (word rs i) ∷ []) + occurrences t (map v (unused (suc j) (d ∷ used) rs)) →
+        occurrences t (map v (cond b (unused (suc j) used rs) (r ∷ unused (suc j) used rs)))
+        ≡ occurrences t (v (word rs i) ∷ []) + occurrences t (map v (cond b (unused (suc j) (d ∷ used) rs) (r ∷ unused (suc j) (d ∷ used) rs)))
     pick true s = s
     pick false s =
         let a = occurrences_append t (v r ∷ []) (map v (unused (suc j) used rs)) in
@@ -64,7 +68,8 @@ unused_taken v t j (suc i) d used (r ∷ rs) h e f =
         omega (arith, a, b, s)
 
 -- each has a place, and its digit is not in used
-pub unused_place : (j : ℕ) (used rs : List ℕ) (a : ℕ) → Memᴰ a (unused j used rs) → (i : ℕ) × (i < length rs) × (among (suc (j + i)) used ≡ false) × (a ≡ word rs i)
+pub unused_place : (j : ℕ) (used rs : List ℕ) (a : ℕ) → Memᴰ a (unused j used rs) → (i : ℕ) × (i < length rs) × (among (suc (j + i)) used ≡ false) ×
+    (a ≡ word rs i)
 unfolding unused
 unused_place j used [] a m = absurd (Memᴰ.not-nil m)
 unused_place j used (r ∷ rs) a m = pick (among (suc j) used) refl m (unused_place (suc j) used rs a)
@@ -77,7 +82,8 @@ unused_place j used (r ∷ rs) a m = pick (among (suc j) used) refl m (unused_pl
         let x : suc (suc j + i) ≡ suc (j + suc i) = omega arith in
         (suc i, omega arith, rw x at f, q)
 
-    pick : (b : Bool) → among (suc j) used ≡ b → Memᴰ a (cond b (unused (suc j) used rs) (r ∷ unused (suc j) used rs)) → (Memᴰ a (unused (suc j) used rs) → (i : ℕ) × (i < length rs) × (among (suc (suc j + i)) used ≡ false) × (a ≡ word rs i)) → Placed
+    pick : (b : Bool) → among (suc j) used ≡ b → Memᴰ a (cond b (unused (suc j) used rs) (r ∷ unused (suc j) used rs)) →
+        (Memᴰ a (unused (suc j) used rs) → (i : ℕ) × (i < length rs) × (among (suc (suc j + i)) used ≡ false) × (a ≡ word rs i)) → Placed
     pick true f n s = next (s n)
     pick false f (Memᴰ.head q) s =
         let x : suc j ≡ suc (j + 0) = omega arith in

@@ -65,7 +65,8 @@ module _ (next : List ℕ) where
     enough zero k i j l h e = absurd (omega arith)
     enough (suc b) k i j l h e = go (λ p u v. enough b p i j u h v) (dec_lt k n)
       where
-        go : ((p : ℕ) → p < b → steps_on next p i ≡ j → (m : ℕ) × (m < n) × (steps_on next m i ≡ j)) → Dec (k < n) → (m : ℕ) × (m < n) × (steps_on next m i ≡ j)
+        go : ((p : ℕ) → p < b → steps_on next p i ≡ j → (m : ℕ) × (m < n) × (steps_on next m i ≡ j)) → Dec (k < n) → (m : ℕ) × (m < n) ×
+            (steps_on next m i ≡ j)
         go f (yes z) = (k, z, e)
         go f (no z) =
             let r = pigeons n (λ p. steps_on next p i) (λ p q. steps_below p i h) in
@@ -94,7 +95,8 @@ module _ (next : List ℕ) where
       rw (ne_eqb i g d) (omega (arith, q))
 
 -- a step nearer to a node that follows
-pub nearer : (n : ℕ) (next : List ℕ) (g i : ℕ) → Circling n next g → i < n → Follows next i g → (i ≡ g → ⊥) → distance next g (length next) (word next i) < distance next g (length next) i
+pub nearer : (n : ℕ) (next : List ℕ) (g i : ℕ) → Circling n next g → i < n → Follows next i g → (i ≡ g → ⊥) →
+    distance next g (length next) (word next i) < distance next g (length next) i
 nearer n next g i c l f d =
     let r = follows_steps next f in
     let m = enough next n c.below (suc r.0) r.0 i g (omega arith) l r.1 in
@@ -213,7 +215,8 @@ module _ (n : ℕ) (heads next : List ℕ) (g h : ℕ) (t : TwoHeads n heads nex
       let q = t.second in
       let k = length-set next g (word next h) in
       record {
-        first = get_or-set_other (set next g (word next h)) h g (word next g) 0 t.apart ∙ get_or-set_same next g (word next h) 0 (omega (arith, e, p));
+        first = get_or-set_other (set next g (word next h)) h g (word next g) 0 t.apart ∙
+            get_or-set_same next g (word next h) 0 (omega (arith, e, p));
         second = get_or-set_same (set next g (word next h)) h (word next g) 0 (omega (arith, e, q, k));
         other = λ i d z. get_or-set_other (set next g (word next h)) h i (word next g) 0 z ∙ get_or-set_other next g i (word next h) 0 d;
       }

@@ -30,5 +30,7 @@ and_true_right false b e = let z : false ≡ true = e in cc
 
 -- two tests for equality
 pub both_equal : (a b c d : ℕ) → (eqb a b && eqb c d) ≡ true ↔ ((a ≡ b) × (c ≡ d))
-both_equal a b c d =
-    ((λ e. (eqb-true a b (and_true_left (eqb a b) (eqb c d) e), eqb-true c d (and_true_right (eqb a b) (eqb c d) e))), (λ r. rw (eq-eqb a b r.0, eq-eqb c d r.1)))
+both_equal a b c d = (
+  (λ e. (eqb-true a b (and_true_left (eqb a b) (eqb c d) e), eqb-true c d (and_true_right (eqb a b) (eqb c d) e))),
+  (λ r. rw (eq-eqb a b r.0, eq-eqb c d r.1)),
+)

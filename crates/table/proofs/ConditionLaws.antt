@@ -68,7 +68,8 @@ module _ (ns args : List ℕ) where
   unfolding wrong_node node_is_wrong
   nodes_kept e i h =
       right_node_means _ _ _ _ _
-      (not-false _ (none_some (node_is_wrong ns) (node_count ns) (or_false_left _ (not (eqb (counts_before ns (node_count ns)) (length args))) e) i h))
+      (not-false _ (none_some (node_is_wrong ns) (node_count ns) (or_false_left _ (not (eqb (counts_before ns (node_count ns)) (length args))) e) i
+      h))
 
   pub counts_kept : wrong_node ns args ≡ false → counts_before ns (node_count ns) ≡ length args
   unfolding wrong_node
@@ -96,14 +97,16 @@ run_inside (variable q a b d) n h = omega arith
 run_inside (constant q a b d) n h = omega arith
 run_inside (application q a b d g) n h = omega arith
 
-pub runs_inside : (ns args : List ℕ) → ((i : ℕ) → i < node_count ns → NodeIsRight ns i) → counts_before ns (node_count ns) ≡ length args → RunsInside ns args
+pub runs_inside : (ns args : List ℕ) → ((i : ℕ) → i < node_count ns → NodeIsRight ns i) → counts_before ns (node_count ns) ≡ length args →
+    RunsInside ns args
 unfolding counts_before
 runs_inside ns args f e = record { run = go }
   where
     go : (i : ℕ) → i < node_count ns → first_of ns i + count_of ns i ≤ length args
     go i h =
         let s : suc i + (node_count ns - suc i) ≡ node_count ns = omega arith in
-        let r : counts_before ns i + count_of ns i ≤ counts_before ns (node_count ns) = subst (λ (k : ℕ). counts_before ns i + count_of ns i ≤ counts_before ns k) s (counts_rise ns (suc i) (node_count ns - suc i)) in
+        let r : counts_before ns i + count_of ns i ≤ counts_before ns (node_count ns) =
+        subst (λ (k : ℕ). counts_before ns i + count_of ns i ≤ counts_before ns k) s (counts_rise ns (suc i) (node_count ns - suc i)) in
         run_inside (f i h) (length args) (omega arith)
 
 -- so they are where refusal 4 is not given
@@ -120,7 +123,8 @@ module _ (ns args : List ℕ) where
   arguments_right : ((i j : ℕ) → i < node_count ns → j < count_of ns i → argument_of ns args i j < i) → wrong_argument ns args ≡ false
   unfolding wrong_argument run_is_wrong argument_is_wrong
   arguments_right f =
-      some_none (run_is_wrong ns args) (node_count ns) (λ i h. some_none (argument_is_wrong ns args i) (count_of ns i) (λ j g. lt-leb _ _ (f i j h g)))
+      some_none (run_is_wrong ns args) (node_count ns)
+      (λ i h. some_none (argument_is_wrong ns args i) (count_of ns i) (λ j g. lt-leb _ _ (f i j h g)))
 
   -- neither refusal 4 nor 5 is given exactly if nodes and arguments are right
   pub right_nodes_mean : ((wrong_node ns args ≡ false) × (wrong_argument ns args ≡ false)) ↔ NodesRight ns args

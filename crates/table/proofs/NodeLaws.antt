@@ -13,14 +13,20 @@ use Rattle.table.proofs.BoolLaws.{and_true_left, and_true_right}
 variable_means : (n f c : ℕ) → right_variable n f c ≡ true → (n ≤ max_variable) × (f ≡ 0) × (c ≡ 0)
 unfolding right_variable
 variable_means n f c h =
-    let l = and_true_left (leb n max_variable && eqb f 0) (eqb c 0) h in
-    (leb-true _ _ (and_true_left _ (eqb f 0) l), eqb-true _ _ (and_true_right (leb n max_variable) _ l), eqb-true _ _ (and_true_right (leb n max_variable && eqb f 0) _ h))
+    let l = and_true_left (leb n max_variable && eqb f 0) (eqb c 0) h in (
+      leb-true _ _ (and_true_left _ (eqb f 0) l),
+      eqb-true _ _ (and_true_right (leb n max_variable) _ l),
+      eqb-true _ _ (and_true_right (leb n max_variable && eqb f 0) _ h),
+    )
 
 application_means : (n f c e : ℕ) → right_application n f c e ≡ true → (n ≤ max_name) × (c ≤ max_count) × (f ≡ start_of c e)
 unfolding right_application
 application_means n f c e h =
-    let l = and_true_left (leb n max_name && leb c max_count) (eqb f (start_of c e)) h in
-    (leb-true _ _ (and_true_left _ (leb c max_count) l), leb-true _ _ (and_true_right (leb n max_name) _ l), eqb-true _ _ (and_true_right (leb n max_name && leb c max_count) _ h))
+    let l = and_true_left (leb n max_name && leb c max_count) (eqb f (start_of c e)) h in (
+      leb-true _ _ (and_true_left _ (leb c max_count) l),
+      leb-true _ _ (and_true_right (leb n max_name) _ l),
+      eqb-true _ _ (and_true_right (leb n max_name && leb c max_count) _ h),
+    )
 
 of_application : (k n f c e : ℕ) → k ≡ 1 → right_application n f c e ≡ true → RightNode k n f c e
 unfolding start_of

@@ -114,4 +114,6 @@ same_reordered (t ∷ us) vs h = go (split t vs (same_member (t ∷ us) vs h t (
     go (ws, xs, e) r = rw e (placed ws xs (r (ws ++ xs) (rest ws xs (rw e at h))))
       where
         rest : (ws xs : List Term) → Same (t ∷ us) (ws ++ t ∷ xs) → Same us (ws ++ xs)
-        rest ws xs k = same_cancel (t ∷ []) us (ws ++ xs) (same_trans (t ∷ us) (ws ++ t ∷ xs) (t ∷ (ws ++ xs)) k (same_sym (t ∷ (ws ++ xs)) (ws ++ t ∷ xs) (same_placed t (ws ++ xs) ws xs (same_refl (ws ++ xs)))))
+        rest ws xs k = same_cancel (t ∷ []) us (ws ++ xs)
+            (same_trans (t ∷ us) (ws ++ t ∷ xs) (t ∷ (ws ++ xs)) k
+            (same_sym (t ∷ (ws ++ xs)) (ws ++ t ∷ xs) (same_placed t (ws ++ xs) ws xs (same_refl (ws ++ xs)))))

@@ -33,7 +33,8 @@ words_none (a ∷ b ∷ c ∷ []) h = refl
 words_none (a ∷ b ∷ c ∷ d ∷ bs) h = absurd (omega arith)
 
 -- one word more
-pub reading_goes_on : (bs ws vs : List ℕ) (i v : ℕ) → 4 * i + 3 < length bs → i < length ws → v ≡ word_from bs (4 * i) → vs ≡ set ws i v → take i ws ++ words_of_bytes (drop (4 * i) bs) ≡ words_of_bytes bs → take (i + 1) vs ++ words_of_bytes (drop (4 * (i + 1)) bs) ≡ words_of_bytes bs
+pub reading_goes_on : (bs ws vs : List ℕ) (i v : ℕ) → 4 * i + 3 < length bs → i < length ws → v ≡ word_from bs (4 * i) → vs ≡ set ws i v →
+    take i ws ++ words_of_bytes (drop (4 * i) bs) ≡ words_of_bytes bs → take (i + 1) vs ++ words_of_bytes (drop (4 * (i + 1)) bs) ≡ words_of_bytes bs
 reading_goes_on bs ws vs i v h l e f p =
     rw (f, add-one i, take-suc-set ws i v l)
     (let x : 4 * suc i ≡ 4 * i + 4 = omega arith in
@@ -41,7 +42,8 @@ reading_goes_on bs ws vs i v h l e f p =
     ∙ rw (x, e) (ap (take i ws ++◌) (sym (words_from bs (4 * i) h)) ∙ p))
 
 -- fewer than four bytes are left
-pub reading_ends : (bs ws : List ℕ) (i n : ℕ) → n ≡ length bs / 4 → i ≤ n → n ≤ i → take i ws ++ words_of_bytes (drop (4 * i) bs) ≡ words_of_bytes bs → take n ws ≡ words_of_bytes bs
+pub reading_ends : (bs ws : List ℕ) (i n : ℕ) → n ≡ length bs / 4 → i ≤ n → n ≤ i →
+    take i ws ++ words_of_bytes (drop (4 * i) bs) ≡ words_of_bytes bs → take n ws ≡ words_of_bytes bs
 reading_ends bs ws i n e g h p =
     let x : n ≡ i = omega arith in
     rw x (sym (append-nil (take i ws)) ∙ ap (take i ws ++◌) (sym (words_none (drop (4 * i) bs) (omega (arith, length-drop (4 * i) bs)))) ∙ p)

@@ -46,11 +46,13 @@ module _ {o p : List ℕ} {i j : ℕ} where
   byte_fits bs n v h r = let f = piece_fits (get_or bs n 0 ∷ []) (drop (n + 1) bs) v (text_next bs n h) r in omega arith
 
   -- for the next word of a line
-  pub word_fits : (ws whole : List ℕ) (n : ℕ) → Writing o i whole p j (after_word (drop n ws)) → n < length ws → i + length whole ≤ length o → j + length (32 ∷ decimal (get_or ws n 0)) ≤ length p
+  pub word_fits : (ws whole : List ℕ) (n : ℕ) → Writing o i whole p j (after_word (drop n ws)) → n < length ws → i + length whole ≤ length o →
+      j + length (32 ∷ decimal (get_or ws n 0)) ≤ length p
   word_fits ws whole n v h r = piece_fits (32 ∷ decimal (get_or ws n 0)) (after_word (drop (n + 1) ws)) v (word_next ws n h) r
 
   -- and for its line feed
-  pub feed_fits : (ws whole : List ℕ) (n : ℕ) → Writing o i whole p j (after_word (drop n ws)) → length ws ≤ n → i + length whole ≤ length o → j < length p
+  pub feed_fits : (ws whole : List ℕ) (n : ℕ) → Writing o i whole p j (after_word (drop n ws)) → length ws ≤ n → i + length whole ≤ length o →
+      j < length p
   feed_fits ws whole n v h r = let f = piece_fits (10 ∷ []) [] v (word_none ws n h) r in omega arith
 
 -- a line in two pieces: its first word, and what stands after it
@@ -64,11 +66,13 @@ module _ (ws : List ℕ) where
   pub first_word_fits : (i l : ℕ) → 0 < length ws → i + length (line ws) ≤ l → i + length (decimal (get_or ws 0 0)) ≤ l
   first_word_fits i l h r = omega (arith, ap length (line_first ws h), length-append (decimal (get_or ws 0 0)) (after_word (drop 1 ws)))
 
-  pub other_words_fit : {o p : List ℕ} {i j : ℕ} → 0 < length ws → i + length (line ws) ≤ length o → Wrote o i (decimal (get_or ws 0 0)) p j → j + length (after_word (drop 1 ws)) ≤ length p
+  pub other_words_fit : {o p : List ℕ} {i j : ℕ} → 0 < length ws → i + length (line ws) ≤ length o → Wrote o i (decimal (get_or ws 0 0)) p j →
+      j + length (after_word (drop 1 ws)) ≤ length p
   other_words_fit h r w =
       omega (arith, w.ends, w.kept, ap length (line_first ws h), length-append (decimal (get_or ws 0 0)) (after_word (drop 1 ws)))
 
-  pub wrote_line : {o p q : List ℕ} {i j k : ℕ} → 0 < length ws → Wrote o i (decimal (get_or ws 0 0)) p j → Wrote p j (after_word (drop 1 ws)) q k → Wrote o i (line ws) q k
+  pub wrote_line : {o p q : List ℕ} {i j k : ℕ} → 0 < length ws → Wrote o i (decimal (get_or ws 0 0)) p j → Wrote p j (after_word (drop 1 ws)) q k →
+      Wrote o i (line ws) q k
   wrote_line h v w = rw (line_first ws h) (wrote_both v w)
 
 -- a title in three pieces
@@ -83,10 +87,12 @@ module _ (text : List ℕ) (n : ℕ) where
   pub number_fits : {o p : List ℕ} {i j : ℕ} → i + length (titled text n) ≤ length o → Wrote o i text p j → j + length (decimal n) ≤ length p
   number_fits r v = omega (arith, titled_long, v.ends, v.kept)
 
-  pub title_ends : {o p q : List ℕ} {i j k : ℕ} → i + length (titled text n) ≤ length o → Wrote o i text p j → Wrote p j (decimal n) q k → k < length q
+  pub title_ends : {o p q : List ℕ} {i j k : ℕ} → i + length (titled text n) ≤ length o → Wrote o i text p j → Wrote p j (decimal n) q k →
+      k < length q
   title_ends r v w = omega (arith, titled_long, v.ends, v.kept, w.ends, w.kept)
 
-  pub wrote_title : {o p q r : List ℕ} {i j k l : ℕ} → Wrote o i text p j → Wrote p j (decimal n) q k → Wrote q k (10 ∷ []) r l → Wrote o i (titled text n) r l
+  pub wrote_title : {o p q r : List ℕ} {i j k l : ℕ} → Wrote o i text p j → Wrote p j (decimal n) q k → Wrote q k (10 ∷ []) r l →
+      Wrote o i (titled text n) r l
   unfolding titled
   wrote_title u v w = wrote_both (wrote_both u v) w
 
@@ -118,7 +124,8 @@ module _ (width : ℕ) (words : List ℕ) where
 
   parts_longer : (i k : ℕ) → i < k → length (lines (parts width i words)) + length (line (part i)) ≤ length (lines (parts width k words))
   parts_longer i zero h = absurd (omega arith)
-  parts_longer i (suc k) h = ⊎_elim (λ q. omega (arith, parts_longer i k q, part_long k)) (λ (q : i ≡ k). rw q (omega (arith, part_long k))) (below i k h)
+  parts_longer i (suc k) h = ⊎_elim (λ q. omega (arith, parts_longer i k q, part_long k)) (λ (q : i ≡ k). rw q (omega (arith, part_long k)))
+      (below i k h)
     where
       below : (i k : ℕ) → i < suc k → (i < k) ⊎ (i ≡ k)
       below i k h = dite (dec_lt i k) (λ q. inl q) (λ q. inr (omega (arith, q)))
@@ -127,15 +134,18 @@ module _ (width : ℕ) (words : List ℕ) where
   this_part i from e = let x : from + width - from ≡ width = omega arith in rw (x, e) refl
 
   -- there is room for its line
-  pub line_fits : (count i from : ℕ) {o p : List ℕ} {place j : ℕ} → i < count → place + length (lines (parts width count words)) ≤ length o → from ≡ width * i → Wrote o place (lines (parts width i words)) p j → j + length (line (take (from + width - from) (drop from words))) ≤ length p
+  pub line_fits : (count i from : ℕ) {o p : List ℕ} {place j : ℕ} → i < count → place + length (lines (parts width count words)) ≤ length o →
+      from ≡ width * i → Wrote o place (lines (parts width i words)) p j → j + length (line (take (from + width - from) (drop from words))) ≤ length p
   line_fits count i from h r e w = rw (this_part i from e) (omega (arith, parts_longer i count h, w.ends, w.kept))
 
   pub no_lines : (o : List ℕ) (place : ℕ) → Wrote o place (lines (parts width 0 words)) o place
   unfolding lines flat_map parts tabulate
   no_lines o place = wrote_nothing o place
 
-  pub wrote_part : (i from : ℕ) {o p q : List ℕ} {place j k : ℕ} → from ≡ width * i → Wrote o place (lines (parts width i words)) p j → Wrote p j (line (take (from + width - from) (drop from words))) q k → Wrote o place (lines (parts width (i + 1) words)) q k
+  pub wrote_part : (i from : ℕ) {o p q : List ℕ} {place j k : ℕ} → from ≡ width * i → Wrote o place (lines (parts width i words)) p j →
+      Wrote p j (line (take (from + width - from) (drop from words))) q k → Wrote o place (lines (parts width (i + 1) words)) q k
   wrote_part i from e v w = rw (add-one i, parts_last i) (wrote_both v (rw (this_part i from e) at w))
 
-  pub wrote_parts : (i count : ℕ) {o p : List ℕ} {place j : ℕ} → i ≤ count → count ≤ i → Wrote o place (lines (parts width i words)) p j → Wrote o place (lines (parts width count words)) p j
+  pub wrote_parts : (i count : ℕ) {o p : List ℕ} {place j : ℕ} → i ≤ count → count ≤ i → Wrote o place (lines (parts width i words)) p j →
+      Wrote o place (lines (parts width count words)) p j
   wrote_parts i count g h w = let e : count ≡ i = omega arith in rw e w

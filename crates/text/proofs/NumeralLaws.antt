@@ -63,14 +63,20 @@ spelt_one : (n : ℕ) → n < 10 → Spelt n (decimal n)
 spelt_one n q =
     rw (decimal_one n q)
     record {
-      numeral = record { there = omega arith; digits = more {d = 48 + n % 10} (omega arith) (omega arith) none; no_zero = λ h. absurd (omega (arith, h)) };
+      numeral = record {
+        there = omega arith;
+        digits = more {d = 48 + n % 10} (omega arith) (omega arith) none;
+        no_zero =
+            λ h. absurd (omega (arith, h));
+      };
       first = λ h. omega arith;
     }
 
 spelt_more : (n : ℕ) → 10 ≤ n → Spelt (n / 10) (decimal (n / 10)) → Spelt n (decimal n)
 spelt_more n q s =
     let m = s.numeral in
-    let f : 48 < get_or (decimal (n / 10) ++ last_digit n) 0 0 = rw (get_or-append (decimal (n / 10)) (last_digit n) 0 0 m.there) (s.first (omega arith)) in
+    let f : 48 < get_or (decimal (n / 10) ++ last_digit n) 0 0 =
+    rw (get_or-append (decimal (n / 10)) (last_digit n) 0 0 m.there) (s.first (omega arith)) in
     rw (decimal_more n q)
     record {
       numeral =
@@ -134,11 +140,13 @@ module _ (es : List ℕ) (d : ℕ) (low : 48 ≤ d) (high : d ≤ 57) where
       let l : 48 + r % 10 ≡ d = omega arith in
       decimal_more r (omega arith) ∙ rw (t, e, l) refl
 
-only_step : (k : ℕ) → ((es : List ℕ) → length es < k → IsNumeral es → decimal (read_number es) ≡ es) → {ds : List ℕ} → Ended ds → length ds < suc k → IsNumeral ds → decimal (read_number ds) ≡ ds
+only_step : (k : ℕ) → ((es : List ℕ) → length es < k → IsNumeral es → decimal (read_number es) ≡ es) → {ds : List ℕ} → Ended ds → length ds < suc k →
+    IsNumeral ds → decimal (read_number ds) ≡ ds
 only_step k only (ended [] d s a b) h m = one_only d a b
 only_step k only (ended (e ∷ es) d s a b) h m =
     let p : 0 < length (e ∷ es) = omega arith in
-    more_only (e ∷ es) d a b (only (e ∷ es) (omega (arith, h, length-append (e ∷ es) (d ∷ []))) (before_last (e ∷ es) d a b p s m)) (begins (e ∷ es) d a b p m)
+    more_only (e ∷ es) d a b (only (e ∷ es) (omega (arith, h, length-append (e ∷ es) (d ∷ []))) (before_last (e ∷ es) d a b p s m))
+    (begins (e ∷ es) d a b p m)
 
 -- a numeral is the number that it is read as, in decimal
 pub decimal_only : (ds : List ℕ) → IsNumeral ds → decimal (read_number ds) ≡ ds

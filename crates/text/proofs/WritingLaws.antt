@@ -38,12 +38,14 @@ module _ {o : List ℕ} {i : ℕ} {whole : List ℕ} where
   pub writing_begins : Writing o i whole o i whole
   writing_begins = record { text = []; wrote = wrote_nothing o i; left = refl }
 
-  pub piece_fits : {p left : List ℕ} {j : ℕ} (s rest : List ℕ) → Writing o i whole p j left → left ≡ s ++ rest → i + length whole ≤ length o → j + length s ≤ length p
+  pub piece_fits : {p left : List ℕ} {j : ℕ} (s rest : List ℕ) → Writing o i whole p j left → left ≡ s ++ rest → i + length whole ≤ length o →
+      j + length s ≤ length p
   piece_fits {left = left} s rest v e h =
       let w = v.wrote in
       omega (arith, w.ends, w.kept, ap length v.left, ap length e, length-append v.text left, length-append s rest)
 
-  pub writing_goes_on : {p q left s rest : List ℕ} {j k : ℕ} → Writing o i whole p j left → left ≡ s ++ rest → Wrote p j s q k → Writing o i whole q k rest
+  pub writing_goes_on : {p q left s rest : List ℕ} {j k : ℕ} → Writing o i whole p j left → left ≡ s ++ rest → Wrote p j s q k →
+      Writing o i whole q k rest
   writing_goes_on {s = s} {rest = rest} v e w =
       record {
         text = v.text ++ s;
@@ -74,5 +76,6 @@ module _ (n : ℕ) where
   pub last_digit_fits : {o p : List ℕ} {i j : ℕ} → 10 ≤ n → i + length (decimal n) ≤ length o → Wrote o i (decimal (n / 10)) p j → j < length p
   last_digit_fits h r w = omega (arith, more_long h, w.ends, w.kept)
 
-  pub wrote_last_digit : {o p q : List ℕ} {i j k : ℕ} → 10 ≤ n → Wrote o i (decimal (n / 10)) p j → Wrote p j (last_digit n) q k → Wrote o i (decimal n) q k
+  pub wrote_last_digit : {o p q : List ℕ} {i j k : ℕ} → 10 ≤ n → Wrote o i (decimal (n / 10)) p j → Wrote p j (last_digit n) q k →
+      Wrote o i (decimal n) q k
   wrote_last_digit h v w = rw (decimal_more n h) (wrote_both v w)

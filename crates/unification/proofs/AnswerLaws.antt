@@ -1,4 +1,5 @@
--- What a call answers and leaves in the lent words, for any table: whether it is refused is settled by the conditions, and the rest by what unifying the two nodes comes to.
+-- What a call answers and leaves in the lent words, for any table: whether it is refused is settled by the conditions, and the rest by what
+-- unifying the two nodes comes to.
 -- By cases on the answer. Assumes nothing.
 use Prim.Native.Nat.{ℕ, zero, suc, ◌+◌, ◌<◌, ◌≤◌}
 use mathlib.Core.List.Memᴰ
@@ -82,10 +83,16 @@ condition_none : (t : List ℕ) (a b lent : ℕ) → Unrefused t a b lent → fi
 unfolding unify_conditions
 condition_none t a b lent u =
     (first_means 0 (unify_conditions t a b lent)).1
-    ((accepted_first t _).1 (u.table, later (or_both_false (leb (length (nodes_in t)) a) (leb (length (nodes_in t)) b) (lt-leb (length (nodes_in t)) a u.left) (lt-leb (length (nodes_in t)) b u.right)) (later (le-ltb lent (variable_count t) u.enough) (none refl))))
+    ((accepted_first t _).1 (
+      u.table,
+      later (or_both_false (leb (length (nodes_in t)) a) (leb (length (nodes_in t)) b)
+          (lt-leb (length (nodes_in t)) a u.left) (lt-leb (length (nodes_in t)) b u.right))
+          (later (le-ltb lent (variable_count t) u.enough) (none refl)),
+    ))
 
 -- a call that is not refused, and no other, is answered by what unifying the two nodes comes to
-pub answered_exactly : (t : List ℕ) (a b lent : ℕ) (o : Outcome) → unification t a b lent ≡ ended o ↔ (Unrefused t a b lent × (outcome (nodes_in t) ((a, b) ∷ []) ≡ o))
+pub answered_exactly : (t : List ℕ) (a b lent : ℕ) (o : Outcome) → unification t a b lent ≡ ended o ↔
+    (Unrefused t a b lent × (outcome (nodes_in t) ((a, b) ∷ []) ≡ o))
 unfolding unification
 answered_exactly t a b lent o =
     let c = after_ended (first_held (unify_conditions t a b lent)) (outcome (nodes_in t) ((a, b) ∷ [])) o in
@@ -131,16 +138,19 @@ lent_long t a b lent = pick (unification t a b (length lent)) refl
     pick (refused n) e = refl
 
 -- where the answer is unified, the binding words stand before the words past them
-after_unified : (t : List ℕ) (a b : ℕ) (lent : List ℕ) → unification t a b (length lent) ≡ ended unified → lent_after t a b lent ≡ words_of (nodes_in t) ((a, b) ∷ []) ++ drop (variable_count t) lent
+after_unified : (t : List ℕ) (a b : ℕ) (lent : List ℕ) → unification t a b (length lent) ≡ ended unified →
+    lent_after t a b lent ≡ words_of (nodes_in t) ((a, b) ∷ []) ++ drop (variable_count t) lent
 unfolding lent_after words_after
 after_unified t a b lent e = rw (e, words_long t ((a, b) ∷ []))
 
 -- where the answer is unified, the first words are the binding words
-pub unified_words : (t : List ℕ) (a b : ℕ) (lent : List ℕ) → unification t a b (length lent) ≡ ended unified → take (variable_count t) (lent_after t a b lent) ≡ words_of (nodes_in t) ((a, b) ∷ [])
+pub unified_words : (t : List ℕ) (a b : ℕ) (lent : List ℕ) → unification t a b (length lent) ≡ ended unified →
+    take (variable_count t) (lent_after t a b lent) ≡ words_of (nodes_in t) ((a, b) ∷ [])
 unified_words t a b lent e = rw (after_unified t a b lent e) (take_at _ _ _ (words_long t ((a, b) ∷ [])))
 
 -- and the others are as they were
-pub unified_rest : (t : List ℕ) (a b : ℕ) (lent : List ℕ) → unification t a b (length lent) ≡ ended unified → drop (variable_count t) (lent_after t a b lent) ≡ drop (variable_count t) lent
+pub unified_rest : (t : List ℕ) (a b : ℕ) (lent : List ℕ) → unification t a b (length lent) ≡ ended unified →
+    drop (variable_count t) (lent_after t a b lent) ≡ drop (variable_count t) lent
 unified_rest t a b lent e = rw (after_unified t a b lent e) (drop_at (words_of (nodes_in t) ((a, b) ∷ [])) _ _ (words_long t ((a, b) ∷ [])))
 
 -- every other answer changes no lent word
@@ -164,13 +174,15 @@ module _ (t : List ℕ) (a b : ℕ) (lent : List ℕ) where
       ap (λ (p : ℕ × ℕ). value (nodes_in t) σ p.0) q ∙ e ∙ sym (ap (λ (p : ℕ × ℕ). value (nodes_in t) σ p.1) q)
 
   -- from what the outcome means to what the answer does
-  exactly : (o : Outcome) (P : Type 0) → (Unrefused t a b (length lent) → outcome (nodes_in t) ((a, b) ∷ []) ≡ o ↔ P) → unification t a b (length lent) ≡ ended o ↔ (Unrefused t a b (length lent) × P)
+  exactly : (o : Outcome) (P : Type 0) → (Unrefused t a b (length lent) → outcome (nodes_in t) ((a, b) ∷ []) ≡ o ↔ P) →
+      unification t a b (length lent) ≡ ended o ↔ (Unrefused t a b (length lent) × P)
   exactly o P means =
       let x = answered_exactly t a b (length lent) o in
       ((λ e. let r = x.0 e in (r.0, (means r.0).0 r.1)), (λ r. x.1 (r.0, (means r.0).1 r.1)))
 
   -- unified is answered exactly if the call is not refused and some substitution makes the two terms equal
-  pub unified_exactly : unification t a b (length lent) ≡ ended unified ↔ (Unrefused t a b (length lent) × ((σ : Substitution) × (value (nodes_in t) σ a ≡ value (nodes_in t) σ b)))
+  pub unified_exactly : unification t a b (length lent) ≡ ended unified ↔
+      (Unrefused t a b (length lent) × ((σ : Substitution) × (value (nodes_in t) σ a ≡ value (nodes_in t) σ b)))
   unified_exactly =
       exactly unified ((σ : Substitution) × (value (nodes_in t) σ a ≡ value (nodes_in t) σ b))
       (λ u.
@@ -211,7 +223,8 @@ module _ (t : List ℕ) (a b : ℕ) (lent : List ℕ) where
         rw (unified_words t a b lent e) (words_readable (nodes_in t) (well_formed t r.0.table) ((a, b) ∷ []) (one_pair r.0) r.1)
 
     -- in one way on the variables present
-    pub unified_one_reading : (σ τ : Substitution) → Reads (nodes_in t) (take (variable_count t) (lent_after t a b lent)) σ → Reads (nodes_in t) (take (variable_count t) (lent_after t a b lent)) τ → (x : ℕ) → Present (nodes_in t) x → σ x ≡ τ x
+    pub unified_one_reading : (σ τ : Substitution) → Reads (nodes_in t) (take (variable_count t) (lent_after t a b lent)) σ →
+        Reads (nodes_in t) (take (variable_count t) (lent_after t a b lent)) τ → (x : ℕ) → Present (nodes_in t) x → σ x ≡ τ x
     unified_one_reading = reads_one (nodes_in t) (well_formed t r.0.table) (take (variable_count t) (lent_after t a b lent))
 
     -- as a most general unifier of the two nodes

@@ -38,12 +38,14 @@ wrong_name =
 -- 0 x, 1 y, 2 f(y), 3 f(x), 4 z, 5 p(x, z), 6 p(y, f(x))
 abbrev equal_values : List ℕ
 equal_values =
-    12 ∷ 28 ∷ 40 ∷ 6 ∷ 46 ∷ 0 ∷ 46 ∷ 0 ∷ 46 ∷ 0 ∷ 46 ∷ 0 ∷ 0 ∷ 0 ∷ 0 ∷ 0 ∷ 0 ∷ 1 ∷ 0 ∷ 0 ∷ 1 ∷ 3 ∷ 0 ∷ 1 ∷ 1 ∷ 3 ∷ 1 ∷ 1 ∷ 0 ∷ 2 ∷ 0 ∷ 0 ∷ 1 ∷ 5 ∷ 2 ∷ 2 ∷ 1 ∷ 5 ∷ 4 ∷ 2 ∷ 1 ∷ 0 ∷ 0 ∷ 4 ∷ 1 ∷ 3 ∷ []
+    12 ∷ 28 ∷ 40 ∷ 6 ∷ 46 ∷ 0 ∷ 46 ∷ 0 ∷ 46 ∷ 0 ∷ 46 ∷ 0 ∷ 0 ∷ 0 ∷ 0 ∷ 0 ∷ 0 ∷ 1 ∷ 0 ∷ 0 ∷ 1 ∷ 3 ∷ 0 ∷ 1 ∷ 1 ∷ 3 ∷ 1 ∷ 1 ∷ 0 ∷ 2 ∷ 0 ∷ 0 ∷ 1 ∷ 5 ∷ 2
+    ∷ 2 ∷ 1 ∷ 5 ∷ 4 ∷ 2 ∷ 1 ∷ 0 ∷ 0 ∷ 4 ∷ 1 ∷ 3 ∷ []
 
 -- 0 x, 1 a, 2 a, 3 x, 4 a, 5 f(a, x), 6 f(a, a)
 abbrev pub repeats : List ℕ
 repeats =
-    12 ∷ 28 ∷ 40 ∷ 4 ∷ 44 ∷ 0 ∷ 44 ∷ 0 ∷ 44 ∷ 0 ∷ 44 ∷ 0 ∷ 0 ∷ 0 ∷ 0 ∷ 0 ∷ 1 ∷ 1 ∷ 0 ∷ 0 ∷ 1 ∷ 1 ∷ 0 ∷ 0 ∷ 0 ∷ 0 ∷ 0 ∷ 0 ∷ 1 ∷ 1 ∷ 0 ∷ 0 ∷ 1 ∷ 3 ∷ 0 ∷ 2 ∷ 1 ∷ 3 ∷ 2 ∷ 2 ∷ 1 ∷ 3 ∷ 2 ∷ 4 ∷ []
+    12 ∷ 28 ∷ 40 ∷ 4 ∷ 44 ∷ 0 ∷ 44 ∷ 0 ∷ 44 ∷ 0 ∷ 44 ∷ 0 ∷ 0 ∷ 0 ∷ 0 ∷ 0 ∷ 1 ∷ 1 ∷ 0 ∷ 0 ∷ 1 ∷ 1 ∷ 0 ∷ 0 ∷ 0 ∷ 0 ∷ 0 ∷ 0 ∷ 1 ∷ 1 ∷ 0 ∷ 0 ∷ 1 ∷ 3 ∷ 0
+    ∷ 2 ∷ 1 ∷ 3 ∷ 2 ∷ 2 ∷ 1 ∷ 3 ∷ 2 ∷ 4 ∷ []
 
 -- 0 a, 1 variable 63, 2 variable 4
 abbrev pub apart : List ℕ
@@ -88,10 +90,17 @@ computed e = (unification e.0 e.1 e.2 (length e.3), lent_after e.0 e.1 e.2 e.3)
 
 -- what the definitions compute is what stands beside each call
 pub further : map computed calls ≡ map (λ e. (e.4, e.5)) calls
-unfolding ℕ_discrete counts_before some_below too_few_words end_before offset_is_wrong broken_pair words_are_wrong size_is_wrong over_limit right_variable start_of right_application right_node node_is_wrong wrong_node argument_is_wrong run_is_wrong wrong_argument term_is_wrong wrong_term labels_are_equal label_is_wrong wrong_label conditions first_held equal sub tabulate read_node nodes_from nodes_in each spell term_within term_of zip zip_with insert variables_of renamed join join_all same_symbol asks gather asked round rounds classes differ clash_at clash_with clashes some_marked leads leads_at leads_from walks cyclic first_with least_node is_application is_variable is_node_of node_of resolved solution is_application_in is_variable_in head_in is_bound_to has_value word_for word_of binding_words outcome unifier words_of variable_count unify_conditions answer_after unification words_after lent_after
+unfolding ℕ_discrete counts_before some_below too_few_words end_before offset_is_wrong broken_pair words_are_wrong size_is_wrong over_limit
+    right_variable start_of right_application right_node node_is_wrong wrong_node argument_is_wrong run_is_wrong wrong_argument term_is_wrong
+    wrong_term labels_are_equal label_is_wrong wrong_label conditions first_held equal sub tabulate read_node nodes_from nodes_in each spell
+    term_within term_of zip zip_with insert variables_of renamed join join_all same_symbol asks gather asked round rounds classes differ clash_at
+    clash_with clashes some_marked leads leads_at leads_from walks cyclic first_with least_node is_application is_variable is_node_of node_of
+    resolved solution is_application_in is_variable_in head_in is_bound_to has_value word_for word_of binding_words outcome unifier words_of
+    variable_count unify_conditions answer_after unification words_after lent_after
 further = refl
 
 -- x with a and x with b, together: {x, x} and {a, b} has no entry
 pub pairs_together : outcome (variable 0 ∷ application 1 [] ∷ application 2 [] ∷ []) ((0, 1) ∷ (0, 2) ∷ []) ≡ clash
-unfolding some_below tabulate zip zip_with renamed join join_all same_symbol asks gather asked round rounds classes differ clash_at clash_with clashes some_marked leads leads_at leads_from walks cyclic outcome
+unfolding some_below tabulate zip zip_with renamed join join_all same_symbol asks gather asked round rounds classes differ clash_at clash_with
+    clashes some_marked leads leads_at leads_from walks cyclic outcome
 pairs_together = refl

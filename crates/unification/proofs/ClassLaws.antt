@@ -1,4 +1,5 @@
--- The list `classes` computes the closure: only joined nodes are put in one class, and the last round asks for nothing more, as every round before it lowers the number of classes or is stable.
+-- The list `classes` computes the closure: only joined nodes are put in one class, and the last round asks for nothing more, as every round
+-- before it lowers the number of classes or is stable.
 -- Assumes nothing.
 use Prim.Native.Nat.{ℕ, zero, suc, ◌<◌, ◌≤◌}
 use mathlib.Core.Bool.{Bool, true, false, not, ◌&&◌, false≢true}
@@ -26,7 +27,8 @@ pub symbol_means : (f : ℕ) (us : List ℕ) (g : ℕ) (vs : List ℕ) → same_
 unfolding same_symbol
 symbol_means f us g vs = both_equal f g (length us) (length vs)
 
-join_all_keeps : (P : List ℕ → Type 0) (qs : List (ℕ × ℕ)) → ((cs : List ℕ) (a b : ℕ) → Memᴰ (a, b) qs → P cs → P (join cs (a, b))) → (cs : List ℕ) → P cs → P (join_all cs qs)
+join_all_keeps : (P : List ℕ → Type 0) (qs : List (ℕ × ℕ)) → ((cs : List ℕ) (a b : ℕ) → Memᴰ (a, b) qs → P cs → P (join cs (a, b))) → (cs : List ℕ) →
+    P cs → P (join_all cs qs)
 unfolding join_all
 join_all_keeps P [] f cs x = x
 join_all_keeps P (q ∷ qs) f cs x =
@@ -54,7 +56,8 @@ join_all_joins : (n a b : ℕ) → a < n → b < n → (qs : List (ℕ × ℕ)) 
 unfolding join_all
 join_all_joins n a b ha hb [] cs l m = absurd (Memᴰ.not-nil m)
 join_all_joins n a b ha hb (q ∷ qs) cs l (Memᴰ.head z) =
-    let e : class_of (join cs (a, b)) a ≡ class_of (join cs (a, b)) b = join_first cs a b a (rw l ha) refl ∙ sym (join_second cs a b b (rw l hb) refl) in
+    let e : class_of (join cs (a, b)) a ≡ class_of (join cs (a, b)) b = join_first cs a b a (rw l ha) refl ∙
+    sym (join_second cs a b b (rw l hb) refl) in
     join_all_stays n a b ha hb qs (join cs q) (join_length cs q ∙ l, rw z at e)
 join_all_joins n a b ha hb (q ∷ qs) cs l (Memᴰ.tail m) =
     join_all_joins n a b ha hb qs (join cs q) (join_length cs q ∙ l) m
@@ -67,7 +70,8 @@ round_stays : (ns : List Node) (n i j : ℕ) → i < n → j < n → (cs : List 
 unfolding round
 round_stays ns n i j hi hj cs = join_all_stays n i j hi hj (wanted ns cs) cs
 
-wanted_here : (ns : List Node) (cs : List ℕ) (i j : ℕ) → i < length ns → j < length ns → (a b : ℕ) → Memᴰ (a, b) (asked ns cs i j) → Memᴰ (a, b) (wanted ns cs)
+wanted_here : (ns : List Node) (cs : List ℕ) (i j : ℕ) → i < length ns → j < length ns → (a b : ℕ) → Memᴰ (a, b) (asked ns cs i j) →
+    Memᴰ (a, b) (wanted ns cs)
 wanted_here ns cs i j hi hj a b m =
     gathered (length ns) (λ k. gather (length ns) (asked ns cs k)) (a, b) i hi
     (gathered (length ns) (asked ns cs i) (a, b) j hj m)
@@ -76,7 +80,8 @@ asked_variable : (ns : List Node) (cs : List ℕ) (i j x : ℕ) → node_at ns i
 unfolding asked asks
 asked_variable ns cs i j x d e = rw (d, e, eq-eqb x x refl) (Memᴰ.head refl)
 
-asked_arguments : (ns : List Node) (cs : List ℕ) (i j f g : ℕ) (us vs : List ℕ) → node_at ns i ≡ application f us → node_at ns j ≡ application g vs → OneSymbol f us g vs → class_of cs i ≡ class_of cs j → (a b : ℕ) → Memᴰ (a, b) (zip us vs) → Memᴰ (a, b) (asked ns cs i j)
+asked_arguments : (ns : List Node) (cs : List ℕ) (i j f g : ℕ) (us vs : List ℕ) → node_at ns i ≡ application f us → node_at ns j ≡ application g vs →
+    OneSymbol f us g vs → class_of cs i ≡ class_of cs j → (a b : ℕ) → Memᴰ (a, b) (zip us vs) → Memᴰ (a, b) (asked ns cs i j)
 unfolding asked asks
 asked_arguments ns cs i j f g us vs d e l c a b m =
     rw (d, e, eq-eqb (class_of cs i) (class_of cs j) c, (symbol_means f us g vs).1 l) m
@@ -91,7 +96,11 @@ module _ (ns : List Node) (w : WellFormed ns) (ps : List (ℕ × ℕ)) (h : Insi
   sound_joined cs s i j hi hj e = on (rw e at (s.named i hi)) (back (s.named j hj))
 
   join_sound : (cs : List ℕ) (a b : ℕ) → Joined ns ps a b → Sound cs → Sound (join cs (a, b))
-  join_sound cs a b q s = record { partition = join_keeps (length ns) cs a b r.0 r.1 s.partition; named = classes_stay ns ps cs a b s.partition.size r.0 r.1 q s.named }
+  join_sound cs a b q s = record {
+    partition = join_keeps (length ns) cs a b r.0 r.1 s.partition;
+    named =
+        classes_stay ns ps cs a b s.partition.size r.0 r.1 q s.named;
+  }
     where
       r : (a < length ns) × (b < length ns)
       r = joined_inside ns w ps h q
@@ -99,7 +108,8 @@ module _ (ns : List Node) (w : WellFormed ns) (ps : List (ℕ × ℕ)) (h : Insi
   join_all_sound : (qs : List (ℕ × ℕ)) → ((a b : ℕ) → Memᴰ (a, b) qs → Joined ns ps a b) → (cs : List ℕ) → Sound cs → Sound (join_all cs qs)
   join_all_sound qs f = join_all_keeps Sound qs (λ cs a b m. join_sound cs a b (f a b m))
 
-  asks_joined : (t : Bool) (i j : ℕ) (m n : Node) → node_at ns i ≡ m → node_at ns j ≡ n → i < length ns → j < length ns → (t ≡ true → Joined ns ps i j) → (a b : ℕ) → Memᴰ (a, b) (asks t i j m n) → Joined ns ps a b
+  asks_joined : (t : Bool) (i j : ℕ) (m n : Node) → node_at ns i ≡ m → node_at ns j ≡ n → i < length ns → j < length ns →
+      (t ≡ true → Joined ns ps i j) → (a b : ℕ) → Memᴰ (a, b) (asks t i j m n) → Joined ns ps a b
   unfolding asks
   asks_joined t i j (variable x) (variable y) d e hi hj f a b q = pick (eqb x y) refl
     where
@@ -128,7 +138,8 @@ module _ (ns : List Node) (w : WellFormed ns) (ps : List (ℕ × ℕ)) (h : Insi
       let i = r.0 in
       let q = gathered_from (length ns) (asked ns cs i) (a, b) r.2 in
       let j = q.0 in
-      asks_joined (eqb (class_of cs i) (class_of cs j)) i j (node_at ns i) (node_at ns j) refl refl r.1 q.1 (λ e. sound_joined cs s i j r.1 q.1 (eqb-true _ _ e)) a b q.2
+      asks_joined (eqb (class_of cs i) (class_of cs j)) i j (node_at ns i) (node_at ns j) refl refl r.1 q.1
+      (λ e. sound_joined cs s i j r.1 q.1 (eqb-true _ _ e)) a b q.2
 
   round_sound : (cs : List ℕ) → Sound cs → Sound (round ns cs)
   unfolding round
@@ -143,9 +154,11 @@ module _ (ns : List Node) (w : WellFormed ns) (ps : List (ℕ × ℕ)) (h : Insi
       let q = roots_some (length ns) cs s.partition r.0 r.1 in
       absurd (omega (arith, q))
   settles (suc k) cs s l =
-      go (λ q. settles k (round ns cs) (round_sound cs s) q) (join_all_lowers (length ns) (wanted ns cs) cs s.partition (λ a b m. joined_inside ns w ps h (wanted_joined cs s a b m)))
+      go (λ q. settles k (round ns cs) (round_sound cs s) q)
+      (join_all_lowers (length ns) (wanted ns cs) cs s.partition (λ a b m. joined_inside ns w ps h (wanted_joined cs s a b m)))
     where
-      go : (roots (length ns) (round ns cs) ≤ k → Unites (rounds k ns (round ns cs)) (wanted ns (rounds k ns (round ns cs)))) → Lowers (length ns) (wanted ns cs) cs → Unites (rounds (suc k) ns cs) (wanted ns (rounds (suc k) ns cs))
+      go : (roots (length ns) (round ns cs) ≤ k → Unites (rounds k ns (round ns cs)) (wanted ns (rounds k ns (round ns cs)))) →
+          Lowers (length ns) (wanted ns cs) cs → Unites (rounds (suc k) ns cs) (wanted ns (rounds (suc k) ns cs))
       go f (inl q) = f (omega arith)
       go f (inr r) = rw (rounds_stay ns (suc k) cs r.0) r.1
 
@@ -196,7 +209,8 @@ module _ (ns : List Node) (w : WellFormed ns) (ps : List (ℕ × ℕ)) (h : Insi
       classes_settled i j (wanted_here ns (classes ns ps) i j p q i j (asked_variable ns (classes ns ps) i j x d e))
   joined_class (arguments {i} {j} {f} {g} {a} {b} {us} {vs} d e l q m) =
       let r = joined_inside ns w ps h q in
-      classes_settled a b (wanted_here ns (classes ns ps) i j r.0 r.1 a b (asked_arguments ns (classes ns ps) i j f g us vs d e l (joined_class q) a b m))
+      classes_settled a b (wanted_here ns (classes ns ps) i j r.0 r.1 a b
+      (asked_arguments ns (classes ns ps) i j f g us vs d e l (joined_class q) a b m))
   joined_class (same p) = refl
   joined_class (back q) = sym (joined_class q)
   joined_class (on p q) = joined_class p ∙ joined_class q

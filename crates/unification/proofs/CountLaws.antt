@@ -1,4 +1,5 @@
--- `join` keeps a list of classes a partition, and lowers the number of classes or changes nothing. By counting the roots, the nodes that name their class.
+-- `join` keeps a list of classes a partition, and lowers the number of classes or changes nothing. By counting the roots, the nodes that
+-- name their class.
 -- Assumes nothing.
 use Prim.Native.Nat.{ℕ, zero, suc, ◌+◌, ◌<◌, ◌≤◌}
 use mathlib.Core.Bool.{Bool, true, false, cond, false≢true}
@@ -55,7 +56,8 @@ join_first cs a b i h e =
     join_at cs a b i h ∙ ap (renamed (class_of cs b) (class_of cs a)) e ∙ renamed_new (class_of cs b) (class_of cs a)
 
 -- nodes of one class stay in one
-pub join_stays : (cs : List ℕ) (a b i j : ℕ) → i < length cs → j < length cs → class_of cs i ≡ class_of cs j → class_of (join cs (a, b)) i ≡ class_of (join cs (a, b)) j
+pub join_stays : (cs : List ℕ) (a b i j : ℕ) → i < length cs → j < length cs → class_of cs i ≡ class_of cs j →
+    class_of (join cs (a, b)) i ≡ class_of (join cs (a, b)) j
 join_stays cs a b i j h k e =
     join_at cs a b i h ∙ ap (renamed (class_of cs b) (class_of cs a)) e ∙ sym (join_at cs a b j k)
 
@@ -125,7 +127,8 @@ count_le p q (suc n) f =
     omega (arith, r, s)
 
 -- and fewer, where one has p and not q
-pub count_less : (p q : ℕ → Bool) (n : ℕ) → ((i : ℕ) → i < n → q i ≡ true → p i ≡ true) → (k : ℕ) → k < n → p k ≡ true → q k ≡ false → count_below n q < count_below n p
+pub count_less : (p q : ℕ → Bool) (n : ℕ) → ((i : ℕ) → i < n → q i ≡ true → p i ≡ true) → (k : ℕ) → k < n → p k ≡ true → q k ≡ false →
+    count_below n q < count_below n p
 unfolding count_below
 count_less p q zero f k h y z = absurd (omega arith)
 count_less p q (suc n) f k h y z = go (λ g. count_less p q n (λ i u. f i (omega arith)) k g y z) (dec_lt k n)
@@ -156,7 +159,8 @@ roots_some n cs p i h =
     omega (arith, l)
 
 -- joining two classes lowers their number
-pub join_lowers : (n : ℕ) (cs : List ℕ) (a b : ℕ) → a < n → b < n → Partition n cs → (class_of cs a ≡ class_of cs b → ⊥) → roots n (join cs (a, b)) < roots n cs
+pub join_lowers : (n : ℕ) (cs : List ℕ) (a b : ℕ) → a < n → b < n → Partition n cs → (class_of cs a ≡ class_of cs b → ⊥) →
+    roots n (join cs (a, b)) < roots n cs
 unfolding roots is_root
 join_lowers n cs a b ha hb p d =
     count_less (is_root cs) (is_root (join cs (a, b))) n were (class_of cs b) (p.below b hb) (eq-eqb _ _ (p.own b hb))

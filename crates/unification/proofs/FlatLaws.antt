@@ -55,7 +55,8 @@ unfolding flat_map
 flat_from f [] y m = absurd (Memᴰ.not-nil m)
 flat_from {A} f (x ∷ xs) y m = go (flat_from f xs y) (Memᴰ.append_cases (f x) m)
   where
-    go : (Memᴰ y (flat_map f xs) → (z : A) × Memᴰ z xs × Memᴰ y (f z)) → Memᴰ y (f x) ⊎ Memᴰ y (flat_map f xs) → (z : A) × Memᴰ z (x ∷ xs) × Memᴰ y (f z)
+    go : (Memᴰ y (flat_map f xs) → (z : A) × Memᴰ z xs × Memᴰ y (f z)) → Memᴰ y (f x) ⊎ Memᴰ y (flat_map f xs) → (z : A) × Memᴰ z (x ∷ xs) ×
+        Memᴰ y (f z)
     go r (inl n) = (x, Memᴰ.head refl, n)
     go r (inr n) = let s = r n in (s.0, Memᴰ.tail s.1, s.2)
 

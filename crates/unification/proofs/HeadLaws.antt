@@ -26,7 +26,9 @@ use Rattle.unification.proofs.WalkLaws.{longest, longest_same, argument_shorter}
 -- The head of node i is h: an application of its class, or where there is none, a node of the lowest variable of its class.
 data HeadIs (ns : List Node) (cs : List ℕ) (i h : ℕ) : Type 0 where
   applied : (f : ℕ) (us : List ℕ) → h < length ns → class_of cs i ≡ class_of cs h → node_at ns h ≡ application f us → HeadIs ns cs i h
-  free : (y : ℕ) → h < length ns → class_of cs i ≡ class_of cs h → node_at ns h ≡ variable y → ((j x : ℕ) → j < length ns → class_of cs i ≡ class_of cs j → node_at ns j ≡ variable x → y ≤ x) → ((j f : ℕ) (us : List ℕ) → j < length ns → class_of cs i ≡ class_of cs j → node_at ns j ≡ application f us → ⊥) → HeadIs ns cs i h
+  free : (y : ℕ) → h < length ns → class_of cs i ≡ class_of cs h → node_at ns h ≡ variable y →
+      ((j x : ℕ) → j < length ns → class_of cs i ≡ class_of cs j → node_at ns j ≡ variable x → y ≤ x) →
+      ((j f : ℕ) (us : List ℕ) → j < length ns → class_of cs i ≡ class_of cs j → node_at ns j ≡ application f us → ⊥) → HeadIs ns cs i h
 
 -- what a head has: it is a node of the class, the lowest if it is a variable, and an application if its node is one
 head_inside : {ns : List Node} {cs : List ℕ} {i h : ℕ} → HeadIs ns cs i h → h < length ns
@@ -37,7 +39,8 @@ head_class : {ns : List Node} {cs : List ℕ} {i h : ℕ} → HeadIs ns cs i h �
 head_class (applied f us p c e) = c
 head_class (free y p c e l n) = c
 
-lowest_of : {ns : List Node} {cs : List ℕ} {i h : ℕ} (x y : ℕ) → i < length ns → HeadIs ns cs i h → node_at ns i ≡ variable x → node_at ns h ≡ variable y → y ≤ x
+lowest_of : {ns : List Node} {cs : List ℕ} {i h : ℕ} (x y : ℕ) → i < length ns → HeadIs ns cs i h → node_at ns i ≡ variable x →
+    node_at ns h ≡ variable y → y ≤ x
 lowest_of x y p (applied f us q c e) d g =
     let z : application f us ≡ variable y = sym e ∙ g in
     let o : ◌≡◌ {A = ℕ} 0 1 = cc in
@@ -48,7 +51,8 @@ lowest_of {i = i} x y p (free v q c e l n) d g =
     let b : v ≤ x = l i x p refl d in
     omega arith
 
-head_applied : {ns : List Node} {cs : List ℕ} {i h : ℕ} (f : ℕ) (us : List ℕ) → i < length ns → HeadIs ns cs i h → node_at ns i ≡ application f us → (g : ℕ) × (vs : List ℕ) × (node_at ns h ≡ application g vs)
+head_applied : {ns : List Node} {cs : List ℕ} {i h : ℕ} (f : ℕ) (us : List ℕ) → i < length ns → HeadIs ns cs i h → node_at ns i ≡ application f us →
+    (g : ℕ) × (vs : List ℕ) × (node_at ns h ≡ application g vs)
 head_applied f us p (applied g vs q c e) d = (g, vs, e)
 head_applied {i = i} f us p (free y q c e l n) d = absurd (n i f us p refl d)
 
@@ -78,7 +82,8 @@ module _ (ns : List Node) (ps : List (ℕ × ℕ)) (cs : List ℕ) (from : (i j 
   application_of i j e =
       is_application_lem (node_at ns j) (and_true_right (eqb (class_of cs i) (class_of cs j)) (is_application (node_at ns j)) e)
 
-  variable_class : (i j x : ℕ) → i < length ns → j < length ns → node_at ns j ≡ variable x → class_of cs i ≡ class_of cs j → is_variable_in ns cs i x ≡ true
+  variable_class : (i j x : ℕ) → i < length ns → j < length ns → node_at ns j ≡ variable x → class_of cs i ≡ class_of cs j →
+      is_variable_in ns cs i x ≡ true
   unfolding is_variable_in
   variable_class i j x p q d e =
       let n = node_of_lem ns x (j, q, d) in
@@ -93,10 +98,12 @@ module _ (ns : List Node) (ps : List (ℕ × ℕ)) (cs : List ℕ) (from : (i j 
   unfolding head_in
   head_is i p = pick (some_below (length ns) (is_application_in ns cs i)) refl
     where
-      pick : (b : Bool) → some_below (length ns) (is_application_in ns cs i) ≡ b → HeadIs ns cs i (cond b (least_node ns (is_application_in ns cs i)) (node_of ns (first_with (is_variable_in ns cs i) 0 (variables_of ns))))
+      pick : (b : Bool) → some_below (length ns) (is_application_in ns cs i) ≡ b →
+          HeadIs ns cs i (cond b (least_node ns (is_application_in ns cs i)) (node_of ns (first_with (is_variable_in ns cs i) 0 (variables_of ns))))
       pick true e =
           let m = (some_means (is_application_in ns cs i) (length ns)).0 e in
-          let t : is_application_in ns cs i (least_node ns (is_application_in ns cs i)) ≡ true = least_has ns (is_application_in ns cs i) m.0 m.1 m.2 in
+          let t : is_application_in ns cs i (least_node ns (is_application_in ns cs i)) ≡ true =
+          least_has ns (is_application_in ns cs i) m.0 m.1 m.2 in
           let a = application_of i (least_node ns (is_application_in ns cs i)) t in
           applied a.0 a.1 (least_below ns (is_application_in ns cs i) m.0 m.1 m.2) (in_class_of i _ t) a.2
       pick false e = lone (node_at ns i) refl
@@ -111,15 +118,19 @@ module _ (ns : List Node) (ps : List (ℕ × ℕ)) (cs : List ℕ) (from : (i j 
               let t = variable_class i i x p p d refl in
               let q = variables_present ns _ (first_in (is_variable_in ns cs i) 0 (variables_of ns) x m t) in
               let n = node_of_lem ns (first_with (is_variable_in ns cs i) 0 (variables_of ns)) q in
-              free (first_with (is_variable_in ns cs i) 0 (variables_of ns)) n.holds.0 (class_of_variable i _ (first_has (is_variable_in ns cs i) 0 (variables_of ns) x m t)) n.holds.1
-              (λ j y l c g. first_least (is_variable_in ns cs i) 0 (variables_of ns) (variables_rise ns) y (present_variables ns y (j, l, g)) (variable_class i j y p l g c))
+              free (first_with (is_variable_in ns cs i) 0 (variables_of ns)) n.holds.0
+              (class_of_variable i _ (first_has (is_variable_in ns cs i) 0 (variables_of ns) x m t)) n.holds.1
+              (λ j y l c g. first_least (is_variable_in ns cs i) 0 (variables_of ns) (variables_rise ns) y (present_variables ns y (j, l, g))
+              (variable_class i j y p l g c))
               none
 
   -- a variable that is a head is the lowest of its class
   pub head_lowest : (i x y : ℕ) → i < length ns → node_at ns i ≡ variable x → node_at ns (head_in ns cs i) ≡ variable y → y ≤ x
   head_lowest i x y p d e = lowest_of x y p (head_is i p) d e
 
-module _ (ns : List Node) (w : WellFormed ns) (ps : List (ℕ × ℕ)) (cs : List ℕ) (to : (i j : ℕ) → i < length ns → j < length ns → class_of cs i ≡ class_of cs j → Joined ns ps i j) (from : (i j : ℕ) → Joined ns ps i j → class_of cs i ≡ class_of cs j) (no_clash : Clash ns ps → ⊥) (no-cycle : cyclic ns cs ≡ false) where
+module _ (ns : List Node) (w : WellFormed ns) (ps : List (ℕ × ℕ)) (cs : List ℕ)
+    (to : (i j : ℕ) → i < length ns → j < length ns → class_of cs i ≡ class_of cs j → Joined ns ps i j)
+    (from : (i j : ℕ) → Joined ns ps i j → class_of cs i ≡ class_of cs j) (no_clash : Clash ns ps → ⊥) (no-cycle : cyclic ns cs ≡ false) where
   is : (i : ℕ) → i < length ns → HeadIs ns cs i (head_in ns cs i)
   is = head_is ns ps cs from
 
@@ -127,7 +138,8 @@ module _ (ns : List Node) (w : WellFormed ns) (ps : List (ℕ × ℕ)) (cs : Lis
   joined_to i p = to i (head_in ns cs i) p (head_inside (is i p)) (head_class (is i p))
 
   -- joined applications have one symbol
-  one_symbol : (i j f g : ℕ) (us vs : List ℕ) → Joined ns ps i j → node_at ns i ≡ application f us → node_at ns j ≡ application g vs → OneSymbol f us g vs
+  one_symbol : (i j f g : ℕ) (us vs : List ℕ) → Joined ns ps i j → node_at ns i ≡ application f us → node_at ns j ≡ application g vs →
+      OneSymbol f us g vs
   one_symbol i j f g us vs q d e = go (ℕ_discrete f g) (ℕ_discrete (length us) (length vs))
     where
       go : Dec (f ≡ g) → Dec (length us ≡ length vs) → OneSymbol f us g vs
@@ -162,7 +174,9 @@ module _ (ns : List Node) (w : WellFormed ns) (ps : List (ℕ × ℕ)) (cs : Lis
             let q = head_inside (is i p) in
             let l : a < head_in ns cs i = w.smaller (head_in ns cs i) f us q e a m in
             let b : a < length ns = omega arith in
-            let g : longest ns cs a < longest ns cs (head_in ns cs i) = argument_shorter ns w cs no-cycle (head_in ns cs i) (head_in ns cs i) f us q q refl e a m in
-            let c : longest ns cs a ≡ longest ns cs (head_in ns cs a) = longest_same ns w cs a (head_in ns cs a) b (head_inside (is a b)) (head_class (is a b)) in
+            let g : longest ns cs a < longest ns cs (head_in ns cs i) =
+            argument_shorter ns w cs no-cycle (head_in ns cs i) (head_in ns cs i) f us q q refl e a m in
+            let c : longest ns cs a ≡ longest ns cs (head_in ns cs a) =
+            longest_same ns w cs a (head_in ns cs a) b (head_inside (is a b)) (head_class (is a b)) in
             omega arith;
       }

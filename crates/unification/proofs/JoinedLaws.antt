@@ -22,7 +22,8 @@ use Rattle.unification.proofs.CountLaws.{join_second, join_other}
 pub record Rules (ns : List Node) (ps : List (ℕ × ℕ)) (R : ℕ → ℕ → Type 0) : Type 0 where
   pub has_given : (a b : ℕ) → Memᴰ (a, b) ps → R a b
   pub has_variable : (i j x : ℕ) → i < length ns → j < length ns → node_at ns i ≡ variable x → node_at ns j ≡ variable x → R i j
-  pub has_arguments : (i j f g : ℕ) (us vs : List ℕ) → node_at ns i ≡ application f us → node_at ns j ≡ application g vs → OneSymbol f us g vs → R i j → (a b : ℕ) → Memᴰ (a, b) (zip us vs) → R a b
+  pub has_arguments : (i j f g : ℕ) (us vs : List ℕ) → node_at ns i ≡ application f us → node_at ns j ≡ application g vs → OneSymbol f us g vs →
+      R i j → (a b : ℕ) → Memᴰ (a, b) (zip us vs) → R a b
   pub has_same : (i : ℕ) → i < length ns → R i i
   pub has_back : (i j : ℕ) → R i j → R j i
   pub has_on : (i j k : ℕ) → R i j → R j k → R i k
@@ -87,9 +88,11 @@ module _ (ns : List Node) (w : WellFormed ns) (ps : List (ℕ × ℕ)) (h : Insi
       })
 
   module _ (σ : Substitution) (u : Unifies ns ps σ) where
-    equal_arguments : (i j f g : ℕ) (us vs : List ℕ) → i < length ns → j < length ns → node_at ns i ≡ application f us → node_at ns j ≡ application g vs → value ns σ i ≡ value ns σ j → (f ≡ g) × (each (value ns σ) us ≡ each (value ns σ) vs)
+    equal_arguments : (i j f g : ℕ) (us vs : List ℕ) → i < length ns → j < length ns → node_at ns i ≡ application f us →
+        node_at ns j ≡ application g vs → value ns σ i ≡ value ns σ j → (f ≡ g) × (each (value ns σ) us ≡ each (value ns σ) vs)
     equal_arguments i j f g us vs p q d e r =
-        let s : app f (each (value ns σ) us) ≡ app g (each (value ns σ) vs) = sym (value_application ns w σ i f us p d) ∙ r ∙ value_application ns w σ j g vs q e in
+        let s : app f (each (value ns σ) us) ≡ app g (each (value ns σ) vs) = sym (value_application ns w σ i f us p d) ∙ r ∙
+        value_application ns w σ j g vs q e in
         (cc, cc)
 
     -- whatever makes the given pairs equal makes joined nodes equal
@@ -129,7 +132,9 @@ module _ (ns : List Node) (w : WellFormed ns) (ps : List (ℕ × ℕ)) (h : Insi
     cycle_none i r = let l : size (value ns σ i) < size (value ns σ i) = reaches_smaller r in omega arith
 
 -- nodes stay joined with those that name their classes, where joined nodes are put in one class
-pub classes_stay : (ns : List Node) (ps : List (ℕ × ℕ)) (cs : List ℕ) (a b : ℕ) → length cs ≡ length ns → a < length ns → b < length ns → Joined ns ps a b → ((i : ℕ) → i < length ns → Joined ns ps i (class_of cs i)) → (i : ℕ) → i < length ns → Joined ns ps i (class_of (join cs (a, b)) i)
+pub classes_stay : (ns : List Node) (ps : List (ℕ × ℕ)) (cs : List ℕ) (a b : ℕ) → length cs ≡ length ns → a < length ns → b < length ns →
+    Joined ns ps a b → ((i : ℕ) → i < length ns → Joined ns ps i (class_of cs i)) → (i : ℕ) → i < length ns →
+    Joined ns ps i (class_of (join cs (a, b)) i)
 classes_stay ns ps cs a b l p q d named i h = go (ℕ_discrete (class_of cs i) (class_of cs b))
   where
     go : Dec (class_of cs i ≡ class_of cs b) → Joined ns ps i (class_of (join cs (a, b)) i)

@@ -116,7 +116,8 @@ map_at f [] i h = absurd (omega arith)
 map_at f (x ∷ l) zero h = refl
 map_at f (x ∷ l) (suc i) h = map_at f l i (omega arith)
 
-zip_place : (us vs : List ℕ) (a b : ℕ) → Memᴰ (a, b) (zip us vs) → (j : ℕ) × (j < length us) × (j < length vs) × (a ≡ get_or us j 0) × (b ≡ get_or vs j 0)
+zip_place : (us vs : List ℕ) (a b : ℕ) → Memᴰ (a, b) (zip us vs) → (j : ℕ) × (j < length us) × (j < length vs) × (a ≡ get_or us j 0) ×
+    (b ≡ get_or vs j 0)
 unfolding zip zip_with
 zip_place [] vs a b m = absurd (Memᴰ.not-nil m)
 zip_place (u ∷ us) [] a b m = absurd (Memᴰ.not-nil m)
@@ -134,7 +135,8 @@ placed_zip (u ∷ us) (v ∷ vs) zero h k = Memᴰ.head refl
 placed_zip (u ∷ us) (v ∷ vs) (suc j) h k = Memᴰ.tail (placed_zip us vs j (omega arith) (omega arith))
 
 -- "position by position": the pairs of two lists are those of the elements at one position
-pub zip_at : (us vs : List ℕ) (a b : ℕ) → Memᴰ (a, b) (zip us vs) ↔ ((j : ℕ) × (j < length us) × (j < length vs) × (a ≡ get_or us j 0) × (b ≡ get_or vs j 0))
+pub zip_at : (us vs : List ℕ) (a b : ℕ) → Memᴰ (a, b) (zip us vs) ↔
+    ((j : ℕ) × (j < length us) × (j < length vs) × (a ≡ get_or us j 0) × (b ≡ get_or vs j 0))
 zip_at us vs a b = (zip_place us vs a b, λ r. rw (r.3, r.4) (placed_zip us vs r.0 r.1 r.2))
 
 -- the pairs of two lists are of an element of each
@@ -152,7 +154,8 @@ pub zip_right : (us vs : List ℕ) (a b : ℕ) → Memᴰ (a, b) (zip us vs) →
 zip_right us vs a b m = zip_left vs us b a (zip_back us vs a b m)
 
 -- a pair of the outer two goes through the middle list
-pub zip_through : (us vs ws : List ℕ) → length us ≡ length vs → length vs ≡ length ws → (a c : ℕ) → Memᴰ (a, c) (zip us ws) → (b : ℕ) × Memᴰ (a, b) (zip us vs) × Memᴰ (b, c) (zip vs ws)
+pub zip_through : (us vs ws : List ℕ) → length us ≡ length vs → length vs ≡ length ws → (a c : ℕ) → Memᴰ (a, c) (zip us ws) → (b : ℕ) ×
+    Memᴰ (a, b) (zip us vs) × Memᴰ (b, c) (zip vs ws)
 zip_through us vs ws h k a c m =
     let r = zip_place us ws a c m in
     let l : r.0 < length vs = omega (arith, r.1) in

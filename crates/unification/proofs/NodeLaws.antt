@@ -1,4 +1,5 @@
--- A node's term is made of its arguments' terms, and so is its value under a substitution: arguments have smaller numbers, so that the steps of `term_of` are enough.
+-- A node's term is made of its arguments' terms, and so is its value under a substitution: arguments have smaller numbers, so that the
+-- steps of `term_of` are enough.
 -- Only the variables present matter. Assumes nothing.
 use Prim.Native.Nat.{ℕ, zero, suc, ◌<◌, ◌≤◌}
 use mathlib.Core.List.Memᴰ
@@ -63,7 +64,8 @@ each_size v (b ∷ us) a (Memᴰ.head e) = let q : size (v a) ≡ size (v b) = a
 each_size v (b ∷ us) a (Memᴰ.tail m) = let r : size (v a) ≤ sizes (each v us) = each_size v us a m in omega arith
 
 -- a node spelt out depends on the terms of its arguments
-pub spell_same : (u v : ℕ → Term) (n : Node) → ((f : ℕ) (us : List ℕ) → n ≡ application f us → (a : ℕ) → Memᴰ a us → u a ≡ v a) → spell u n ≡ spell v n
+pub spell_same : (u v : ℕ → Term) (n : Node) → ((f : ℕ) (us : List ℕ) → n ≡ application f us → (a : ℕ) → Memᴰ a us → u a ≡ v a) →
+    spell u n ≡ spell v n
 unfolding spell
 spell_same u v (variable x) h = refl
 spell_same u v (application f us) h = ap (app f) (each_same u v us (h f us refl))
@@ -96,19 +98,23 @@ module _ (ns : List Node) (w : WellFormed ns) where
   value_variable σ i x h e = ap (sub σ) (term_node i h ∙ ap (spell (term_of ns)) e)
 
   -- the value of an application
-  pub value_application : (σ : Substitution) (i f : ℕ) (us : List ℕ) → i < length ns → node_at ns i ≡ application f us → value ns σ i ≡ app f (each (value ns σ) us)
+  pub value_application : (σ : Substitution) (i f : ℕ) (us : List ℕ) → i < length ns → node_at ns i ≡ application f us →
+      value ns σ i ≡ app f (each (value ns σ) us)
   unfolding spell sub
   value_application σ i f us h e =
       ap (sub σ) (term_node i h ∙ ap (spell (term_of ns)) e) ∙ ap (app f) (subs_each σ (term_of ns) us)
 
   -- values that agree on variables and go through applications agree
-  pub values_same : (σ : Substitution) (v : ℕ → Term) → ((i x : ℕ) → i < length ns → node_at ns i ≡ variable x → σ x ≡ v i) → ((i f : ℕ) (us : List ℕ) → i < length ns → node_at ns i ≡ application f us → app f (each v us) ≡ v i) → (i : ℕ) → i < length ns → value ns σ i ≡ v i
+  pub values_same : (σ : Substitution) (v : ℕ → Term) → ((i x : ℕ) → i < length ns → node_at ns i ≡ variable x → σ x ≡ v i) →
+      ((i f : ℕ) (us : List ℕ) → i < length ns → node_at ns i ≡ application f us → app f (each v us) ≡ v i) → (i : ℕ) → i < length ns →
+      value ns σ i ≡ v i
   values_same σ v hv ha i h = go (suc i) i (omega arith) h
     where
       at : (i : ℕ) → ((j : ℕ) → j < i → j < length ns → value ns σ j ≡ v j) → i < length ns → (n : Node) → node_at ns i ≡ n → value ns σ i ≡ v i
       at i r h (variable x) e = value_variable σ i x h e ∙ hv i x h e
       at i r h (application f us) e =
-          value_application σ i f us h e ∙ ap (app f) (each_same (value ns σ) v us (λ a d. let l : a < i = w.smaller i f us h e a d in r a l (omega arith))) ∙ ha i f us h e
+          value_application σ i f us h e ∙ ap (app f)
+          (each_same (value ns σ) v us (λ a d. let l : a < i = w.smaller i f us h e a d in r a l (omega arith))) ∙ ha i f us h e
 
       go : (k i : ℕ) → i < k → i < length ns → value ns σ i ≡ v i
       go zero i p h = absurd (omega arith)
@@ -122,7 +128,8 @@ module _ (ns : List Node) (w : WellFormed ns) where
       (λ i f us l e. sym (value_application τ i f us l e))
 
   -- the value of a node under one substitution and then another
-  pub value_after_lem : (σ τ ρ : Substitution) → ((x : ℕ) → Present ns x → τ x ≡ sub ρ (σ x)) → (i : ℕ) → i < length ns → value ns τ i ≡ sub ρ (value ns σ i)
+  pub value_after_lem : (σ τ ρ : Substitution) → ((x : ℕ) → Present ns x → τ x ≡ sub ρ (σ x)) → (i : ℕ) → i < length ns →
+      value ns τ i ≡ sub ρ (value ns σ i)
   unfolding sub
   value_after_lem σ τ ρ h =
       values_same τ (λ i. sub ρ (value ns σ i))

@@ -60,7 +60,8 @@ module _ (ns : List Node) (w : WellFormed ns) (ps : List (ℕ × ℕ)) (h : Insi
           let r = to_cycle e in
           cycled (record { no_clash = λ k. false≢true (sym d ∙ found_clash ns w ps h k); class = r.0; itself = r.1 })
       pick false d false e =
-          solved (classes_solved ns w ps (classes ns ps) (class_joined ns w ps h) (λ i j q. joined_class ns w ps h q) (λ k. false≢true (sym d ∙ found_clash ns w ps h k)) e)
+          solved (classes_solved ns w ps (classes ns ps) (class_joined ns w ps h) (λ i j q. joined_class ns w ps h q)
+          (λ k. false≢true (sym d ∙ found_clash ns w ps h k)) e)
 
   bounded : (i : ℕ) → i < length ns → longest ns (classes ns ps) (head_in ns (classes ns ps) i) < suc (length ns)
   bounded i p = let l = longest_bound ns w (classes ns ps) (head_in ns (classes ns ps) i) in omega (arith, l)
@@ -147,7 +148,8 @@ module _ (ns : List Node) (w : WellFormed ns) (ps : List (ℕ × ℕ)) (h : Insi
   unfolding unifier words_of
   words_readable e =
       words_read ns (unifier ns ps) (held e)
-      (solution_lowest ns w ps h (head_in ns (classes ns ps)) (longest ns (classes ns ps)) (to_solved tested e) (suc (length ns)) bounded (head_lowest ns ps (classes ns ps) (λ i j q. joined_class ns w ps h q)))
+      (solution_lowest ns w ps h (head_in ns (classes ns ps)) (longest ns (classes ns ps)) (to_solved tested e) (suc (length ns)) bounded
+      (head_lowest ns ps (classes ns ps) (λ i j q. joined_class ns w ps h q)))
 
   -- and whatever is read from them is a most general unifier, the same on every variable present
   pub reading_most_general : outcome ns ps ≡ unified → (σ : Substitution) → Reads ns (words_of ns ps) σ → MostGeneral ns ps σ
@@ -155,13 +157,15 @@ module _ (ns : List Node) (w : WellFormed ns) (ps : List (ℕ × ℕ)) (h : Insi
       most_general_agree ns w ps h (unifier ns ps) σ (reads_one ns w (words_of ns ps) (unifier ns ps) σ (words_readable e) r) (unifier_most_general e)
 
   -- taken at the variables present alone, it comes before every unifier at every variable there is
-  pub reading_everywhere : outcome ns ps ≡ unified → (σ : Substitution) → Reads ns (words_of ns ps) σ → (τ : Substitution) → Unifies ns ps τ → (x : ℕ) → τ x ≡ sub τ (restricted ns σ x)
+  pub reading_everywhere : outcome ns ps ≡ unified → (σ : Substitution) → Reads ns (words_of ns ps) σ → (τ : Substitution) → Unifies ns ps τ →
+      (x : ℕ) → τ x ≡ sub τ (restricted ns σ x)
   unfolding unifier sub
   reading_everywhere e σ r τ u x = go (present_or_not ns x)
     where
       go : Dec (Present ns x) → τ x ≡ sub τ (restricted ns σ x)
       go (yes p) =
-          solution_first ns w ps h (head_in ns (classes ns ps)) (longest ns (classes ns ps)) (to_solved tested e) (suc (length ns)) bounded τ u x p ∙ ap (sub τ) (reads_one ns w (words_of ns ps) (unifier ns ps) σ (words_readable e) r x p ∙ restricted_present ns σ x p)
+          solution_first ns w ps h (head_in ns (classes ns ps)) (longest ns (classes ns ps)) (to_solved tested e) (suc (length ns)) bounded τ u x p ∙
+          ap (sub τ) (reads_one ns w (words_of ns ps) (unifier ns ps) σ (words_readable e) r x p ∙ restricted_present ns σ x p)
       go (no p) = sym (ap (sub τ) (restricted_absent ns σ x p))
 
   -- the words are read in one way at most
@@ -183,12 +187,18 @@ module _ (ns : List Node) (w : WellFormed ns) (ps : List (ℕ × ℕ)) (h : Insi
   words_decided σ g ws a = words_one ns σ (words_of ns ps) ws (words_least σ g) a
 
   -- a solved form, whatever its heads and order, decides: unified, with the words of its solution
-  pub solved_decides : (head order : ℕ → ℕ) → Solved ns ps head order → (k : ℕ) → ((i : ℕ) → i < length ns → order (head i) < k) → (outcome ns ps ≡ unified) × (words_of ns ps ≡ binding_words ns (solution k ns head))
+  pub solved_decides : (head order : ℕ → ℕ) → Solved ns ps head order → (k : ℕ) → ((i : ℕ) → i < length ns → order (head i) < k) →
+      (outcome ns ps ≡ unified) × (words_of ns ps ≡ binding_words ns (solution k ns head))
   solved_decides head order s k l =
-      let g = solution_most_general ns w ps h head order s k l in
-      (outcome_unified.1 (solution k ns head, g.unifies), words_decided (solution k ns head) g (binding_words ns (solution k ns head)) (words_computed ns (solution k ns head) (solution_held ns w ps h head order s k l)))
+      let g = solution_most_general ns w ps h head order s k l in (
+        outcome_unified.1 (solution k ns head, g.unifies),
+        words_decided (solution k ns head) g (binding_words ns (solution k ns head))
+            (words_computed ns (solution k ns head) (solution_held ns w ps h head order s k l)),
+      )
 
   -- so any two solved forms give the same words
-  pub solved_one : (head order : ℕ → ℕ) → Solved ns ps head order → (k : ℕ) → ((i : ℕ) → i < length ns → order (head i) < k) → (head' order' : ℕ → ℕ) → Solved ns ps head' order' → (k' : ℕ) → ((i : ℕ) → i < length ns → order' (head' i) < k') → binding_words ns (solution k ns head) ≡ binding_words ns (solution k' ns head')
+  pub solved_one : (head order : ℕ → ℕ) → Solved ns ps head order → (k : ℕ) → ((i : ℕ) → i < length ns → order (head i) < k) →
+      (head' order' : ℕ → ℕ) → Solved ns ps head' order' → (k' : ℕ) → ((i : ℕ) → i < length ns → order' (head' i) < k') →
+      binding_words ns (solution k ns head) ≡ binding_words ns (solution k' ns head')
   solved_one head order s k l head' order' s' k' l' =
       sym (solved_decides head order s k l).1 ∙ (solved_decides head' order' s' k' l').1

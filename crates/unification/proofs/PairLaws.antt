@@ -49,7 +49,8 @@ module _ (ns : List Node) (w : WellFormed ns) (ps qs : List (ℕ × ℕ)) (h : I
           (outcome_unified ns w ps h).1 u ∙ sym ((outcome_unified ns w qs k).1 (u.0, more_pairs ns qs ps b u.0 u.1))
       go (second x c y) = (outcome_clash ns w ps h).1 c ∙ sym ((outcome_clash ns w qs k).1 (more_clash ns ps qs a c))
       go (third x y o) =
-          (outcome_occurs ns w ps h).1 o ∙ sym ((outcome_occurs ns w qs k).1 (record { no_clash = λ c. o.no_clash (more_clash ns qs ps b c); class = o.class; itself = more_reaches qs a o.itself }))
+          (outcome_occurs ns w ps h).1 o ∙ sym ((outcome_occurs ns w qs k).1
+          (record { no_clash = λ c. o.no_clash (more_clash ns qs ps b c); class = o.class; itself = more_reaches qs a o.itself }))
 
   -- and so do the words
   pub same_words : Among ps qs → Among qs ps → Unifiable ns ps → words_of ns ps ≡ words_of ns qs

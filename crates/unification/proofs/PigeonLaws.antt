@@ -49,7 +49,9 @@ unfolding is_last
 pigeons zero f h = let l : f 0 < 0 = h 0 (omega arith) in absurd (omega arith)
 pigeons (suc n) f h = pick (some_below (suc n) (is_last n f)) refl (pigeons n (moved n f))
   where
-    pick : (b : Bool) → some_below (suc n) (is_last n f) ≡ b → (((i : ℕ) → i ≤ n → moved n f i < n) → (i : ℕ) × (j : ℕ) × (i < j) × (j ≤ n) × (moved n f i ≡ moved n f j)) → (i : ℕ) × (j : ℕ) × (i < j) × (j ≤ suc n) × (f i ≡ f j)
+    pick : (b : Bool) → some_below (suc n) (is_last n f) ≡ b →
+        (((i : ℕ) → i ≤ n → moved n f i < n) → (i : ℕ) × (j : ℕ) × (i < j) × (j ≤ n) × (moved n f i ≡ moved n f j)) → (i : ℕ) × (j : ℕ) × (i < j) ×
+        (j ≤ suc n) × (f i ≡ f j)
     pick true z r =
         let s = (some_means (is_last n f) (suc n)).0 z in
         (s.0, suc n, s.1, omega arith, eqb-true _ _ s.2)

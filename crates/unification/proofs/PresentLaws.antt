@@ -51,22 +51,24 @@ restricted_absent ns σ x n = go (present_or_not ns x)
     go (yes q) = absurd (n q)
     go (no q) = refl
 
-module _ (ns : List Node) (w : WellFormed ns) (ps : List (ℕ × ℕ)) (h : Inside ns ps) (σ τ : Substitution) (e : (x : ℕ) → Present ns x → σ x ≡ τ x) where
-  -- only the variables present matter to being a unifier
-  pub unifies_agree : Unifies ns ps σ → Unifies ns ps τ
-  unifies_agree u a b m =
-      sym (value_agree ns w σ τ e a (h a b m).0) ∙ u a b m ∙ value_agree ns w σ τ e b (h a b m).1
+module _ (ns : List Node) (w : WellFormed ns) (ps : List (ℕ × ℕ)) (h : Inside ns ps) (σ τ : Substitution) (e : (x : ℕ) → Present ns x → σ x ≡ τ x)
+  where
+    -- only the variables present matter to being a unifier
+    pub unifies_agree : Unifies ns ps σ → Unifies ns ps τ
+    unifies_agree u a b m =
+        sym (value_agree ns w σ τ e a (h a b m).0) ∙ u a b m ∙ value_agree ns w σ τ e b (h a b m).1
 
-  -- and to being a most general one
-  pub most_general_agree : MostGeneral ns ps σ → MostGeneral ns ps τ
-  most_general_agree g =
-      record {
-        unifies = unifies_agree g.unifies;
-        factors = λ υ u. let f = g.factors υ u in (f.0, λ x p. f.1 x p ∙ ap (sub f.0) (e x p));
-      }
+    -- and to being a most general one
+    pub most_general_agree : MostGeneral ns ps σ → MostGeneral ns ps τ
+    most_general_agree g =
+        record {
+          unifies = unifies_agree g.unifies;
+          factors = λ υ u. let f = g.factors υ u in (f.0, λ x p. f.1 x p ∙ ap (sub f.0) (e x p));
+        }
 
 -- pairs with a unifier have one that changes only variables present
-pub finite_unifier : (ns : List Node) → WellFormed ns → (ps : List (ℕ × ℕ)) → Inside ns ps → (σ : Substitution) → Unifies ns ps σ → Unifies ns ps (restricted ns σ)
+pub finite_unifier : (ns : List Node) → WellFormed ns → (ps : List (ℕ × ℕ)) → Inside ns ps → (σ : Substitution) → Unifies ns ps σ →
+    Unifies ns ps (restricted ns σ)
 finite_unifier ns w ps h σ = unifies_agree ns w ps h σ (restricted ns σ) (restricted_present ns σ)
 
 module _ (ns : List Node) (w : WellFormed ns) (ps : List (ℕ × ℕ)) (h : Inside ns ps) (σ : Substitution) where

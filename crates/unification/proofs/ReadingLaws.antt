@@ -1,4 +1,5 @@
--- Words can be read in one way at most: a variable inside an application has a smaller value than the application, so values agree by induction on their size.
+-- Words can be read in one way at most: a variable inside an application has a smaller value than the application, so values agree by
+-- induction on their size.
 -- Assumes nothing.
 use Prim.Native.Nat.{ℕ, zero, suc, ◌<◌, ◌≤◌}
 use mathlib.Core.List.{List}
@@ -18,7 +19,8 @@ use Rattle.unification.proofs.VariableLaws.{present_variables}
 
 module _ (ns : List Node) (w : WellFormed ns) (ws : List ℕ) (σ τ : Substitution) (r : Reads ns ws σ) (q : Reads ns ws τ) where
   -- applications agree where smaller values do
-  applied_same : (n i f : ℕ) (us : List ℕ) → i < length ns → node_at ns i ≡ application f us → size (value ns σ i) < suc n → ((a : ℕ) → a < length ns → size (value ns σ a) < n → value ns σ a ≡ value ns τ a) → value ns σ i ≡ value ns τ i
+  applied_same : (n i f : ℕ) (us : List ℕ) → i < length ns → node_at ns i ≡ application f us → size (value ns σ i) < suc n →
+      ((a : ℕ) → a < length ns → size (value ns σ a) < n → value ns σ a ≡ value ns τ a) → value ns σ i ≡ value ns τ i
   unfolding size
   applied_same n i f us p e l h =
       let d : value ns σ i ≡ app f (each (value ns σ) us) = value_application ns w σ i f us p e in
@@ -32,7 +34,8 @@ module _ (ns : List Node) (w : WellFormed ns) (ws : List ℕ) (σ τ : Substitut
   values_agree zero i p l = absurd (omega arith)
   values_agree (suc n) i p l = go (λ a m k. values_agree n a m k) (node_at ns i) refl
     where
-      go : ((a : ℕ) → a < length ns → size (value ns σ a) < n → value ns σ a ≡ value ns τ a) → (o : Node) → node_at ns i ≡ o → value ns σ i ≡ value ns τ i
+      go : ((a : ℕ) → a < length ns → size (value ns σ a) < n → value ns σ a ≡ value ns τ a) → (o : Node) → node_at ns i ≡ o →
+          value ns σ i ≡ value ns τ i
       go h (application f us) e = applied_same n i f us p e l h
       go h (variable x) e =
           let b = matched_both r q x (present_variables ns x (i, p, e)) in

@@ -19,7 +19,8 @@ module _ {A : Type 0} (Below : A → A → Type 0) where
       first y (inr m) = h x y (Memᴰ.head refl) m
 
   -- the images of a rising list rise, where the function keeps the order of its elements
-  pub rising_map : {B : Type 0} (Under : B → B → Type 0) (f : A → B) (xs : List A) → ((x y : A) → Memᴰ x xs → Memᴰ y xs → Below x y → Under (f x) (f y)) → Rising Below xs → Rising Under (map f xs)
+  pub rising_map : {B : Type 0} (Under : B → B → Type 0) (f : A → B) (xs : List A) →
+      ((x y : A) → Memᴰ x xs → Memᴰ y xs → Below x y → Under (f x) (f y)) → Rising Below xs → Rising Under (map f xs)
   rising_map Under f [] h r = end
   rising_map {B} Under f (x ∷ xs) h (before b r) =
       before (λ y m. first y (Memᴰ.of_map f xs m)) (rising_map Under f xs (λ y z m n. h y z (Memᴰ.tail m) (Memᴰ.tail n)) r)
@@ -33,7 +34,8 @@ module _ {A : Type 0} (Below : A → A → Type 0) where
     above_first x y ys b (Memᴰ.tail m) = m
 
     -- the firsts of two rising lists that each hold the other's first are one
-    first_same : (x y : A) (xs ys : List A) → ((z : A) → Memᴰ z xs → Below x z) → ((z : A) → Memᴰ z ys → Below y z) → Memᴰ x (y ∷ ys) → Memᴰ y (x ∷ xs) → x ≡ y
+    first_same : (x y : A) (xs ys : List A) → ((z : A) → Memᴰ z xs → Below x z) → ((z : A) → Memᴰ z ys → Below y z) → Memᴰ x (y ∷ ys) →
+        Memᴰ y (x ∷ xs) → x ≡ y
     first_same x y xs ys b c (Memᴰ.head e) n = e
     first_same x y xs ys b c (Memᴰ.tail m) (Memᴰ.head e) = sym e
     first_same x y xs ys b c (Memᴰ.tail m) (Memᴰ.tail n) = absurd (one_way x y (b y n) (c x m))
@@ -45,7 +47,10 @@ module _ {A : Type 0} (Below : A → A → Type 0) where
     rising_same (x ∷ xs) [] r s h = absurd (Memᴰ.not-nil ((h x).0 (Memᴰ.head refl)))
     rising_same (x ∷ xs) (y ∷ ys) (before b r) (before c s) h =
         let e : x ≡ y = first_same x y xs ys b c ((h x).0 (Memᴰ.head refl)) ((h y).1 (Memᴰ.head refl)) in
-        let t : xs ≡ ys = rising_same xs ys r s (λ z. ((λ m. above_first z y ys (rw e at (b z m)) ((h z).0 (Memᴰ.tail m))), (λ m. above_first z x xs (rw (← e) at (c z m)) ((h z).1 (Memᴰ.tail m))))) in
+        let t : xs ≡ ys = rising_same xs ys r s (λ z. (
+          (λ m. above_first z y ys (rw e at (b z m)) ((h z).0 (Memᴰ.tail m))),
+          (λ m. above_first z x xs (rw (← e) at (c z m)) ((h z).1 (Memᴰ.tail m))),
+        )) in
         rw (e, t)
 
     -- nothing stands twice in a rising list
@@ -56,7 +61,9 @@ module _ {A : Type 0} (Below : A → A → Type 0) where
         ((λ m. s.0 (above_first x w xs (b x (Memᴰ.append_right xs (Memᴰ.head refl))) m)), s.1)
 
 -- lists that rise, each below those after it, rise together
-pub rising_flat : {A B : Type 0} (Below : A → A → Type 0) (Under : B → B → Type 0) (f : A → List B) (xs : List A) → Rising Below xs → ((x : A) → Memᴰ x xs → Rising Under (f x)) → ((x y : A) → Memᴰ x xs → Memᴰ y xs → Below x y → (u v : B) → Memᴰ u (f x) → Memᴰ v (f y) → Under u v) → Rising Under (flat_map f xs)
+pub rising_flat : {A B : Type 0} (Below : A → A → Type 0) (Under : B → B → Type 0) (f : A → List B) (xs : List A) → Rising Below xs →
+    ((x : A) → Memᴰ x xs → Rising Under (f x)) →
+    ((x y : A) → Memᴰ x xs → Memᴰ y xs → Below x y → (u v : B) → Memᴰ u (f x) → Memᴰ v (f y) → Under u v) → Rising Under (flat_map f xs)
 unfolding flat_map
 rising_flat Below Under f [] r s h = end
 rising_flat {A} {B} Below Under f (x ∷ xs) (before b r) s h =

@@ -23,7 +23,8 @@ abbrev pub run : List ℕ → List ℕ → ℕ → List ℕ
 run nodes arguments i = take (count_of nodes i) (drop (first_of nodes i) arguments)
 
 -- the test for one symbol tells that name and count are the same
-pub symbol_test_lem : (nodes : List ℕ) (g h : ℕ) → symbol_test nodes g h ≡ true ↔ ((name_of nodes g ≡ name_of nodes h) × (count_of nodes g ≡ count_of nodes h))
+pub symbol_test_lem : (nodes : List ℕ) (g h : ℕ) → symbol_test nodes g h ≡ true ↔
+    ((name_of nodes g ≡ name_of nodes h) × (count_of nodes g ≡ count_of nodes h))
 symbol_test_lem nodes g h = both_equal (name_of nodes g) (name_of nodes h) (count_of nodes g) (count_of nodes h)
 
 -- there are as many nodes as the nodes section holds
@@ -137,7 +138,8 @@ module _ (nodes arguments : List ℕ) (s : Sections nodes arguments) where
   -- and otherwise an application of its name, to as many arguments as its count, which are the node's
   pub section_application : (i : ℕ) → i < node_count nodes → (f : ℕ) (us : List ℕ) →
       node_at (nodes_from nodes arguments) i ≡ application f us ↔
-      ((kind_of nodes i ≡ 1) × (f ≡ name_of nodes i) × (length us ≡ count_of nodes i) × ((j : ℕ) → j < count_of nodes i → get_or us j 0 ≡ argument_of nodes arguments i j))
+      ((kind_of nodes i ≡ 1) × (f ≡ name_of nodes i) × (length us ≡ count_of nodes i) ×
+      ((j : ℕ) → j < count_of nodes i → get_or us j 0 ≡ argument_of nodes arguments i j))
   section_application i h f us = (there, back_to)
     where
       there : node_at (nodes_from nodes arguments) i ≡ application f us →
@@ -154,7 +156,8 @@ module _ (nodes arguments : List ℕ) (s : Sections nodes arguments) where
           ((j : ℕ) → j < count_of nodes i → get_or us j 0 ≡ argument_of nodes arguments i j) →
           node_at (nodes_from nodes arguments) i ≡ application f us
       back_to (k, n, l, q) =
-          let d : us ≡ run nodes arguments i = ext_get_or 0 us (run nodes arguments i) (l ∙ sym (run_long i h)) (λ j b. q j (rw l at b) ∙ sym (run_at i j (rw l at b))) in
+          let d : us ≡ run nodes arguments i = ext_get_or 0 us (run nodes arguments i) (l ∙ sym (run_long i h))
+          (λ j b. q j (rw l at b) ∙ sym (run_at i j (rw l at b))) in
           application_from nodes arguments i h (λ z. omega (arith, k, z))
           ∙ ap (λ (x : ℕ). application x (run nodes arguments i)) (sym n)
           ∙ ap (application f) (sym d)

@@ -30,7 +30,8 @@ module _ (ns : List Node) (w : WellFormed ns) (ps : List (ℕ × ℕ)) (h : Insi
   closure_inside i p = (joined_inside ns w ps h (s.joined i p)).1
 
   -- one head is one application
-  one_application : (i j f g : ℕ) (us vs : List ℕ) → head i ≡ head j → (x : HeadFits ns head i f us) (y : HeadFits ns head j g vs) → (f ≡ g) × (x.arguments ≡ y.arguments)
+  one_application : (i j f g : ℕ) (us vs : List ℕ) → head i ≡ head j → (x : HeadFits ns head i f us) (y : HeadFits ns head j g vs) → (f ≡ g) ×
+      (x.arguments ≡ y.arguments)
   one_application i j f g us vs z x y =
       let e : application f x.arguments ≡ application g y.arguments = sym x.applied ∙ ap (node_at ns) z ∙ y.applied in
       (cc, cc)
@@ -103,11 +104,15 @@ module _ (ns : List Node) (w : WellFormed ns) (ps : List (ℕ × ℕ)) (h : Insi
       to_head : value ns τ (head i) ≡ value ns τ i
       to_head = sym (joined_equal ns w ps h τ u (s.closure.joined i p))
 
-      go : ((a : ℕ) → a < length ns → order (head a) < k → sub τ (resolved k ns head a) ≡ value ns τ a) → (n : Node) → node_at ns (head i) ≡ n → sub τ (spell (resolved k ns head) (node_at ns (head i))) ≡ value ns τ i
+      go : ((a : ℕ) → a < length ns → order (head a) < k → sub τ (resolved k ns head a) ≡ value ns τ a) → (n : Node) → node_at ns (head i) ≡ n →
+          sub τ (spell (resolved k ns head) (node_at ns (head i))) ≡ value ns τ i
       go r (variable y) e =
           ap (λ (n : Node). sub τ (spell (resolved k ns head) n)) e ∙ sym (value_variable ns w τ (head i) y (inside i p) e) ∙ to_head
       go r (application f us) e =
-          ap (λ (n : Node). sub τ (spell (resolved k ns head) n)) e ∙ ap (app f) (subs_each τ (resolved k ns head) us) ∙ ap (app f) (each_same (λ a. sub τ (resolved k ns head a)) (value ns τ) us (λ a m. let q : order (head a) < order (head i) = s.falls i f us p e a m in r a (argument_inside i f us p e a m) (omega arith))) ∙ sym (value_application ns w τ (head i) f us (inside i p) e) ∙ to_head
+          ap (λ (n : Node). sub τ (spell (resolved k ns head) n)) e ∙ ap (app f) (subs_each τ (resolved k ns head) us) ∙
+          ap (app f) (each_same (λ a. sub τ (resolved k ns head a)) (value ns τ) us
+          (λ a m. let q : order (head a) < order (head i) = s.falls i f us p e a m in r a (argument_inside i f us p e a m) (omega arith))) ∙
+          sym (value_application ns w τ (head i) f us (inside i p) e) ∙ to_head
 
   module _ (k : ℕ) (enough : (i : ℕ) → i < length ns → order (head i) < k) where
     -- a node is its head, spelt out
@@ -115,13 +120,15 @@ module _ (ns : List Node) (w : WellFormed ns) (ps : List (ℕ × ℕ)) (h : Insi
     unfolding resolved
     resolved_node i p = let l : order (head i) < k = enough i p in resolved_same k (suc k) i p l (omega arith)
 
-    resolved_application : (i f : ℕ) (us : List ℕ) → i < length ns → node_at ns i ≡ application f us → app f (each (resolved k ns head) us) ≡ resolved k ns head i
+    resolved_application : (i f : ℕ) (us : List ℕ) → i < length ns → node_at ns i ≡ application f us →
+        app f (each (resolved k ns head) us) ≡ resolved k ns head i
     unfolding spell
     resolved_application i f us p e = go (s.closure.applications i f us p e)
       where
         go : HeadFits ns head i f us → app f (each (resolved k ns head) us) ≡ resolved k ns head i
         go x =
-            ap (app f) (each_equal (resolved k ns head) (resolved k ns head) us x.arguments x.as_long (λ a b m. resolved_head k ns head a b (x.one_head a b m))) ∙ sym (resolved_node i p ∙ ap (spell (resolved k ns head)) x.applied)
+            ap (app f) (each_equal (resolved k ns head) (resolved k ns head) us x.arguments x.as_long
+            (λ a b m. resolved_head k ns head a b (x.one_head a b m))) ∙ sym (resolved_node i p ∙ ap (spell (resolved k ns head)) x.applied)
 
     resolved_variable : (i x : ℕ) → i < length ns → node_at ns i ≡ variable x → solution k ns head x ≡ resolved k ns head i
     unfolding solution

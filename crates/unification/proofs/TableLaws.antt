@@ -63,7 +63,9 @@ module _ (t : List ℕ) (i : ℕ) (h : i < length (nodes_in t)) (g : Accepted t)
       rw (nodes_of_sections t) (section.section_variable (nodes_of t) (arguments_of t) (sections_of t g) i inside x)
 
   -- "Kind 1 is an application": of its name, to as many arguments as its count, which are the node's
-  pub application_read : (f : ℕ) (us : List ℕ) → node_at (nodes_in t) i ≡ application f us ↔ ((kind_of (nodes_of t) i ≡ 1) × (f ≡ name_of (nodes_of t) i) × (length us ≡ count_of (nodes_of t) i) × ((j : ℕ) → j < count_of (nodes_of t) i → get_or us j 0 ≡ argument_of (nodes_of t) (arguments_of t) i j))
+  pub application_read : (f : ℕ) (us : List ℕ) → node_at (nodes_in t) i ≡ application f us ↔
+      ((kind_of (nodes_of t) i ≡ 1) × (f ≡ name_of (nodes_of t) i) × (length us ≡ count_of (nodes_of t) i) ×
+      ((j : ℕ) → j < count_of (nodes_of t) i → get_or us j 0 ≡ argument_of (nodes_of t) (arguments_of t) i j))
   application_read f us =
       rw (nodes_of_sections t) (section.section_application (nodes_of t) (arguments_of t) (sections_of t g) i inside f us)
 

@@ -54,26 +54,31 @@ module _ (ns : List Node) (w : WellFormed ns) where
     where
       pick : (n : Node) → node_at ns j ≡ n → node_at ns j ≡ variable x
       pick (variable y) d =
-          let s : var x ≡ var y = sym (term_node ns w i t.first ∙ ap (spell (term_of ns)) e) ∙ t.equal ∙ term_node ns w j t.second ∙ ap (spell (term_of ns)) d in
+          let s : var x ≡ var y = sym (term_node ns w i t.first ∙ ap (spell (term_of ns)) e) ∙ t.equal ∙ term_node ns w j t.second ∙
+          ap (spell (term_of ns)) d in
           let z : y ≡ x = cc in
           d ∙ ap variable z
       pick (application f us) d =
-          let s : var x ≡ app f (each (term_of ns) us) = sym (term_node ns w i t.first ∙ ap (spell (term_of ns)) e) ∙ t.equal ∙ term_node ns w j t.second ∙ ap (spell (term_of ns)) d in
+          let s : var x ≡ app f (each (term_of ns) us) = sym (term_node ns w i t.first ∙ ap (spell (term_of ns)) e) ∙ t.equal ∙
+          term_node ns w j t.second ∙ ap (spell (term_of ns)) d in
           let z : ◌≡◌ {A = ℕ} 0 1 = cc in
           absurd (omega arith)
 
   -- a node of an application's term is an application of its symbol to arguments of the same terms
-  term_application : (i j f : ℕ) (us : List ℕ) → OneTerm ns i j → node_at ns i ≡ application f us → (vs : List ℕ) × (node_at ns j ≡ application f vs) × (each (term_of ns) us ≡ each (term_of ns) vs)
+  term_application : (i j f : ℕ) (us : List ℕ) → OneTerm ns i j → node_at ns i ≡ application f us → (vs : List ℕ) ×
+      (node_at ns j ≡ application f vs) × (each (term_of ns) us ≡ each (term_of ns) vs)
   unfolding spell
   term_application i j f us t e = pick (node_at ns j) refl
     where
       pick : (n : Node) → node_at ns j ≡ n → (vs : List ℕ) × (node_at ns j ≡ application f vs) × (each (term_of ns) us ≡ each (term_of ns) vs)
       pick (variable y) d =
-          let s : app f (each (term_of ns) us) ≡ var y = sym (term_node ns w i t.first ∙ ap (spell (term_of ns)) e) ∙ t.equal ∙ term_node ns w j t.second ∙ ap (spell (term_of ns)) d in
+          let s : app f (each (term_of ns) us) ≡ var y = sym (term_node ns w i t.first ∙ ap (spell (term_of ns)) e) ∙ t.equal ∙
+          term_node ns w j t.second ∙ ap (spell (term_of ns)) d in
           let z : ◌≡◌ {A = ℕ} 0 1 = cc in
           absurd (omega arith)
       pick (application g vs) d =
-          let s : app f (each (term_of ns) us) ≡ app g (each (term_of ns) vs) = sym (term_node ns w i t.first ∙ ap (spell (term_of ns)) e) ∙ t.equal ∙ term_node ns w j t.second ∙ ap (spell (term_of ns)) d in
+          let s : app f (each (term_of ns) us) ≡ app g (each (term_of ns) vs) = sym (term_node ns w i t.first ∙ ap (spell (term_of ns)) e) ∙
+          t.equal ∙ term_node ns w j t.second ∙ ap (spell (term_of ns)) d in
           let z : g ≡ f = cc in
           let y : each (term_of ns) us ≡ each (term_of ns) vs = cc in
           (vs, d ∙ ap (λ (k : ℕ). application k vs) z, y)
@@ -103,7 +108,8 @@ module _ (ns : List Node) (w : WellFormed ns) where
 
     module _ (n : Clash ns ps → ⊥) where
       -- joined applications have one symbol
-      one_symbol : (i j f g : ℕ) (us vs : List ℕ) → Joined ns ps i j → node_at ns i ≡ application f us → node_at ns j ≡ application g vs → OneSymbol f us g vs
+      one_symbol : (i j f g : ℕ) (us vs : List ℕ) → Joined ns ps i j → node_at ns i ≡ application f us → node_at ns j ≡ application g vs →
+          OneSymbol f us g vs
       one_symbol i j f g us vs q d e = go (ℕ_discrete f g) (ℕ_discrete (length us) (length vs))
         where
           go : Dec (f ≡ g) → Dec (length us ≡ length vs) → OneSymbol f us g vs
@@ -143,7 +149,12 @@ module _ (ns : List Node) (w : WellFormed ns) where
                     let u = t.first in
                     let v = t.second in
                     by_term {k = b} (by_joined {k = y.0} (m.chains a x.0 x.1) (arguments m.applied e o m.joins y.1))
-                    (record { first = omega (arith, p, u); second = omega (arith, q, v); equal = each_at (term_of ns) (term_of ns) vs r.0 r.2 y.0 b y.2 });
+                    (record {
+                      first = omega (arith, p, u);
+                      second = omega (arith, q, v);
+                      equal =
+                          each_at (term_of ns) (term_of ns) vs r.0 r.2 y.0 b y.2;
+                    });
               }
 
       -- what a chain from an application leads to is so joined
@@ -202,7 +213,8 @@ module _ (ns : List Node) (w : WellFormed ns) where
             n (different m.joins m.applied e (λ o. x (o.0, m.long ∙ o.1)))
 
 -- pairs that every substitution unifies do not change what a pair comes to
-pub outcome_together : (ns : List Node) → WellFormed ns → (a b : ℕ) → a < length ns → b < length ns → (qs : List (ℕ × ℕ)) → Inside ns qs → ((σ : Substitution) → Unifies ns qs σ) → outcome ns ((a, b) ∷ qs) ≡ outcome ns ((a, b) ∷ [])
+pub outcome_together : (ns : List Node) → WellFormed ns → (a b : ℕ) → a < length ns → b < length ns → (qs : List (ℕ × ℕ)) → Inside ns qs →
+    ((σ : Substitution) → Unifies ns qs σ) → outcome ns ((a, b) ∷ qs) ≡ outcome ns ((a, b) ∷ [])
 outcome_together ns w a b p q qs h u = pick (outcome ns ((a, b) ∷ [])) refl
   where
     one_inside : Inside ns ((a, b) ∷ [])
@@ -229,7 +241,8 @@ outcome_together ns w a b p q qs h u = pick (outcome ns ((a, b) ∷ [])) refl
         let s = (outcome_unified ns w ((a, b) ∷ []) one_inside).0 e in
         (outcome_unified ns w ((a, b) ∷ qs) all_inside).1 (s.0, all_unified s.0 s.1)
     pick clash e =
-        (outcome_clash ns w ((a, b) ∷ qs) all_inside).1 (more_clash ns ((a, b) ∷ []) ((a, b) ∷ qs) among ((outcome_clash ns w ((a, b) ∷ []) one_inside).0 e))
+        (outcome_clash ns w ((a, b) ∷ qs) all_inside).1
+        (more_clash ns ((a, b) ∷ []) ((a, b) ∷ qs) among ((outcome_clash ns w ((a, b) ∷ []) one_inside).0 e))
     pick occurs e =
         let o = (outcome_occurs ns w ((a, b) ∷ []) one_inside).0 e in
         (outcome_occurs ns w ((a, b) ∷ qs) all_inside).1

@@ -1,4 +1,5 @@
--- Nodes have one name exactly if they have one value, by induction on the order of a solved form. So the least nodes and variables by name are the words.
+-- Nodes have one name exactly if they have one value, by induction on the order of a solved form. So the least nodes and variables by name
+-- are the words.
 -- Assumes nothing.
 use Prim.Native.Nat.{ℕ, zero, suc, ◌<◌}
 use mathlib.Core.List.{List, Memᴰ, zip}
@@ -22,7 +23,8 @@ use Rattle.unification.proofs.NodeLaws.{each_long, each_at, each_equal, value_va
 use Rattle.unification.proofs.SolvedLaws.{closure_inside, joined_head, argument_inside, resolved_node, value_resolved, solution_most_general}
 use Rattle.unification.proofs.OutcomeLaws.{words_decided}
 
-module _ (ns : List Node) (w : WellFormed ns) (ps : List (ℕ × ℕ)) (h : Inside ns ps) (head order : ℕ → ℕ) (s : Solved ns ps head order) (k : ℕ) (enough : (i : ℕ) → i < length ns → order (head i) < k) (name : ℕ → ℕ) (v : Valued ns head name) where
+module _ (ns : List Node) (w : WellFormed ns) (ps : List (ℕ × ℕ)) (h : Inside ns ps) (head order : ℕ → ℕ) (s : Solved ns ps head order) (k : ℕ)
+    (enough : (i : ℕ) → i < length ns → order (head i) < k) (name : ℕ → ℕ) (v : Valued ns head name) where
   spelt : (i : ℕ) → i < length ns → (n : Node) → node_at ns (head i) ≡ n → resolved k ns head i ≡ spell (resolved k ns head) n
   spelt i p n e = resolved_node ns w ps h head order s k enough i p ∙ ap (spell (resolved k ns head)) e
 
@@ -49,16 +51,20 @@ module _ (ns : List Node) (w : WellFormed ns) (ps : List (ℕ × ℕ)) (h : Insi
     where
       there : resolved k ns head i ≡ resolved k ns head j → name i ≡ name j
       there c =
-          let t : app f (each (resolved k ns head) us) ≡ app g (each (resolved k ns head) vs) = sym (spelt i p (application f us) d) ∙ c ∙ spelt j q (application g vs) e in
+          let t : app f (each (resolved k ns head) us) ≡ app g (each (resolved k ns head) vs) = sym (spelt i p (application f us) d) ∙ c ∙
+          spelt j q (application g vs) e in
           let l : each (resolved k ns head) us ≡ each (resolved k ns head) vs = cc in
-          v.composed i j f g us vs p q d e (cc, each_long (resolved k ns head) (resolved k ns head) us vs l) (λ a b m. (ih a b m).0 (each_at (resolved k ns head) (resolved k ns head) us vs l a b m))
+          v.composed i j f g us vs p q d e (cc, each_long (resolved k ns head) (resolved k ns head) us vs l)
+          (λ a b m. (ih a b m).0 (each_at (resolved k ns head) (resolved k ns head) us vs l a b m))
 
       back_to : name i ≡ name j → resolved k ns head i ≡ resolved k ns head j
       back_to c =
           let t = v.taken_apart i j f g us vs p q d e c in
-          let l : each (resolved k ns head) us ≡ each (resolved k ns head) vs = each_equal (resolved k ns head) (resolved k ns head) us vs t.0.1 (λ a b m. (ih a b m).1 (t.1 a b m)) in
+          let l : each (resolved k ns head) us ≡ each (resolved k ns head) vs =
+          each_equal (resolved k ns head) (resolved k ns head) us vs t.0.1 (λ a b m. (ih a b m).1 (t.1 a b m)) in
           let y : f ≡ g = t.0.0 in
-          spelt i p (application f us) d ∙ ap (app f) l ∙ ap (λ (z : ℕ). app z (each (resolved k ns head) vs)) y ∙ sym (spelt j q (application g vs) e)
+          spelt i p (application f us) d ∙ ap (app f) l ∙ ap (λ (z : ℕ). app z (each (resolved k ns head) vs)) y ∙
+          sym (spelt j q (application g vs) e)
 
   same : (n i j : ℕ) → i < length ns → j < length ns → order (head i) < n → Said i j
   unfolding spell
@@ -107,7 +113,8 @@ module _ (ns : List Node) (w : WellFormed ns) (ps : List (ℕ × ℕ)) (h : Insi
   at_node : (i x : ℕ) → i < length ns → node_at ns i ≡ variable x → value ns (solution k ns head) i ≡ solution k ns head x
   at_node i x p e = value_variable ns w (solution k ns head) i x p e
 
-  by_head : (i x : ℕ) → i < length ns → node_at ns i ≡ variable x → (n : Node) → node_at ns (head i) ≡ n → solution k ns head x ≡ spell (resolved k ns head) n
+  by_head : (i x : ℕ) → i < length ns → node_at ns i ≡ variable x → (n : Node) → node_at ns (head i) ≡ n →
+      solution k ns head x ≡ spell (resolved k ns head) n
   by_head i x p e n d =
       sym (at_node i x p e) ∙ value_resolved ns w ps h head order s k enough i p ∙ spelt i p n d
 
@@ -121,7 +128,8 @@ module _ (ns : List Node) (w : WellFormed ns) (ps : List (ℕ × ℕ)) (h : Insi
         least = λ m b. l.least m (b.0, b.1, b.2, b.3, (values_named m i b.2 p).0 (b.4 ∙ sym (at_node i x p e)));
       })
     where
-      named : {j : ℕ} → NamedApplication ns name (name i) j → (g : ℕ) × (vs : List ℕ) × (j < length ns) × (node_at ns j ≡ application g vs) × (value ns (solution k ns head) j ≡ solution k ns head x)
+      named : {j : ℕ} → NamedApplication ns name (name i) j → (g : ℕ) × (vs : List ℕ) × (j < length ns) × (node_at ns j ≡ application g vs) ×
+          (value ns (solution k ns head) j ≡ solution k ns head x)
       named {j} (g, vs, q, c, n) = (g, vs, q, c, (values_named j i q p).1 n ∙ at_node i x p e)
   named_word x u (IsNamed.free {i} {z} {y} {w} p e d l m) =
       IsWord.free (by_head i x p e (variable z) d)

@@ -25,7 +25,8 @@ inserted : (x y : ℕ) (ys : List ℕ) → Inserted x y ys (insert x (y ∷ ys))
 unfolding insert
 inserted x y ys = pick (ltb x y) refl (eqb x y) refl
   where
-    pick : (a : Bool) → ltb x y ≡ a → (b : Bool) → eqb x y ≡ b → Inserted x y ys (cond (ltb x y) (x ∷ y ∷ ys) (cond (eqb x y) (y ∷ ys) (y ∷ insert x ys)))
+    pick : (a : Bool) → ltb x y ≡ a → (b : Bool) → eqb x y ≡ b →
+        Inserted x y ys (cond (ltb x y) (x ∷ y ∷ ys) (cond (eqb x y) (y ∷ ys) (y ∷ insert x ys)))
     pick true p b q = rw p (ahead (ltb-true x y p))
     pick false p true q = rw (p, q) (there (eqb-true x y q))
     pick false p false q =

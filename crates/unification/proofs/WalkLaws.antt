@@ -47,7 +47,8 @@ unfolding some_marked
 some_marked_lem ms [] e = absurd (false≢true e)
 some_marked_lem ms (u ∷ us) e = pick (marked ms u) refl (some_marked_lem ms us)
   where
-    pick : (b : Bool) → marked ms u ≡ b → (some_marked ms us ≡ true → (a : ℕ) × Memᴰ a us × (marked ms a ≡ true)) → (a : ℕ) × Memᴰ a (u ∷ us) × (marked ms a ≡ true)
+    pick : (b : Bool) → marked ms u ≡ b → (some_marked ms us ≡ true → (a : ℕ) × Memᴰ a us × (marked ms a ≡ true)) → (a : ℕ) × Memᴰ a (u ∷ us) ×
+        (marked ms a ≡ true)
     pick true z r = (u, Memᴰ.head refl, z)
     pick false z r = let s = r (rw z at e) in (s.0, Memᴰ.tail s.1, s.2)
 
@@ -130,8 +131,19 @@ module _ (ns : List Node) (w : WellFormed ns) (cs : List ℕ) where
       let t : Bool = eqb (class_of cs i) (class_of cs r.0) in
       let u : Bool = leads ms (node_at ns r.0) in
       let p = leads_where ms (node_at ns r.0) (and_true_right t u r.2) in
-      let m = some_marked_lem ms p.1 p.3 in
-      (m.0, record { node = r.0; node_inside = r.1; same_class = eqb-true _ _ (and_true_left t u r.2); name = p.0; arguments = p.1; applied = p.2; member = m.1 }, m.2)
+      let m = some_marked_lem ms p.1 p.3 in (
+        m.0,
+        record {
+          node = r.0;
+          node_inside = r.1;
+          same_class = eqb-true _ _ (and_true_left t u r.2);
+          name = p.0;
+          arguments = p.1;
+          applied = p.2;
+          member = m.1;
+        },
+        m.2,
+      )
 
   step_walk : (k i a : ℕ) → i < length ns → Step ns cs i a → Walk k a → Walk (suc k) i
   unfolding walks leads_from leads_at leads
@@ -146,7 +158,8 @@ module _ (ns : List Node) (w : WellFormed ns) (cs : List ℕ) where
   walks_same zero i j h l e = walk_none i h ∙ sym (walk_none j l)
   walks_same (suc k) i j h l e =
       let ms : List Bool = walks k ns cs in
-      let q : leads_from ns cs ms i ≡ leads_from ns cs ms j = ap (λ (c : ℕ). some_below (length ns) (λ (m : ℕ). eqb c (class_of cs m) && leads ms (node_at ns m))) e in
+      let q : leads_from ns cs ms i ≡ leads_from ns cs ms j =
+      ap (λ (c : ℕ). some_below (length ns) (λ (m : ℕ). eqb c (class_of cs m) && leads ms (node_at ns m))) e in
       tabulate_at (length ns) (leads_from ns cs ms) false i h ∙ q ∙ sym (tabulate_at (length ns) (leads_from ns cs ms) false j l)
 
   -- a walk without its last step
@@ -185,7 +198,8 @@ module _ (ns : List Node) (w : WellFormed ns) (cs : List ℕ) where
       greatest_same (λ (k : ℕ). marked (walks k ns cs) i) (λ (k : ℕ). marked (walks k ns cs) j) (length ns) (λ k. walks_same k i j h l e)
 
   -- where there is no cycle, an argument's walks are shorter
-  pub argument_shorter : cyclic ns cs ≡ false → (i j f : ℕ) (us : List ℕ) → i < length ns → j < length ns → class_of cs i ≡ class_of cs j → node_at ns j ≡ application f us → (a : ℕ) → Memᴰ a us → longest ns cs a < longest ns cs i
+  pub argument_shorter : cyclic ns cs ≡ false → (i j f : ℕ) (us : List ℕ) → i < length ns → j < length ns → class_of cs i ≡ class_of cs j →
+      node_at ns j ≡ application f us → (a : ℕ) → Memᴰ a us → longest ns cs a < longest ns cs i
   unfolding longest cyclic
   argument_shorter c i j f us h l e q a m =
       let k : ℕ = longest ns cs a in
@@ -232,7 +246,15 @@ module _ (ns : List Node) (w : WellFormed ns) (ps : List (ℕ × ℕ)) (cs : Lis
   -- one more step than the walk from where i reaches
   reaches_walk : (k : ℕ) {i j : ℕ} → Reaches ns ps i j → marked (walks k ns cs) j ≡ true → marked (walks (suc k) ns cs) i ≡ true
   reaches_walk k (step {i = i} {j = j} {k = n} {f = f} {a = a} {us = us} p q m r) e =
-      let s : Step ns cs i a = record { node = j; node_inside = (inside i j p).1; same_class = from i j p; name = f; arguments = us; applied = q; member = m } in
+      let s : Step ns cs i a = record {
+        node = j;
+        node_inside = (inside i j p).1;
+        same_class = from i j p;
+        name = f;
+        arguments = us;
+        applied = q;
+        member = m;
+      } in
       let b = inside a n r in
       step_walk ns w cs k i a (inside i j p).0 s (walks_same ns w cs k a n b.0 b.1 (from a n r) ∙ e)
   reaches_walk k (steps {j = j} p q) e = reaches_walk k p (walk_less ns w cs k j (reaches_inside q) (reaches_walk k q e))

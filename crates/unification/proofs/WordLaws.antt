@@ -114,7 +114,8 @@ module _ (ns : List Node) (σ : Substitution) (held : Held ns σ) where
       free e
       (record {
         holds = (y_present, y_value);
-        least = λ m b. first_least (has_value σ (var z)) 0 (variables_of ns) (variables_rise ns) m (present_variables ns m b.0) (ap (λ (t : Term). equal t (var z)) (b.1 ∙ e) ∙ equal_refl (var z));
+        least = λ m b. first_least (has_value σ (var z)) 0 (variables_of ns) (variables_rise ns) m (present_variables ns m b.0)
+            (ap (λ (t : Term). equal t (var z)) (b.1 ∙ e) ∙ equal_refl (var z));
       })
       (node_of_lem ns (first_with (has_value σ (var z)) 0 (variables_of ns)) y_present)
     where
@@ -138,7 +139,8 @@ module _ (ns : List Node) (σ : Substitution) (held : Held ns σ) where
       let b : is_bound_to ns σ (app f ts) h.0 ≡ true = bound_true ns σ (app f ts) h.0 (rw e at h.1) in
       bound {w = least_node ns (is_bound_to ns σ (app f ts))} e
       (record {
-        holds = rw e (true_bound ns σ (app f ts) _ (least_below ns (is_bound_to ns σ (app f ts)) h.0 p b) (least_has ns (is_bound_to ns σ (app f ts)) h.0 p b));
+        holds = rw e (true_bound ns σ (app f ts) _ (least_below ns (is_bound_to ns σ (app f ts)) h.0 p b)
+            (least_has ns (is_bound_to ns σ (app f ts)) h.0 p b));
         least = λ m c. least_least ns (is_bound_to ns σ (app f ts)) m c.2 (bound_true ns σ (app f ts) m (rw e at c));
       })
 
@@ -165,7 +167,8 @@ module _ (ns : List Node) (σ : Substitution) (held : Held ns σ) where
   pub words_read : Lowest ns σ → Reads ns (binding_words ns σ) σ
   words_read low = matched_map (λ x v m a. reads_word low x v (variables_present ns x m) a) words_computed
 
-module _ (ns : List Node) (w : WellFormed ns) (ps : List (ℕ × ℕ)) (h : Inside ns ps) (head order : ℕ → ℕ) (s : Solved ns ps head order) (k : ℕ) (enough : (i : ℕ) → i < length ns → order (head i) < k) where
+module _ (ns : List Node) (w : WellFormed ns) (ps : List (ℕ × ℕ)) (h : Inside ns ps) (head order : ℕ → ℕ) (s : Solved ns ps head order) (k : ℕ)
+    (enough : (i : ℕ) → i < length ns → order (head i) < k) where
   -- the variable's node, and what its head is
   at : (x : ℕ) → Present ns x → node_of ns x < length ns
   at x q = (node_of_lem ns x q).holds.0
@@ -192,7 +195,8 @@ module _ (ns : List Node) (w : WellFormed ns) (ps : List (ℕ × ℕ)) (h : Insi
           d ∙ ap variable b
       go (application f us) d = not_both (solution k ns head x) f z _ (spelt x q ∙ ap (spell (resolved k ns head)) d) e
 
-  head_application : (x f : ℕ) (ts : Terms) → Present ns x → solution k ns head x ≡ app f ts → BoundTo ns (solution k ns head) (solution k ns head x) (head (node_of ns x))
+  head_application : (x f : ℕ) (ts : Terms) → Present ns x → solution k ns head x ≡ app f ts →
+      BoundTo ns (solution k ns head) (solution k ns head x) (head (node_of ns x))
   unfolding spell
   head_application x f ts q e = go (node_at ns (head (node_of ns x))) refl
     where
@@ -205,7 +209,8 @@ module _ (ns : List Node) (w : WellFormed ns) (ps : List (ℕ × ℕ)) (h : Insi
   solution_held x f ts q e = (head (node_of ns x), head_application x f ts q e)
 
   -- and what reading them asks, where a variable that is a head is the lowest of its class
-  pub solution_lowest : ((i x y : ℕ) → i < length ns → node_at ns i ≡ variable x → node_at ns (head i) ≡ variable y → y ≤ x) → Lowest ns (solution k ns head)
+  pub solution_lowest : ((i x y : ℕ) → i < length ns → node_at ns i ≡ variable x → node_at ns (head i) ≡ variable y → y ≤ x) →
+      Lowest ns (solution k ns head)
   solution_lowest lowest x z q e =
       let d = head_variable x z q e in
       let i = closure_inside ns w ps h head s.closure (node_of ns x) (at x q) in

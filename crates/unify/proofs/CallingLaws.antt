@@ -80,7 +80,8 @@ module _ (t : List ℕ) (a b : ℕ) where
             ))
 
     -- and so are the lent words
-    accepted_words : (lent : List ℕ) → lent_after t a b lent ≡ words_after (called (nodes_in t) a b (length lent)) (words_of (nodes_in t) ((a, b) ∷ []))
+    accepted_words : (lent : List ℕ) → lent_after t a b lent
+        ≡ words_after (called (nodes_in t) a b (length lent)) (words_of (nodes_in t) ((a, b) ∷ []))
         lent
     unfolding lent_after
     accepted_words lent = rw (accepted_table (length lent))

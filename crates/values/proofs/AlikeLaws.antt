@@ -53,7 +53,8 @@ module _ {nodes arguments heads names : List ℕ} where
 -- Two lists of names agree on the arguments of node h.
 abbrev pub NamesKept : List ℕ → List ℕ → List ℕ → List ℕ → List ℕ → ℕ → Type 0
 NamesKept nodes arguments heads names news h =
-    (j : ℕ) → j < count_of nodes h → value_name heads news (argument_of nodes arguments h j) ≡ value_name heads names (argument_of nodes arguments h j)
+    (j : ℕ) → j < count_of nodes h → value_name heads news (argument_of nodes arguments h j)
+    ≡ value_name heads names (argument_of nodes arguments h j)
 
 -- The key depends on the names of arguments.
 module _ (nodes arguments heads names heads' names' : List ℕ) (h : ℕ)

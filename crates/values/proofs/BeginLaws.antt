@@ -47,14 +47,21 @@ open_on o p =
     record { size = p.size ∙ o.size; counted = p.counted; gathered = p.gathered; fewer = p.fewer; behind = λ k h. p.behind k h ∙ o.behind k h }
 
 -- all nodes are gone over
-pub shared_all : (nodes arguments counts₀ least buckets earlier heads next counts : List ℕ) (opens past i n : ℕ) → n ≡ node_count nodes → i ≤ n → n ≤ i →
+pub shared_all : (nodes arguments counts₀ least buckets earlier heads next counts : List ℕ) (opens past i n : ℕ) → n ≡ node_count nodes → i ≤ n →
+    n ≤ i →
     Sharing nodes arguments heads buckets earlier i → LeastBefore nodes least i past → CirclesBefore heads next i →
     OpenBefore nodes arguments counts₀ counts opens i →
-    HeadsBefore nodes arguments heads (node_count nodes) × ((LeastBefore nodes least (node_count nodes) past × CirclesBefore heads next (node_count nodes)) ×
+    HeadsBefore nodes arguments heads (node_count nodes) ×
+    ((LeastBefore nodes least (node_count nodes) past × CirclesBefore heads next (node_count nodes)) ×
     OpenBefore nodes arguments counts₀ counts opens (node_count nodes))
 shared_all nodes arguments counts₀ least buckets earlier heads next counts opens past i n e a b s l c o =
-    let q : node_count nodes ≡ i = omega arith in
-    (subst (HeadsBefore nodes arguments heads) (sym q) s.before, ((subst (λ (k : ℕ). LeastBefore nodes least k past) (sym q) l, subst (CirclesBefore heads next) (sym q) c), subst (OpenBefore nodes arguments counts₀ counts opens) (sym q) o))
+    let q : node_count nodes ≡ i = omega arith in (
+      subst (HeadsBefore nodes arguments heads) (sym q) s.before,
+      (
+        (subst (λ (k : ℕ). LeastBefore nodes least k past) (sym q) l, subst (CirclesBefore heads next) (sym q) c),
+        subst (OpenBefore nodes arguments counts₀ counts opens) (sym q) o,
+      ),
+    )
 
 -- at first no node has a head, and the table is empty
 pub sharing_none : (nodes arguments heads : List ℕ) → Sections nodes arguments → length heads ≡ node_count nodes →
@@ -96,7 +103,8 @@ open_kept nodes arguments counts counts' opens s o k =
       counted = counts_kept nodes arguments counts counts' (node_count nodes) (omega arith) k.long early o.counted;
       gathered =
           gathered_same (IsOpen counts) (IsOpen counts') 256 counts counts' opens (node_count nodes) (λ j h q. rw (early j h) q)
-          (λ j h q. let e = early j h in omega (arith, e, q)) (λ p h. k.before (256 + p) (let f = o.fewer in let z = s.limit in omega (arith, h, f, z)))
+          (λ j h q. let e = early j h in omega (arith, e, q))
+          (λ p h. k.before (256 + p) (let f = o.fewer in let z = s.limit in omega (arith, h, f, z)))
           o.gathered;
       fewer = o.fewer;
       behind = λ j h. refl;

@@ -11,7 +11,8 @@ use Rattle.table.specs.Layout.{word}
 use Rattle.values.specs.Code.Naming.{keys, Chained}
 
 -- The table after place p by other names that keep the representatives before p and their keys.
-module _ (old new : ℕ → Type 0) (old-key new-key : ℕ → ℕ) (buckets earlier : List ℕ) (p : ℕ) (kept : (q : ℕ) → q < p → old q → new q) (was : (q : ℕ) → q < p → new q → old q) (one_key : (q : ℕ) → q < p → new-key q ≡ old-key q) (s : Chained old old-key buckets earlier p) where
+module _ (old new : ℕ → Type 0) (old-key new-key : ℕ → ℕ) (buckets earlier : List ℕ) (p : ℕ) (kept : (q : ℕ) → q < p → old q → new q)
+    (was : (q : ℕ) → q < p → new q → old q) (one_key : (q : ℕ) → q < p → new-key q ≡ old-key q) (s : Chained old old-key buckets earlier p) where
   -- the table before p stays
   pub chained_same : Chained new new-key buckets earlier p
   chained_same =
@@ -45,7 +46,8 @@ module _ (old new : ℕ → Type 0) (old-key new-key : ℕ → ℕ) (buckets ear
       not_last q h r = let d : q ≡ p → ⊥ = λ e. n (rw e at r) in omega (arith, d)
 
   -- a representative stands at p, and is put in front of those with its key
-  pub chained_add : (x : ℕ) → new p → new-key p ≡ x → x < keys → length buckets ≡ keys → p < length earlier → Chained new new-key (set buckets x (p + 1)) (set earlier p (word buckets x)) (p + 1)
+  pub chained_add : (x : ℕ) → new p → new-key p ≡ x → x < keys → length buckets ≡ keys → p < length earlier →
+      Chained new new-key (set buckets x (p + 1)) (set earlier p (word buckets x)) (p + 1)
   chained_add x here k kx bl ll =
       record {
         bucket_reaches = bucket_reaching;
@@ -86,7 +88,8 @@ module _ (old new : ℕ → Type 0) (old-key new-key : ℕ → ℕ) (buckets ear
           let t = s.bucket_is y b h (sym (bucket_other y n) ∙ e) in
           (omega (arith, t.0), kept b t.0 t.1, one_key b t.0 ∙ t.2)
 
-      earlier_reaching : (r q : ℕ) → r < q → q < p + 1 → new r → new q → new-key r ≡ new-key q → Dec (q ≡ p) → r < word (set earlier p (word buckets x)) q
+      earlier_reaching : (r q : ℕ) → r < q → q < p + 1 → new r → new q → new-key r ≡ new-key q → Dec (q ≡ p) →
+          r < word (set earlier p (word buckets x)) q
       earlier_reaching r q l h rr rq e (yes z) =
           let m : r < p = omega arith in
           let f : old-key r ≡ x = sym (one_key r m) ∙ e ∙ ap new-key z ∙ k in
@@ -97,7 +100,8 @@ module _ (old new : ℕ → Type 0) (old-key new-key : ℕ → ℕ) (buckets ear
           let o : r < p = omega arith in
           rw (earlier_other q n) (s.earlier_reaches r q l m (was r o rr) (was q m rq) (sym (one_key r o) ∙ e ∙ one_key q m))
 
-      earlier_being : (q b : ℕ) → q < p + 1 → new q → word (set earlier p (word buckets x)) q ≡ suc b → Dec (q ≡ p) → (b < q) × new b × (new-key b ≡ new-key q)
+      earlier_being : (q b : ℕ) → q < p + 1 → new q → word (set earlier p (word buckets x)) q ≡ suc b → Dec (q ≡ p) → (b < q) × new b ×
+          (new-key b ≡ new-key q)
       earlier_being q b h r e (yes z) =
           let f : word buckets x ≡ suc b = sym earlier_here ∙ ap (word (set earlier p (word buckets x))) (sym z) ∙ e in
           let t = s.bucket_is x b kx f in

@@ -124,7 +124,8 @@ module _ (heads next : List ℕ) (i : ℕ) (b : i < length heads) (few : length 
     put_here : word put i ≡ word next h
     put_here =
         let l = c.size in
-        get_or-set_other (set next i (word next h)) h i i 0 (λ z. omega (arith, z, head-before)) ∙ get_or-set_same next i (word next h) 0 (omega (arith, l, few))
+        get_or-set_other (set next i (word next h)) h i i 0 (λ z. omega (arith, z, head-before)) ∙
+        get_or-set_same next i (word next h) 0 (omega (arith, l, few))
 
     put_other : (k : ℕ) → k < i → (k ≡ h → ⊥) → word put k ≡ word next k
     put_other k l n =
@@ -153,7 +154,8 @@ module _ (heads next : List ℕ) (i : ℕ) (b : i < length heads) (few : length 
           same = λ k l. same_at k l (ℕ_discrete k i) (ℕ_discrete k h);
           around = λ j k l m q. around_at j k l m q (ℕ_discrete j i) (ℕ_discrete k i);
           clear = λ k l.
-              get_or-set_other (set next i (word next h)) h k i 0 (λ z. omega (arith, z, l, head-before, few)) ∙ get_or-set_other next i k (word next h) 0 (λ z. omega (arith, z, l, few)) ∙ c.clear k l;
+              get_or-set_other (set next i (word next h)) h k i 0 (λ z. omega (arith, z, l, head-before, few)) ∙
+              get_or-set_other next i k (word next h) 0 (λ z. omega (arith, z, l, few)) ∙ c.clear k l;
         }
       where
         below_at : (k : ℕ) → k < i + 1 → Dec (k ≡ i) → Dec (k ≡ h) → word put k < i + 1

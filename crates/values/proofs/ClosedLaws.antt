@@ -33,7 +33,8 @@ module _ (nodes arguments : List ℕ) (s : Sections nodes arguments) (counts : L
   applied_same : (i j : ℕ) → i < node_count nodes → j < node_count nodes → (kind_of nodes i ≡ 0 → ⊥) → value ns var i ≡ value ns var j →
       kind_of nodes j ≡ 0 → ⊥
   applied_same i j h l k e z =
-      let d : app (name_of nodes i) (each (value ns var) (run nodes arguments i)) ≡ var (name_of nodes j) = sym (term i h k) ∙ e ∙ value_variable ns w var j (name_of nodes j) (is_node nodes arguments j l) (variable_from nodes arguments j l z) in
+      let d : app (name_of nodes i) (each (value ns var) (run nodes arguments i)) ≡ var (name_of nodes j) = sym (term i h k) ∙ e ∙
+      value_variable ns w var j (name_of nodes j) (is_node nodes arguments j l) (variable_from nodes arguments j l z) in
       let y : ◌≡◌ {A = ℕ} 0 1 = cc in
       omega arith
 
@@ -46,13 +47,17 @@ module _ (nodes arguments : List ℕ) (s : Sections nodes arguments) (counts : L
   same_arguments : (i j : ℕ) → i < node_count nodes → j < node_count nodes → (kind_of nodes i ≡ 0 → ⊥) → (kind_of nodes j ≡ 0 → ⊥) →
       value ns var i ≡ value ns var j → SameArguments i j
   same_arguments i j h l k m e =
-      let d : app (name_of nodes i) (each (value ns var) (run nodes arguments i)) ≡ app (name_of nodes j) (each (value ns var) (run nodes arguments j)) = sym (term i h k) ∙ e ∙ term j l m in
+      let d : app (name_of nodes i) (each (value ns var) (run nodes arguments i))
+      ≡ app (name_of nodes j) (each (value ns var) (run nodes arguments j)) = sym (term i h k) ∙ e ∙ term j l m in
       let a : each (value ns var) (run nodes arguments i) ≡ each (value ns var) (run nodes arguments j) = cc in
-      let n : count_of nodes i ≡ count_of nodes j = sym (run_long nodes arguments s i h) ∙ each_long (value ns var) (value ns var) (run nodes arguments i) (run nodes arguments j) a ∙ run_long nodes arguments s j l in
+      let n : count_of nodes i ≡ count_of nodes j = sym (run_long nodes arguments s i h) ∙
+      each_long (value ns var) (value ns var) (run nodes arguments i) (run nodes arguments j) a ∙ run_long nodes arguments s j l in
       record {
         count = n;
         same =
-            λ q b. each_at (value ns var) (value ns var) (run nodes arguments i) (run nodes arguments j) a (argument_of nodes arguments i q) (argument_of nodes arguments j q) ((pair_place nodes arguments s i j h l (argument_of nodes arguments i q) (argument_of nodes arguments j q)).1 (q, rw n b, b, refl, refl));
+            λ q b. each_at (value ns var) (value ns var) (run nodes arguments i) (run nodes arguments j) a (argument_of nodes arguments i q)
+            (argument_of nodes arguments j q) ((pair_place nodes arguments s i j h l (argument_of nodes arguments i q)
+            (argument_of nodes arguments j q)).1 (q, rw n b, b, refl, refl));
       }
 
   -- a node of the term of a closed application is one
@@ -80,7 +85,8 @@ module _ (nodes arguments : List ℕ) (s : Sections nodes arguments) (counts : L
   -- closed heads, where heads are not after their nodes and nodes have one head exactly if they have one term
   pub heads_closed : (heads : List ℕ) → Partition (node_count nodes) heads → ((i : ℕ) → i < node_count nodes → class_of heads i ≤ i) →
       ((i : ℕ) → i < node_count nodes → value (nodes_from nodes arguments) var i ≡ value (nodes_from nodes arguments) var (class_of heads i)) →
-      ((i j : ℕ) → i < node_count nodes → j < node_count nodes → value (nodes_from nodes arguments) var i ≡ value (nodes_from nodes arguments) var j → class_of heads i ≡ class_of heads j) →
+      ((i j : ℕ) → i < node_count nodes → j < node_count nodes →
+      value (nodes_from nodes arguments) var i ≡ value (nodes_from nodes arguments) var j → class_of heads i ≡ class_of heads j) →
       ClosedHeads nodes arguments counts heads
   heads_closed heads p low valued shared =
       record {

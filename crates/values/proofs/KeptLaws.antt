@@ -31,7 +31,8 @@ module _ (P : ℕ → Type 0) (slot value : ℕ → ℕ) (n : ℕ) where
       after j a p = let d : j ≡ i → ⊥ = λ e. never (rw e at p) in omega (arith, d)
 
   -- place i is written
-  pub kept_set : (i : ℕ) (by : List ℕ) → i < n → P i → slot i < length by → Kept P slot value (suc i) n by → Kept P slot value i n (set by (slot i) (value i))
+  pub kept_set : (i : ℕ) (by : List ℕ) → i < n → P i → slot i < length by → Kept P slot value (suc i) n by →
+      Kept P slot value i n (set by (slot i) (value i))
   kept_set i by h p l r = record { kept = λ j a b q. go j a b q (ℕ_discrete (slot j) (slot i)) }
     where
       here : (s : ℕ) → s ≡ slot i → word (set by (slot i) (value i)) s ≡ value i
@@ -45,5 +46,8 @@ module _ (P : ℕ → Type 0) (slot value : ℕ → ℕ) (n : ℕ) where
       go j a b q (yes e) =
           (i, record { holds = (omega arith, h, p, sym e); least = λ k w. w.0 }, here (slot j) e)
       go j a b q (no d) =
-          let t = r.kept j (after j a d) b q in
-          (t.0, record { holds = wider i (slot j) t.0 t.1.holds; least = λ k w. t.1.least k (after k w.0 (λ e. d (sym w.3 ∙ e)), w.1, w.2, w.3) }, get_or-set_other by (slot i) (slot j) (value i) 0 d ∙ t.2)
+          let t = r.kept j (after j a d) b q in (
+            t.0,
+            record { holds = wider i (slot j) t.0 t.1.holds; least = λ k w. t.1.least k (after k w.0 (λ e. d (sym w.3 ∙ e)), w.1, w.2, w.3) },
+            get_or-set_other by (slot i) (slot j) (value i) 0 d ∙ t.2,
+          )

@@ -322,7 +322,8 @@ selected_map : (p : ℕ → Bool) (f : ℕ → ℕ) (x : ℕ) → gather x (λ y
 unfolding selected gather
 selected_map p f zero = refl
 selected_map p f (suc x) =
-    ap (λ (l : List ℕ). l ++ cond (p x) (f x ∷ []) []) (selected_map p f x) ∙ ap (λ (l : List ℕ). map f (selected p x) ++ l) (last (p x)) ∙ sym (map-append f (selected p x) (cond (p x) (x ∷ []) []))
+    ap (λ (l : List ℕ). l ++ cond (p x) (f x ∷ []) []) (selected_map p f x) ∙ ap (λ (l : List ℕ). map f (selected p x) ++ l) (last (p x)) ∙
+    sym (map-append f (selected p x) (cond (p x) (x ∷ []) []))
   where
     last : (b : Bool) → cond b (f x ∷ []) [] ≡ map f (cond b (x ∷ []) [])
     last true = refl
@@ -342,7 +343,8 @@ module _ (nodes arguments : List ℕ) (s : Sections nodes arguments) (least : Li
       go (yes p) = p
       go (no d) =
           let q : word least x < node_count nodes = ltb-true _ _ e in
-          let z : word least x ≡ node_count nodes = l.right x b ∙ node_of_none (nodes_from nodes arguments) x (λ i h v. d (i, h, v)) ∙ nodes_long nodes arguments in
+          let z : word least x ≡ node_count nodes = l.right x b ∙ node_of_none (nodes_from nodes arguments) x (λ i h v. d (i, h, v)) ∙
+          nodes_long nodes arguments in
           absurd (omega arith)
 
   present_has : (x : ℕ) → Present (nodes_from nodes arguments) x → (x < variable_names) × (has x ≡ true)
@@ -352,7 +354,8 @@ module _ (nodes arguments : List ℕ) (s : Sections nodes arguments) (least : Li
       let r = (section_variable nodes arguments s i g x).0 v in
       let b = s.variable_name i g r.0 in
       let y : x < variable_names = omega (arith, r.1) in
-      let c : node_of (nodes_from nodes arguments) x < node_count nodes = rw (nodes_long nodes arguments) at (node_of_lem (nodes_from nodes arguments) x (i, h, v)).holds.0 in
+      let c : node_of (nodes_from nodes arguments) x < node_count nodes =
+      rw (nodes_long nodes arguments) at (node_of_lem (nodes_from nodes arguments) x (i, h, v)).holds.0 in
       (y, lt-ltb (word least x) (node_count nodes) (rw (l.right x y) c))
 
   -- the variables present are those with a node
@@ -361,7 +364,10 @@ module _ (nodes arguments : List ℕ) (s : Sections nodes arguments) (least : Li
       variables_one (nodes_from nodes arguments) (selected has variable_names)
       (record {
         rising = selected_rises has variable_names;
-        present = λ x. ((λ m. let r = selected_from has variable_names x m in has_present x r.0 r.1), (λ p. let r = present_has x p in selected_member has variable_names x r.0 r.1));
+        present = λ x. (
+          (λ m. let r = selected_from has variable_names x m in has_present x r.0 r.1),
+          (λ p. let r = present_has x p in selected_member has variable_names x r.0 r.1),
+        );
       })
 
   -- their least nodes, in rising order of variable number

@@ -43,12 +43,15 @@ module _ (nodes arguments heads names : List ℕ) (s : Sections nodes arguments)
   alike g h f f' us vs a b d e (y, l) n =
       let q = from_application nodes arguments g a f us d in
       let r = from_application nodes arguments h b f' vs e in
-      let c : count_of nodes g ≡ count_of nodes h = sym (run_long nodes arguments s g a) ∙ ap length (sym q.2) ∙ l ∙ ap length r.2 ∙ run_long nodes arguments s h b in
+      let c : count_of nodes g ≡ count_of nodes h = sym (run_long nodes arguments s g a) ∙ ap length (sym q.2) ∙ l ∙ ap length r.2 ∙
+      run_long nodes arguments s h b in
       record {
         name = sym q.1 ∙ y ∙ r.1;
         count = c;
         per_argument =
-            λ j i. n (argument_of nodes arguments g j) (argument_of nodes arguments h j) (rw (q.2, r.2) ((pair_place nodes arguments s g h a b (argument_of nodes arguments g j) (argument_of nodes arguments h j)).1 (j, i, rw c at i, refl, refl)));
+            λ j i. n (argument_of nodes arguments g j) (argument_of nodes arguments h j)
+            (rw (q.2, r.2) ((pair_place nodes arguments s g h a b (argument_of nodes arguments g j) (argument_of nodes arguments h j)).1
+            (j, i, rw c at i, refl, refl)));
       }
 
   -- and the other way round
@@ -58,7 +61,8 @@ module _ (nodes arguments heads names : List ℕ) (s : Sections nodes arguments)
   same_names g h f f' us vs a b d e t =
       let q = from_application nodes arguments g a f us d in
       let r = from_application nodes arguments h b f' vs e in
-      let l : length us ≡ length vs = ap length q.2 ∙ run_long nodes arguments s g a ∙ t.count ∙ sym (run_long nodes arguments s h b) ∙ ap length (sym r.2) in
+      let l : length us ≡ length vs = ap length q.2 ∙ run_long nodes arguments s g a ∙ t.count ∙ sym (run_long nodes arguments s h b) ∙
+      ap length (sym r.2) in
       ((q.1 ∙ t.name ∙ sym r.1, l), λ x y k. at x y ((pair_place nodes arguments s g h a b x y).0 (rw (q.2, r.2) at k)))
     where
       at : (x y : ℕ) →
@@ -99,12 +103,15 @@ head_alike nodes arguments heads names s p ps c i h n =
     let x = c.applications i (name_of nodes i) (run nodes arguments i) (is_node nodes arguments i h) (application_from nodes arguments i h n) in
     let b = p.below i h in
     let q = from_application nodes arguments (class_of heads i) b (name_of nodes i) x.arguments x.applied in
-    let l : count_of nodes i ≡ count_of nodes (class_of heads i) = sym (run_long nodes arguments s i h) ∙ x.as_long ∙ ap length q.2 ∙ run_long nodes arguments s (class_of heads i) b in (
+    let l : count_of nodes i ≡ count_of nodes (class_of heads i) = sym (run_long nodes arguments s i h) ∙ x.as_long ∙ ap length q.2 ∙
+    run_long nodes arguments s (class_of heads i) b in (
       q.0,
       record {
         name = q.1;
         count = l;
         per_argument =
-            λ j k. ap (word names) (x.one_head (argument_of nodes arguments i j) (argument_of nodes arguments (class_of heads i) j) (rw q.2 ((pair_place nodes arguments s i (class_of heads i) h b (argument_of nodes arguments i j) (argument_of nodes arguments (class_of heads i) j)).1 (j, k, rw l at k, refl, refl))));
+            λ j k. ap (word names) (x.one_head (argument_of nodes arguments i j) (argument_of nodes arguments (class_of heads i) j)
+            (rw q.2 ((pair_place nodes arguments s i (class_of heads i) h b (argument_of nodes arguments i j)
+            (argument_of nodes arguments (class_of heads i) j)).1 (j, k, rw l at k, refl, refl))));
       },
     )

@@ -142,7 +142,8 @@ module _ (nodes arguments heads order : List ℕ) (o : Nameable nodes arguments 
           buckets_long = s.buckets_long;
           earlier_long = s.earlier_long;
           named = named_next names v s.named t;
-          chained = chained_skip _ _ _ _ buckets earlier p (representative_kept names v) (representative_was names v) (key_at_kept names v) s.chained n;
+          chained = chained_skip _ _ _ _ buckets earlier p (representative_kept names v) (representative_was names v) (key_at_kept names v) s.chained
+              n;
         }
 
     -- a variable is named by itself
@@ -163,7 +164,8 @@ module _ (nodes arguments heads order : List ℕ) (o : Nameable nodes arguments 
       naming_found c b f e =
           let u = f.found b e in
           let same = same_names names (word order b) in
-          let other : Representative nodes order (news names (word order b)) p → ⊥ = λ r. o.once b p u.0 inside (sym (named_same (word order b)) ∙ r.itself) in
+          let other : Representative nodes order (news names (word order b)) p → ⊥ =
+          λ r. o.once b p u.0 inside (sym (named_same (word order b)) ∙ r.itself) in
           naming_skip (word order b)
           (record {
             variable = λ z. absurd (n z);
@@ -201,7 +203,8 @@ module _ (nodes arguments heads order : List ℕ) (o : Nameable nodes arguments 
                 alike = alike_same (word order p);
               };
               apart =
-                  λ q h x y a. f.nothing refl q h (representative_was names (word order p) q h x) (alike_was nodes arguments heads names _ (same q (omega arith)) (same p (omega arith)) a);
+                  λ q h x y a. f.nothing refl q h (representative_was names (word order p) q h x)
+                  (alike_was nodes arguments heads names _ (same q (omega arith)) (same p (omega arith)) a);
             });
             chained =
                 chained_add _ _ _ _ buckets earlier p (representative_kept names (word order p)) (representative_was names (word order p))
@@ -299,7 +302,8 @@ module _ (nodes arguments heads order names : List ℕ) (o : Nameable nodes argu
   named_variable i (at (q, l, e)) k = ap (word names) (sym e) ∙ s.variable q l (rw e k) ∙ e
   named_variable i (outside b) k = b.itself
 
-  named_node : (i : ℕ) → i < node_count nodes → PlacedOrBare i → Dec (kind_of nodes (class_of heads i) ≡ 0) → value_name heads names i < node_count nodes
+  named_node : (i : ℕ) → i < node_count nodes → PlacedOrBare i → Dec (kind_of nodes (class_of heads i) ≡ 0) →
+      value_name heads names i < node_count nodes
   named_node i h x (yes k) = rw (named_variable i x k) (t.below i h)
   named_node i h (at p) (no n) =
       let t = class_named i p n in
@@ -400,6 +404,8 @@ naming_end nodes arguments heads order names buckets earlier p s l m =
     named_end nodes arguments heads order names s.ordered s.readable.partition s.whole (rw e at s.named)
 
 -- one more number names itself
-pub itself_next : (names : List ℕ) (i : ℕ) → i < length names → ((k : ℕ) → k < i → word names k ≡ k) → (k : ℕ) → k < i + 1 → word (set names i i) k ≡ k
+pub itself_next : (names : List ℕ) (i : ℕ) → i < length names → ((k : ℕ) → k < i → word names k ≡ k) → (k : ℕ) → k < i + 1 →
+    word (set names i i) k ≡ k
 itself_next names i h s =
-    below_more (λ k. word (set names i i) k ≡ k) i (λ k l. get_or-set_other names i k i 0 (λ z. omega (arith, l, z)) ∙ s k l) (get_or-set_same names i i 0 h)
+    below_more (λ k. word (set names i i) k ≡ k) i (λ k l. get_or-set_other names i k i 0 (λ z. omega (arith, l, z)) ∙ s k l)
+    (get_or-set_same names i i 0 h)

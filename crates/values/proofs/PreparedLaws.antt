@@ -279,7 +279,8 @@ head_true nodes counts heads i h e =
     record {
       is_closed = closed_true nodes counts i h (and_true_left (closed_test nodes counts i) (not (eqb (count_of nodes i) 0)) a);
       compound = omega (arith, b);
-      own = eqb-true (class_of heads i) i (and_true_right (closed_test nodes counts i && not (eqb (count_of nodes i) 0)) (eqb (class_of heads i) i) e);
+      own = eqb-true (class_of heads i) i (and_true_right (closed_test nodes counts i && not (eqb (count_of nodes i) 0)) (eqb (class_of heads i) i)
+          e);
     }
 
 -- and only of these

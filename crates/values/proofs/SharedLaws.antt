@@ -49,8 +49,11 @@ module _ (nodes arguments : List ℕ) (s : Sections nodes arguments) (counts : L
   due_at : (q : ℕ) → q < length rising → (word rising q < node_count nodes) × (0 < word counts (word rising q))
   unfolding rising due_head
   due_at q h =
-      let r = selected_from due_head (node_count nodes) (word rising q) (placed rising q h) in
-      (r.0, ltb-true 0 (word counts (word rising q)) (and_true_right (eqb (class_of starts (word rising q)) (word rising q)) (ltb 0 (word counts (word rising q))) r.1))
+      let r = selected_from due_head (node_count nodes) (word rising q) (placed rising q h) in (
+        r.0,
+        ltb-true 0 (word counts (word rising q))
+            (and_true_right (eqb (class_of starts (word rising q)) (word rising q)) (ltb 0 (word counts (word rising q))) r.1),
+      )
 
   rises : (q r : ℕ) → q < r → r < length rising → word rising q < word rising r
   unfolding rising
@@ -66,11 +69,13 @@ module _ (nodes arguments : List ℕ) (s : Sections nodes arguments) (counts : L
           let u : r < q → ⊥ = λ z. let y = rises r q z h in omega (arith, l, y) in
           omega (arith, n, u)
 
-  head_at_lem : (i : ℕ) → i < node_count nodes → 0 < word counts (class_of starts i) → (q : ℕ) × (q < length rising) × (class_of starts i ≡ word rising q)
+  head_at_lem : (i : ℕ) → i < node_count nodes → 0 < word counts (class_of starts i) → (q : ℕ) × (q < length rising) ×
+      (class_of starts i ≡ word rising q)
   unfolding rising due_head
   head_at_lem i h d =
       member_place rising (class_of starts i)
-      (selected_member due_head (node_count nodes) (class_of starts i) (p.below i h) (rw (eq-eqb (class_of starts (class_of starts i)) (class_of starts i) (p.own i h), lt-ltb 0 (word counts (class_of starts i)) d)))
+      (selected_member due_head (node_count nodes) (class_of starts i) (p.below i h)
+      (rw (eq-eqb (class_of starts (class_of starts i)) (class_of starts i) (p.own i h), lt-ltb 0 (word counts (class_of starts i)) d)))
 
   -- a head is met before every place that it must be before
   head_met : (i r : ℕ) → i < node_count nodes → ((q : ℕ) → q < length rising → class_of starts i ≡ word rising q → q < r) →
@@ -140,7 +145,8 @@ module _ (nodes arguments heads : List ℕ) (b : HeadsBefore nodes arguments hea
       let z = c.bare in
       term_node ns w i (is_node nodes arguments i c.node)
       ∙ ap (spell (term_of ns))
-      ((section_application nodes arguments b.sections i c.node (name_of nodes i) []).1 (omega (arith, k, n), refl, sym z, λ j h. absurd (omega (arith, h, z))))
+      ((section_application nodes arguments b.sections i c.node (name_of nodes i) []).1
+      (omega (arith, k, n), refl, sym z, λ j h. absurd (omega (arith, h, z))))
 
   -- constants of one name have one term, so they have one head
   shared_constants : OneConstant nodes heads
@@ -183,11 +189,13 @@ module _ (nodes arguments heads : List ℕ) (b : HeadsBefore nodes arguments hea
 
       go : (m : Node) → node_at ns (word heads i) ≡ m → HeadFits ns (class_of heads) i f us
       go (variable x) d =
-          let z : app f (each (value ns var) us) ≡ var x = sym (value_application ns w var i f us h e) ∙ equal ∙ value_variable ns w var (word heads i) x k d in
+          let z : app f (each (value ns var) us) ≡ var x = sym (value_application ns w var i f us h e) ∙ equal ∙
+          value_variable ns w var (word heads i) x k d in
           let y : ◌≡◌ {A = ℕ} 0 1 = cc in
           absurd (omega arith)
       go (application g vs) d =
-          let z : app f (each (value ns var) us) ≡ app g (each (value ns var) vs) = sym (value_application ns w var i f us h e) ∙ equal ∙ value_application ns w var (word heads i) g vs k d in
+          let z : app f (each (value ns var) us) ≡ app g (each (value ns var) vs) = sym (value_application ns w var i f us h e) ∙ equal ∙
+          value_application ns w var (word heads i) g vs k d in
           let y : f ≡ g = cc in
           let l : each (value ns var) us ≡ each (value ns var) vs = cc in
           record {
@@ -197,7 +205,8 @@ module _ (nodes arguments heads : List ℕ) (b : HeadsBefore nodes arguments hea
             one_head = λ a b m.
                 let u : a < i = w.smaller i f us h e a (zip_left us vs a b m) in
                 let v : b < word heads i = w.smaller (word heads i) g vs k d b (zip_right us vs a b m) in
-                term_head a b (omega (arith, u, h)) (omega (arith, v, k)) (sym (sub_var (term_of ns a)) ∙ each_at (value ns var) (value ns var) us vs l a b m ∙ sub_var (term_of ns b));
+                term_head a b (omega (arith, u, h)) (omega (arith, v, k))
+                (sym (sub_var (term_of ns a)) ∙ each_at (value ns var) (value ns var) us vs l a b m ∙ sub_var (term_of ns b));
           }
 
   -- they have these classes
@@ -207,7 +216,8 @@ module _ (nodes arguments heads : List ℕ) (b : HeadsBefore nodes arguments hea
       record {
         joined = λ i h. given (tabulate_member (node_count nodes) (λ j. (j, word heads j)) i (counted nodes arguments i h));
         given = λ a b m. let q = pair_from a b m in sym (own a q.0) ∙ ap (word heads) (sym q.1);
-        one_variable = λ i j x h k d e. term_head i j h k (sym (sub_var (term_of ns i)) ∙ value_variable ns w var i x h d ∙ sym (value_variable ns w var j x k e) ∙ sub_var (term_of ns j));
+        one_variable = λ i j x h k d e. term_head i j h k
+            (sym (sub_var (term_of ns i)) ∙ value_variable ns w var i x h d ∙ sym (value_variable ns w var j x k e) ∙ sub_var (term_of ns j));
         applications = fits;
       }
 

@@ -192,7 +192,8 @@ module _ (nodes arguments heads : List ℕ) (i : ℕ) (b : HeadsBefore nodes arg
         ∙ sym (applied_term i (omega arith) n)
       where
         at : (x y : ℕ) →
-            (j : ℕ) × (j < count_of nodes g) × (j < count_of nodes i) × (x ≡ argument_of nodes arguments g j) × (y ≡ argument_of nodes arguments i j) →
+            (j : ℕ) × (j < count_of nodes g) × (j < count_of nodes i) × (x ≡ argument_of nodes arguments g j) ×
+            (y ≡ argument_of nodes arguments i j) →
             term_of ns x ≡ term_of ns y
         at x y (j, p, q, u, v) =
             let c = argument_low nodes arguments b.sections g j p in
@@ -216,7 +217,8 @@ module _ (nodes arguments heads : List ℕ) (i : ℕ) (b : HeadsBefore nodes arg
     pub term_alike : (g : ℕ) → g < i → term_of ns g ≡ term_of ns i → Alike nodes arguments heads heads g i
     term_alike g l e =
         let h : g < node_count nodes = omega (arith, l, inside) in
-        let q : app (name_of nodes g) (each (term_of ns) (run nodes arguments g)) ≡ app (name_of nodes i) (each (term_of ns) (run nodes arguments i)) =
+        let q : app (name_of nodes g) (each (term_of ns) (run nodes arguments g))
+        ≡ app (name_of nodes i) (each (term_of ns) (run nodes arguments i)) =
         sym (applied_term g (omega arith) (same_applied g l e)) ∙ e ∙ applied_term i (omega arith) n in
         let r : each (term_of ns) (run nodes arguments g) ≡ each (term_of ns) (run nodes arguments i) = cc in
         let c : count_of nodes g ≡ count_of nodes i =

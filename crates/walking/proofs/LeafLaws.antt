@@ -93,7 +93,8 @@ module _ {nodes arguments known heads entry out : List ℕ} {paired at : ℕ} (g
       Walked nodes arguments known heads entry out (left_count known) least at entry out at
   leaf_unpaired k every d e h = let n = labels_none k paired every h in leaf_none (sym d ∙ n.0) (λ z. n.1 (z ∙ sym e))
 
-  pub leaf_paired : (k every : ℕ) → k ≡ left_labels known → every ≡ every_in known → eqb k 0 && not (eqb paired every) ≡ false → left_labels known ≡ 0 →
+  pub leaf_paired : (k every : ℕ) → k ≡ left_labels known → every ≡ every_in known → eqb k 0 && not (eqb paired every) ≡ false →
+      left_labels known ≡ 0 →
       paired ≡ every_in known
   leaf_paired k every d e h z = labels_or_whole k paired every h (d ∙ z) ∙ e
 
@@ -125,7 +126,8 @@ module _ {nodes arguments known heads entry out : List ℕ} {paired at : ℕ} (g
             (string_entries (nodes_from nodes arguments) (left_labels known) (take (left_count known) entry) ps (marks_in known entry)) →
             length out - at < length e
         wide ps e m =
-            let l = below_long (nodes_from nodes arguments) [] (left_labels known) 0 [] (take (left_count known) entry) ps (marks_in known entry) e m in
+            let l = below_long (nodes_from nodes arguments) [] (left_labels known) 0 [] (take (left_count known) entry) ps (marks_in known entry) e m
+            in
             omega (
               arith,
               l,
@@ -175,7 +177,8 @@ module _ {nodes arguments known heads entry out : List ℕ} {paired at : ℕ} (g
           }
 
       -- and those are written
-      leaf_written : {out' : List ℕ} {r : ℕ} → Writes (right_entries (left_labels known) entry₁ (left_count known) (left_count known + right_count known))
+      leaf_written : {out' : List ℕ} {r : ℕ} → Writes
+          (right_entries (left_labels known) entry₁ (left_count known) (left_count known + right_count known))
           out at out' r →
           (least : ℕ) → Walked nodes arguments known heads entry out (left_count known) least at entry₁ out' r
       unfolding right_entries

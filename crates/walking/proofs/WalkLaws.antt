@@ -73,7 +73,8 @@ below_branch {nodes} {arguments} {known} k entry j h ps = pick (eqb j (left_coun
     pick false e =
         let z = eqb-false j (left_count known) e in
         let y = left_long k in
-        let s : drop j (left_in known) ≡ word (left_in known) j ∷ drop (j + 1) (left_in known) = drop-cons (left_in known) j 0 (omega (arith, z, h, y))
+        let s : drop j (left_in known) ≡ word (left_in known) j ∷ drop (j + 1) (left_in known) =
+        drop-cons (left_in known) j 0 (omega (arith, z, h, y))
         ∙ ap (λ (q : ℕ). word (left_in known) j ∷ drop q (left_in known)) (sym (add-one j)) in
         let c : length (right_in known) + right_labels known ≡ suc (right_count known + right_labels known) - 1 = omega (arith, right_long k) in
         ap goal s ∙ ap (λ (q : ℕ). over 1 q (λ d. digit_entries nodes arguments known entry j ps d)) c
@@ -182,7 +183,8 @@ module _ {nodes arguments known can heads next entry out : List ℕ} {i least pa
           unified → pair_below ps ≡ []) → digit_entries nodes arguments known entry i ps least ≡ []
       pair_empty ps f =
           digit_empty (nodes_from nodes arguments) (right_in known)
-          (below (nodes_from nodes arguments) (right_in known) (left_labels known) (right_labels known) (drop (i + 1) (left_in known))) (take i entry) ps
+          (below (nodes_from nodes arguments) (right_in known) (left_labels known) (right_labels known) (drop (i + 1) (left_in known)))
+          (take i entry) ps
           (marks_in known entry) (word (left_in known) i) least
           (λ q z u. rw (a_is, b_is) (f z (rw (a_is, b_is) at u)))
           (λ q. absurd (omega (arith, q, right_there)))
@@ -268,7 +270,10 @@ module _ {nodes arguments known can heads next entry out : List ℕ} {i least pa
                 digit_entries nodes arguments known entry i ps least ≡ branch_entries nodes arguments known entry₁ (i + 1) 1 ((a, b) ∷ ps)
             unfolding if_unified
             joined_entries ps q =
-                let x₁ : if_unified (outcome (nodes_from nodes arguments) ((word (left_in known) i, word (right_in known) (least - 1)) ∷ ps)) (below (nodes_from nodes arguments) (right_in known) (left_labels known) (right_labels known) (drop (i + 1) (left_in known)) (take i entry ++ least ∷ []) ((word (left_in known) i, word (right_in known) (least - 1)) ∷ ps) (set (marks_in known entry) (least - 1) 0)) ≡ pair_below ps = rw (a_is, b_is, (joined_unified ps q).0 e) refl in
+                let x₁ : if_unified (outcome (nodes_from nodes arguments) ((word (left_in known) i, word (right_in known) (least - 1)) ∷ ps))
+                (below (nodes_from nodes arguments) (right_in known) (left_labels known) (right_labels known) (drop (i + 1) (left_in known))
+                (take i entry ++ least ∷ []) ((word (left_in known) i, word (right_in known) (least - 1)) ∷ ps)
+                (set (marks_in known entry) (least - 1) 0)) ≡ pair_below ps = rw (a_is, b_is, (joined_unified ps q).0 e) refl in
                 let x₂ : pair_below ps ≡ branch_entries nodes arguments known entry₁ (i + 1) 1 ((a, b) ∷ ps) =
                 rw (← pair_digits g.knows g.branching h least p l f, ← pair_marks g.knows g.branching h least p l f, ← z)
                 (below_branch g.knows entry₁ (i + 1) (omega (arith, h)) ((a, b) ∷ ps)) in
@@ -323,7 +328,8 @@ module _ {nodes arguments known can heads next entry out : List ℕ} {i least pa
       label_entries : (ps : List (ℕ × ℕ)) (d : ℕ) → least ≤ d → digit_entries nodes arguments known entry i ps d ≡ label_below ps d
       label_entries ps d q =
           digit_label (nodes_from nodes arguments) (right_in known)
-          (below (nodes_from nodes arguments) (right_in known) (left_labels known) (right_labels known) (drop (i + 1) (left_in known))) (take i entry) ps
+          (below (nodes_from nodes arguments) (right_in known) (left_labels known) (right_labels known) (drop (i + 1) (left_in known)))
+          (take i entry) ps
           (marks_in known entry) (word (left_in known) i) d (omega (arith, right_long g.knows, l, q))
 
       -- where no digit from it on has an entry, nothing is to be done
@@ -375,8 +381,10 @@ module _ {nodes arguments known can heads next entry out : List ℕ} {i least pa
           labels_entries : (ps : List (ℕ × ℕ)) → digits_from nodes arguments known entry i ps least ≡ label_below ps least ++ repeated i (least + 1)
               (right_count known + right_labels known - least) (label_below ps least)
           labels_entries ps =
-              let c : suc (right_count known + right_labels known) - (least + 1) ≡ right_count known + right_labels known - least = omega (arith, t) in
-              over_next (λ e. digit_entries nodes arguments known entry i ps e) least (suc (right_count known + right_labels known)) (omega (arith, t))
+              let c : suc (right_count known + right_labels known) - (least + 1) ≡ right_count known + right_labels known - least =
+              omega (arith, t) in
+              over_next (λ e. digit_entries nodes arguments known entry i ps e) least (suc (right_count known + right_labels known))
+              (omega (arith, t))
               ∙ ap (λ (es : List (List ℕ)). es ++ over (least + 1) (suc (right_count known + right_labels known) - (least + 1))
               (λ e. digit_entries nodes arguments known entry i ps e)) (label_entries ps least (omega arith))
               ∙ ap (label_below ps least ++◌)
@@ -453,7 +461,8 @@ module _ {nodes arguments known can heads next entry out : List ℕ} {i least pa
                   ((es : List (List ℕ)) → Block es width out' at w → Writes (repeated i (least + 1) (last - least) es) out' w out'' v) →
                   SteppedFrom nodes arguments known heads entry out i least at entry' out'' v
               labels_stepped {out''} {v} {width} {last} a b f₀ =
-                  let f : (es : List (List ℕ)) → Block es (width_in known) out' at w → Writes (repeated i (least + 1) (right_count known + right_labels known - least) es) out' w out'' v = rw (← a, ← b) f₀ in
+                  let f : (es : List (List ℕ)) → Block es (width_in known) out' at w →
+                  Writes (repeated i (least + 1) (right_count known + right_labels known - least) es) out' w out'' v = rw (← a, ← b) f₀ in
                   record {
                     writes = λ ps q. rw (labels_entries ps) (repeat_writes (label_below ps least) i (least + 1)
                         (right_count known + right_labels known - least) g.room (first_written ps q) n
@@ -505,7 +514,8 @@ module _ {nodes arguments known can heads next entry out : List ℕ} {i least pa
               Remains (branch_entries nodes arguments known entry i least ps) out at
               (digit_entries nodes arguments known entry i ps d ++ digits_from nodes arguments known entry i ps (d + 1)) out' at'
           next_remains ps q =
-              rw (over_next (λ e. digit_entries nodes arguments known entry i ps e) d (suc (right_count known + right_labels known)) (omega (arith, u)))
+              rw (over_next (λ e. digit_entries nodes arguments known entry i ps e) d (suc (right_count known + right_labels known))
+              (omega (arith, u)))
               at (t.remains ps q)
 
           stepped : (ps : List (ℕ × ℕ)) → Pairing nodes arguments known heads ps →
@@ -529,7 +539,8 @@ module _ {nodes arguments known can heads next entry out : List ℕ} {i least pa
           pub turning_full : length out < full → w ≡ full → Walked nodes arguments known heads entry out i least at entry'' out'' full
           turning_full b e =
               record {
-                writes = λ ps q. remains_full (digit_entries nodes arguments known entry i ps d) (digits_from nodes arguments known entry i ps (d + 1))
+                writes = λ ps q. remains_full (digit_entries nodes arguments known entry i ps d)
+                    (digits_from nodes arguments known entry i ps (d + 1))
                     (next_remains ps q) (omega (arith, b, t.size)) out'' w (stepped ps q) e;
                 keeps = keeps_again t.keeps y.keeps;
               }

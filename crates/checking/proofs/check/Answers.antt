@@ -17,7 +17,8 @@ passed-1 c = not_held _ _ (le-ltb _ _ c.if-table-lt-HEADER_WORDS.false)
 
 passed-2 : (c : Else-broken_pair) → Passed 2 (conditions c.args.table.now)
 unfolding conditions
-passed-2 c = passed-1 (goal.at.Else-broken_pair c).Else-table-lt-HEADER_WORDS ∙ not_held _ _ (sym (c.broken_pair.ensures sections refl) ∙ c.if-broken_pair.false)
+passed-2 c = passed-1 (goal.at.Else-broken_pair c).Else-table-lt-HEADER_WORDS ∙
+    not_held _ _ (sym (c.broken_pair.ensures sections refl) ∙ c.if-broken_pair.false)
 
 passed-3 : (c : Else-over_limit) → Passed 3 (conditions c.args.table.now)
 unfolding conditions
@@ -61,21 +62,24 @@ broken_pair-requires c = c.if-table-lt-HEADER_WORDS.false
 
 pub returns-then-broken_pair : goal.returns-then-broken_pair
 unfolding refusal conditions
-returns-then-broken_pair c = sym (passed-1 (goal.at.returns-then-broken_pair c).Else-table-lt-HEADER_WORDS ∙ held _ _ (sym (c.broken_pair.ensures sections refl) ∙ c.if-broken_pair.true))
+returns-then-broken_pair c = sym (passed-1 (goal.at.returns-then-broken_pair c).Else-table-lt-HEADER_WORDS ∙
+    held _ _ (sym (c.broken_pair.ensures sections refl) ∙ c.if-broken_pair.true))
 
 pub over_limit-requires : goal.over_limit-requires
 over_limit-requires c = c.if-table-lt-HEADER_WORDS.false
 
 pub returns-then-over_limit : goal.returns-then-over_limit
 unfolding refusal conditions
-returns-then-over_limit c = sym (passed-2 (goal.at.returns-then-over_limit c).Else-broken_pair ∙ held _ _ (sym c.over_limit.ensures ∙ c.if-over_limit.true))
+returns-then-over_limit c = sym (passed-2 (goal.at.returns-then-over_limit c).Else-broken_pair ∙
+    held _ _ (sym c.over_limit.ensures ∙ c.if-over_limit.true))
 
 pub wrong_node-requires : goal.wrong_node-requires
 wrong_node-requires c = laid_out c
 
 pub returns-then-wrong_node : goal.returns-then-wrong_node
 unfolding refusal conditions
-returns-then-wrong_node c = sym (passed-3 (goal.at.returns-then-wrong_node c).Else-over_limit ∙ held _ _ (sym c.wrong_node.ensures ∙ c.if-wrong_node.true))
+returns-then-wrong_node c = sym (passed-3 (goal.at.returns-then-wrong_node c).Else-over_limit ∙
+    held _ _ (sym c.wrong_node.ensures ∙ c.if-wrong_node.true))
 
 pub wrong_argument-requires : goal.wrong_argument-requires
 wrong_argument-requires c = record {
@@ -85,21 +89,24 @@ wrong_argument-requires c = record {
 
 pub returns-then-wrong_argument : goal.returns-then-wrong_argument
 unfolding refusal conditions
-returns-then-wrong_argument c = sym (passed-4 (goal.at.returns-then-wrong_argument c).Else-wrong_node ∙ held _ _ (sym c.wrong_argument.ensures ∙ c.if-wrong_argument.true))
+returns-then-wrong_argument c = sym (passed-4 (goal.at.returns-then-wrong_argument c).Else-wrong_node ∙
+    held _ _ (sym c.wrong_argument.ensures ∙ c.if-wrong_argument.true))
 
 pub wrong_term-requires : goal.wrong_term-requires
 wrong_term-requires c = laid_out (goal.at.wrong_term-requires c).Else-over_limit
 
 pub returns-then-wrong_term : goal.returns-then-wrong_term
 unfolding refusal conditions
-returns-then-wrong_term c = sym (passed-5 (goal.at.returns-then-wrong_term c).Else-wrong_argument ∙ held _ _ (sym c.wrong_term.ensures ∙ c.if-wrong_term.true))
+returns-then-wrong_term c = sym (passed-5 (goal.at.returns-then-wrong_term c).Else-wrong_argument ∙
+    held _ _ (sym c.wrong_term.ensures ∙ c.if-wrong_term.true))
 
 pub wrong_label-requires : goal.wrong_label-requires
 wrong_label-requires c = laid_out (goal.at.wrong_label-requires c).Else-over_limit
 
 pub returns-then-wrong_label : goal.returns-then-wrong_label
 unfolding refusal conditions
-returns-then-wrong_label c = sym (passed-6 (goal.at.returns-then-wrong_label c).Else-wrong_term ∙ held _ _ (sym c.wrong_label.ensures ∙ c.if-wrong_label.true))
+returns-then-wrong_label c = sym (passed-6 (goal.at.returns-then-wrong_label c).Else-wrong_term ∙
+    held _ _ (sym c.wrong_label.ensures ∙ c.if-wrong_label.true))
 
 pub returns : goal.returns
 unfolding refusal conditions first_held

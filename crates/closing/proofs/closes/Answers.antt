@@ -1,4 +1,5 @@
--- `closes` meets its contract, by what `list` ensures and nothing else of it: page 14 where the listing is finished, and the answer where it is full or the table refused.
+-- `closes` meets its contract, by what `list` ensures and nothing else of it: page 14 where the listing is finished, and the answer where
+-- it is full or the table refused.
 use mathlib.Core.Path.{refl, sym, ap, ◌∙◌}
 use Rattle.multiset_unification.specs.declared.Listing.{Listing}
 use Rattle.multiset_unification.specs.Answer.{Told, told}

@@ -10,11 +10,14 @@ use Rattle.list.proofs.PrintLaws.{enough_read}
 use Rattle.list.proofs.run.Goals as goal
 
 -- what is printed for the bytes that were read is what is printed for all
-whole : (known old new : Option (List ℕ)) (read written : List ℕ) → IfSome known (λ xs. read ≡ take 6289 xs) → written ≡ printed read → Appends old new written → IfSome known (λ xs. Appends old new (printed xs))
+whole : (known old new : Option (List ℕ)) (read written : List ℕ) → IfSome known (λ xs. read ≡ take 6289 xs) → written ≡ printed read →
+    Appends old new written → IfSome known (λ xs. Appends old new (printed xs))
 whole None old new read written r w h = tt
 whole (Some xs) old new read written r w h = rw (w ∙ (ap printed r ∙ enough_read xs)) at h
 
-whole_on_ok : {A E : Type 0} (answer : Result A E) (known old new : Option (List ℕ)) (read written : List ℕ) → IfSome known (λ xs. read ≡ take 6289 xs) → written ≡ printed read → OnOk answer (Appends old new written) → OnOk answer (IfSome known (λ xs. Appends old new (printed xs)))
+whole_on_ok : {A E : Type 0} (answer : Result A E) (known old new : Option (List ℕ)) (read written : List ℕ) →
+    IfSome known (λ xs. read ≡ take 6289 xs) → written ≡ printed read → OnOk answer (Appends old new written) →
+    OnOk answer (IfSome known (λ xs. Appends old new (printed xs)))
 whole_on_ok (Ok x) known old new read written r w h = whole known old new read written r w h
 whole_on_ok (Err e) known old new read written r w h = tt
 

@@ -101,5 +101,6 @@ returns c =
     let t = c.try_pairs.ensures in record {
       heads_unchanged = t.heads_unchanged;
       keeps_known = keeps_twice s.keeps_known t.keeps_known;
-      looks_ahead = looks_as (sym c.if-not-plan.false) (t.known_unchanged c.if-try_pairs.false) (looks_planned p.known_of s.keeps_known s.rows_to c.plan.ensures);
+      looks_ahead = looks_as (sym c.if-not-plan.false) (t.known_unchanged c.if-try_pairs.false)
+          (looks_planned p.known_of s.keeps_known s.rows_to c.plan.ensures);
     }

@@ -1,4 +1,3 @@
--- Every read is within its list.
 use native.Mathlib.Omega.{arith}
 use Rattle.nodes.proofs.OpenLaws.{looked_at}
 use Rattle.ahead.proofs.pairs.may_hold.Goals as goal

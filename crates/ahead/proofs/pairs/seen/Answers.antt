@@ -19,7 +19,8 @@ differ-requires c =
 
 pub returns-then-differ : goal.returns-then-differ
 returns-then-differ c = record {
-  never_joins = (λ z. never_differ _ _ _ c.requires.known_of.0.sections _ c.requires.known_of.1 c.args.a.0 c.args.b.0 c.requires.a_bound.0 c.requires.a_bound.1 _ _ c.node_in-g.ensures.0 c.node_in-h.ensures.0 _ c.differ.ensures c.if-differ.true);
+  never_joins = (λ z. never_differ _ _ _ c.requires.known_of.0.sections _ c.requires.known_of.1 c.args.a.0 c.args.b.0 c.requires.a_bound.0
+      c.requires.a_bound.1 _ _ c.node_in-g.ensures.0 c.node_in-h.ensures.0 _ c.differ.ensures c.if-differ.true);
   upper_bound = omega arith;
 }
 
@@ -33,7 +34,9 @@ both_closed-requires c =
 
 pub returns-then-both_closed : goal.returns-then-both_closed
 returns-then-both_closed c = record {
-  never_joins = (λ z. never_closed _ _ _ c.requires.known_of.0.sections _ c.requires.known_of.1 c.args.a.0 c.args.b.0 c.requires.a_bound.0 c.requires.a_bound.1 c.requires.known_of.0.counts _ _ c.node_in-g.ensures.0 c.node_in-h.ensures.0 c.if-g-h.false _ c.both_closed.ensures c.if-both_closed.true);
+  never_joins = (λ z. never_closed _ _ _ c.requires.known_of.0.sections _ c.requires.known_of.1 c.args.a.0 c.args.b.0 c.requires.a_bound.0
+      c.requires.a_bound.1 c.requires.known_of.0.counts _ _ c.node_in-g.ensures.0 c.node_in-h.ensures.0 c.if-g-h.false _ c.both_closed.ensures
+      c.if-both_closed.true);
   upper_bound = omega arith;
 }
 

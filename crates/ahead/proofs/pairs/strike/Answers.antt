@@ -1,4 +1,3 @@
--- The rows before row i lack only pairs that differ at once, and nothing else changes.
 use native.Mathlib.Omega.{arith}
 use Rattle.branches.proofs.KnownLaws.{known_kept, formed_kept, keeps_all, keeps_twice}
 use Rattle.ahead.proofs.StruckLaws.{rows_first, rows_more, rows_end, keeps_row, row_byte}

@@ -1,4 +1,3 @@
--- Of the right terms so far the row lacks only those that differ at once.
 use mathlib.Core.Path.{refl}
 use native.Mathlib.Omega.{arith}
 use borrow.Author.Tests.{eqb-true, not-false}

@@ -50,14 +50,16 @@ undo-requires c =
 pub returns-in-Clash : goal.returns-in-Clash
 returns-in-Clash c =
     let x = c.extend.ensures in record {
-      never_joins = (λ z. clash_never _ _ _ c.requires.known_of.sections _ c.requires.formed.0 c.args.a.0 c.args.b.0 c.requires.a_bound.0 c.requires.a_bound.1 _ _ _ _ c.in-Clash.is x);
+      never_joins = (λ z. clash_never _ _ _ c.requires.known_of.sections _ c.requires.formed.0 c.args.a.0 c.args.b.0 c.requires.a_bound.0
+          c.requires.a_bound.1 _ _ _ _ c.in-Clash.is x);
       heads_unchanged = clash_back c.in-Clash.is x;
     }
 
 pub returns-in-Occurs : goal.returns-in-Occurs
 returns-in-Occurs c =
     let x = c.extend.ensures in record {
-      never_joins = (λ z. occurs_never _ _ _ c.requires.known_of.sections _ c.requires.formed.0 c.args.a.0 c.args.b.0 c.requires.a_bound.0 c.requires.a_bound.1 _ _ _ _ c.in-Occurs.is x);
+      never_joins = (λ z. occurs_never _ _ _ c.requires.known_of.sections _ c.requires.formed.0 c.args.a.0 c.args.b.0 c.requires.a_bound.0
+          c.requires.a_bound.1 _ _ _ _ c.in-Occurs.is x);
       heads_unchanged = occurs_back c.in-Occurs.is x;
     }
 

@@ -1,4 +1,3 @@
--- Every row stays right, and where none became smaller, what is known is as before.
 use mathlib.Core.Path.{refl, ap, ◌∙◌}
 use native.Mathlib.Omega.{arith}
 use lib.ListN.{length}

@@ -1,4 +1,3 @@
--- Of the right terms so far the row lacks only those that were no partners, or failed.
 use mathlib.Core.Path.{refl, ap, ◌∙◌}
 use native.Mathlib.Omega.{arith}
 use lib.ListN.{length}

@@ -1,4 +1,3 @@
--- The words before word x are filled from the row after it, which stays.
 use mathlib.Core.Path.{refl}
 use native.Mathlib.Omega.{arith}
 use borrow.Author.Rules.{rules}

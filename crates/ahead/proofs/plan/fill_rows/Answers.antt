@@ -1,4 +1,3 @@
--- Each row is filled from the row after it, whose bits are right.
 use mathlib.Core.Path.{refl, ◌∙◌}
 use native.Mathlib.Omega.{arith}
 use Rattle.ahead.proofs.PlanLaws.{completable_at, every_few, rows_turn}

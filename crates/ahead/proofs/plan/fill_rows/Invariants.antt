@@ -8,7 +8,8 @@ use Rattle.ahead.proofs.plan.fill_rows.Given as goal
 
 abbrev pub invariant-loop-i : goal.invariant-loop-i
 invariant-loop-i l =
-    (l.i < left_count l.known) × CompletableFrom l.known l.can l.i × ((p : ℕ) → 4 * (left_count l.known - 1) ≤ p → word l.can p ≡ word l.initial.can p)
+    (l.i < left_count l.known) × CompletableFrom l.known l.can l.i ×
+    ((p : ℕ) → 4 * (left_count l.known - 1) ≤ p → word l.can p ≡ word l.initial.can p)
 
 abbrev pub decreases-loop-i : goal.decreases-loop-i
 decreases-loop-i l = l.i

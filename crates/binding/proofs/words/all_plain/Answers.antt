@@ -1,4 +1,3 @@
--- The heads of the first p nodes have no arguments.
 use mathlib.Core.Bool.{false≢true}
 use native.Mathlib.Omega.{arith}
 use borrow.Author.Rules.{rules}

@@ -11,13 +11,19 @@ pub all_plain-requires : goal.all_plain-requires
 all_plain-requires c =
     let q = c.requires.formed.0.partition in record {
       sections = c.requires.sections.0;
-      all_below = (nodes_headed c.args.nodes.now _ _ q (least_nodes_lem _ _ _ c.requires.list_value.0), heads_below (node_count c.args.nodes.now) (node_count c.args.nodes.now) _ (omega arith) q);
+      all_below = (
+        nodes_headed c.args.nodes.now _ _ q (least_nodes_lem _ _ _ c.requires.list_value.0),
+        heads_below (node_count c.args.nodes.now) (node_count c.args.nodes.now) _ (omega arith) q,
+      );
     }
 
 pub bind_plain-requires : goal.bind_plain-requires
 bind_plain-requires c =
     let q = c.requires.formed.0.partition in record {
-      all_below = (nodes_headed c.args.nodes.now _ _ q (least_nodes_lem _ _ _ c.requires.list_value.0), heads_below (node_count c.args.nodes.now) (node_count c.args.nodes.now) _ (omega arith) q);
+      all_below = (
+        nodes_headed c.args.nodes.now _ _ q (least_nodes_lem _ _ _ c.requires.list_value.0),
+        heads_below (node_count c.args.nodes.now) (node_count c.args.nodes.now) _ (omega arith) q,
+      );
       list_in_bounds = c.requires.list_value.1;
     }
 

@@ -1,4 +1,3 @@
--- binding::words::find_words
 use borrow.Author.Rules.{rules}
 use Rattle.binding.proofs.words.find_words.Goals as goal
 

@@ -1,4 +1,3 @@
--- binding::words::note_application
 use native.Mathlib.Omega.{arith}
 use Rattle.values.proofs.NamedLaws.{name_inside}
 use Rattle.binding.proofs.NotingLaws.{application_other, application_noted_lem, name_node}

@@ -1,4 +1,3 @@
--- The first p open applications are noted.
 use mathlib.Core.Path.{◌≡◌}
 use native.Mathlib.Omega.{arith}
 use borrow.Author.Rules.{rules}

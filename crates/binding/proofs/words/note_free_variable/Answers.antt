@@ -1,4 +1,3 @@
--- binding::words::note_free_variable
 use mathlib.Core.Path.{sym, ◌∙◌}
 use native.Mathlib.Omega.{arith}
 use Rattle.binding.proofs.NotingLaws.{listed, head_node, name_node, free_noted_lem, free_other}
@@ -11,7 +10,8 @@ node_in-head-requires c =
 
 pub is_variable-requires : goal.is_variable-requires
 is_variable-requires c =
-    head_node _ _ _ _ c.requires.head_names _ _ (listed _ _ c.requires.k_in_bounds.1 _ _ c.requires.k_in_bounds.0 c.node_in-v.ensures.0) c.node_in-head.ensures.0
+    head_node _ _ _ _ c.requires.head_names _ _ (listed _ _ c.requires.k_in_bounds.1 _ _ c.requires.k_in_bounds.0 c.node_in-v.ensures.0)
+    c.node_in-head.ensures.0
 
 pub value_name-name-requires : goal.value_name-name-requires
 value_name-name-requires c =
@@ -19,12 +19,14 @@ value_name-name-requires c =
 
 pub bounds-by-name : goal.bounds-by-name
 bounds-by-name c =
-    let b = name_node _ _ _ _ c.requires.head_names _ _ (listed _ _ c.requires.k_in_bounds.1 _ _ c.requires.k_in_bounds.0 c.node_in-v.ensures.0) c.value_name-name.ensures.0 in
+    let b = name_node _ _ _ _ c.requires.head_names _ _ (listed _ _ c.requires.k_in_bounds.1 _ _ c.requires.k_in_bounds.0 c.node_in-v.ensures.0)
+    c.value_name-name.ensures.0 in
     omega (arith, b, c.requires.k_in_bounds.2)
 
 pub returns-then-is_variable : goal.returns-then-is_variable
 returns-then-is_variable c =
-    free_noted_lem _ _ _ _ _ _ _ _ _ c.node_in-v.ensures.0 c.node_in-head.ensures.0 (sym c.is_variable.ensures ∙ c.if-is_variable.true) c.value_name-name.ensures.0
+    free_noted_lem _ _ _ _ _ _ _ _ _ c.node_in-v.ensures.0 c.node_in-head.ensures.0 (sym c.is_variable.ensures ∙ c.if-is_variable.true)
+    c.value_name-name.ensures.0
 
 pub returns-else-is_variable : goal.returns-else-is_variable
 returns-else-is_variable c =

@@ -1,4 +1,3 @@
--- The free variables from place k on are noted.
 use mathlib.Core.Path.{refl}
 use borrow.Author.Rules.{rules}
 use Rattle.binding.proofs.NotingLaws.{free_none, free_down, free_all}
@@ -15,8 +14,12 @@ note_free_variable-requires c = record {
 }
 
 pub loop-k-preserved : goal.loop-k-preserved
-loop-k-preserved c =
-    (search rules, rw c.note_free_variable.ensures (free_down _ _ _ _ c.requires.head_names _ c.requires.are_nodes.0 _ _ c.loop-k.k c.loop-k-test.true c.loop-k.invariant.0 c.loop-k.invariant.1))
+loop-k-preserved c = (
+  search rules,
+  rw c.note_free_variable.ensures
+      (free_down _ _ _ _ c.requires.head_names _ c.requires.are_nodes.0 _ _ c.loop-k.k c.loop-k-test.true c.loop-k.invariant.0
+      c.loop-k.invariant.1),
+)
 
 pub returns : goal.returns
 returns c =

@@ -1,4 +1,3 @@
--- The nodes from place k on are noted at their heads.
 use Prim.Native.Nat.{◌-◌}
 use mathlib.Core.Path.{refl}
 use native.Mathlib.Omega.{arith}

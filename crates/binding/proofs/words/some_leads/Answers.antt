@@ -1,4 +1,3 @@
--- The heads of the first p open applications are not open.
 use mathlib.Core.Bool.{false≢true}
 use mathlib.Core.Path.{sym}
 use native.Mathlib.Omega.{arith}

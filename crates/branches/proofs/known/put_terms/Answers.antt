@@ -1,4 +1,3 @@
--- The terms so far are put, each as a byte. As `values::bytes::put_bytes`.
 use mathlib.Core.Path.{◌≡◌, refl, ◌∙◌}
 use native.Mathlib.Omega.{arith}
 use borrow.Author.Rules.{rules}

@@ -1,4 +1,3 @@
--- `end` is the end of the section before section k, and no offset so far is wrong.
 use borrow.Author.Rules.{rules}
 use Rattle.checking.proofs.LoopLaws.{pairs_begin, pair_wrong, pair_right, pairs_end}
 use Rattle.checking.proofs.conditions.broken_pair.Goals as goal

@@ -1,4 +1,3 @@
--- No node so far has a wrong argument.
 use mathlib.Core.Path.{refl, sym, ◌∙◌}
 use borrow.Author.Rules.{rules}
 use Rattle.table.specs.Some.{some_below}

@@ -1,4 +1,3 @@
--- `earlier` is the sum of the counts so far, and no node so far is wrong.
 use mathlib.Core.Path.{◌≡◌, refl, ◌∙◌}
 use mathlib.Core.Bool.{true}
 use native.Mathlib.Omega.{arith}

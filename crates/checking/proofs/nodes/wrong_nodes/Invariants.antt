@@ -9,7 +9,8 @@ use Rattle.table.specs.Conditions.{node_is_wrong}
 use Rattle.checking.proofs.nodes.wrong_nodes.Given as goal
 
 abbrev pub invariant-loop-i : goal.invariant-loop-i
-invariant-loop-i l = (l.i ≤ l.n) × (l.earlier ≡ counts_before l.nodes l.i) × (l.earlier ≤ max_count * l.i) × (some_below l.i (node_is_wrong l.nodes) ≡ false)
+invariant-loop-i l = (l.i ≤ l.n) × (l.earlier ≡ counts_before l.nodes l.i) × (l.earlier ≤ max_count * l.i) ×
+    (some_below l.i (node_is_wrong l.nodes) ≡ false)
 
 abbrev pub decreases-loop-i : goal.decreases-loop-i
 decreases-loop-i l = l.n - l.i

@@ -1,4 +1,3 @@
--- No argument of the node so far is wrong.
 use mathlib.Core.Path.{refl, ◌∙◌}
 use borrow.Author.Rules.{rules}
 use Rattle.table.specs.Some.{some_below}
@@ -17,8 +16,12 @@ returns-then-argument-node c =
 
 pub loop-j-preserved : goal.loop-j-preserved
 loop-j-preserved c =
-    let l = c.loop-j in
-    (l.invariant.0, l.invariant.1, search rules, argument_right _ _ _ _ _ l.j l.invariant.0 l.invariant.1 _ c.node_at-argument.ensures c.if-argument-node.false l.invariant.3)
+    let l = c.loop-j in (
+      l.invariant.0,
+      l.invariant.1,
+      search rules,
+      argument_right _ _ _ _ _ l.j l.invariant.0 l.invariant.1 _ c.node_at-argument.ensures c.if-argument-node.false l.invariant.3,
+    )
 
 pub returns : goal.returns
 returns c =

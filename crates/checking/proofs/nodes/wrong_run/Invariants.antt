@@ -9,7 +9,8 @@ use Rattle.checking.proofs.nodes.wrong_run.Given as goal
 
 abbrev pub invariant-loop-j : goal.invariant-loop-j
 invariant-loop-j l =
-    (l.first ≡ first_of l.nodes l.node.0) × (l.count ≡ count_of l.nodes l.node.0) × (l.j ≤ l.count) × (some_below l.j (argument_is_wrong l.nodes l.arguments l.node.0) ≡ false)
+    (l.first ≡ first_of l.nodes l.node.0) × (l.count ≡ count_of l.nodes l.node.0) × (l.j ≤ l.count) ×
+    (some_below l.j (argument_is_wrong l.nodes l.arguments l.node.0) ≡ false)
 
 abbrev pub decreases-loop-j : goal.decreases-loop-j
 decreases-loop-j l = l.count - l.j

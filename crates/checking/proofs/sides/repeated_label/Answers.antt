@@ -1,4 +1,3 @@
--- No label so far is equal to label i.
 use mathlib.Core.Path.{refl, sym, ◌∙◌}
 use borrow.Author.Rules.{rules}
 use borrow.Author.Tests.{eq-eqb, ne_eqb}
@@ -18,8 +17,11 @@ returns-then-earlier-label c =
 
 pub loop-j-preserved : goal.loop-j-preserved
 unfolding labels_are_equal
-loop-j-preserved c =
-    (search rules, some_next _ _ c.loop-j.invariant.1 (ne_eqb _ _ (λ q. c.if-earlier-label.false (c.label-earlier.ensures ∙ q ∙ sym c.label-label.ensures))))
+loop-j-preserved c = (
+  search rules,
+  some_next _ _ c.loop-j.invariant.1
+      (ne_eqb _ _ (λ q. c.if-earlier-label.false (c.label-earlier.ensures ∙ q ∙ sym c.label-label.ensures))),
+)
 
 pub returns : goal.returns
 returns c = sym (some_end _ _ _ c.loop-j.invariant.0 c.loop-j-test.false c.loop-j.invariant.1)

@@ -1,4 +1,3 @@
--- No label so far is wrong.
 use mathlib.Core.Path.{◌≡◌, refl, sym, ◌∙◌}
 use mathlib.Core.Bool.{◌||◌}
 use mathlib.Core.List.{◌++◌}
@@ -15,7 +14,8 @@ use Rattle.checking.proofs.sides.wrong_labels.Goals as goal
 use Rattle.checking.proofs.sides.wrong_labels.Goals.{After-repeated_label}
 
 -- The three tests of a label are whether it is wrong.
-tested : (c : After-repeated_label) → let a = c.args in let x = c.label-label.result.0 in (eqb x 0 || ltb max_label x || c.repeated_label.result) ≡ label_is_wrong (a.left.now ++ a.right.now) c.loop-i.i
+tested : (c : After-repeated_label) → let a = c.args in let x = c.label-label.result.0 in
+    (eqb x 0 || ltb max_label x || c.repeated_label.result) ≡ label_is_wrong (a.left.now ++ a.right.now) c.loop-i.i
 tested c = label_tested _ _ _ c.label-label.ensures _ c.repeated_label.ensures
 
 pub loop-i-init : goal.loop-i-init
@@ -25,12 +25,17 @@ loop-i-init c = (simp length-append, search rules, refl)
 pub returns-then-label-repeated_label : goal.returns-then-label-repeated_label
 unfolding wrong_label
 returns-then-label-repeated_label c =
-    sym (some_here _ c.loop-i.i _ (omega (arith, c.loop-i.invariant.0)) (sym (tested (goal.at.returns-then-label-repeated_label c).After-repeated_label) ∙ c.if-label-repeated_label.true))
+    sym (some_here _ c.loop-i.i _ (omega (arith, c.loop-i.invariant.0))
+    (sym (tested (goal.at.returns-then-label-repeated_label c).After-repeated_label) ∙ c.if-label-repeated_label.true))
 
 pub loop-i-preserved : goal.loop-i-preserved
 loop-i-preserved c =
-    let l = c.loop-i in
-    (l.invariant.0, search rules, some_next _ _ l.invariant.2 (sym (tested (goal.at.loop-i-preserved c).After-repeated_label) ∙ c.if-label-repeated_label.false))
+    let l = c.loop-i in (
+      l.invariant.0,
+      search rules,
+      some_next _ _ l.invariant.2
+          (sym (tested (goal.at.loop-i-preserved c).After-repeated_label) ∙ c.if-label-repeated_label.false),
+    )
 
 pub returns : goal.returns
 unfolding wrong_label

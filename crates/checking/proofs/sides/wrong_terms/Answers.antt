@@ -1,4 +1,3 @@
--- No term so far is wrong.
 use mathlib.Core.Path.{refl, sym}
 use borrow.Author.Rules.{rules}
 use Rattle.table.specs.Some.{some_below}

@@ -1,4 +1,3 @@
--- The measure is the number of classes: two are joined before their heads' arguments are. Each way out is one of the ways in which two classes are joined.
 use Prim.Native.Nat.{ℕ, ◌<◌}
 use mathlib.Core.Bool.{true, ◌&&◌}
 use mathlib.Core.Path.{◌≡◌, refl, ap, ◌∙◌}
@@ -66,13 +65,15 @@ applied : (t : ℕ) (c : Tested t) →
     (kind_of c.args.nodes.now (first_head t (goal.at.After-both_closed t c).Else-g-h) ≡ 0 → ⊥) ×
     (kind_of c.args.nodes.now (second_head t (goal.at.After-both_closed t c).Else-g-h) ≡ 0 → ⊥)
 applied t c =
+    let here = goal.at.After-both_closed t c in
     applied_tested c.args.nodes.now _ _ c.is_variable.result
-    c.is_variable-2.result (first_kind t (goal.at.After-both_closed t c).After-is_variable-2) (second-kind t (goal.at.After-both_closed t c).After-is_variable-2)
+    c.is_variable-2.result (first_kind t here.After-is_variable-2) (second-kind t here.After-is_variable-2)
     c.if-is_variable.false
 
 -- their test for one symbol
 symbols : (t : ℕ) (c : Tested t) →
-    c.one_symbol.result ≡ symbol_test c.args.nodes.now (first_head t (goal.at.After-both_closed t c).Else-g-h) (second_head t (goal.at.After-both_closed t c).Else-g-h)
+    c.one_symbol.result ≡ symbol_test c.args.nodes.now (first_head t (goal.at.After-both_closed t c).Else-g-h)
+    (second_head t (goal.at.After-both_closed t c).Else-g-h)
 symbols t c =
     let ns = c.args.nodes.now in
     tested_by (symbol_test ns) _ _ _ _ _ c.node-first.ensures.0 c.node-second.ensures.0 c.one_symbol.ensures
@@ -80,7 +81,8 @@ symbols t c =
 -- their test for closed applications
 closed : (t : ℕ) (c : Tested t) →
     c.both_closed.result ≡ (closed_test c.args.nodes.now c.args.counts.now (first_head t
-    (goal.at.After-both_closed t c).Else-g-h) && closed_test c.args.nodes.now c.args.counts.now (second_head t (goal.at.After-both_closed t c).Else-g-h))
+    (goal.at.After-both_closed t c).Else-g-h) && closed_test c.args.nodes.now c.args.counts.now
+    (second_head t (goal.at.After-both_closed t c).Else-g-h))
 closed t c =
     let ns = c.args.nodes.now in
     let ks = c.args.counts.now in
@@ -90,30 +92,36 @@ closed t c =
 -- they have one symbol and are not both closed
 alike : (t : ℕ) (c : Alike t) → OneSymbolHeads c.args.nodes.now c.args.arguments.now c.args.counts.now c.args.heads.now c.args.a.0 c.args.b.0
 alike t c =
-    let m = meets t (goal.at.Else-one_symbol-both_closed t c).Else-g-h in
-    let r = alike_tested c.args.nodes.now c.args.counts.now _ _ (meeting_inside m).0 (meeting_inside m).1 c.one_symbol.result c.both_closed.result (symbols t (goal.at.Else-one_symbol-both_closed t c).After-both_closed) (closed t (goal.at.Else-one_symbol-both_closed t c).After-both_closed) c.if-one_symbol-both_closed.false in
-    let k = applied t (goal.at.Else-one_symbol-both_closed t c).After-both_closed in
+    let here = goal.at.Else-one_symbol-both_closed t c in
+    let m = meets t here.Else-g-h in
+    let r = alike_tested c.args.nodes.now c.args.counts.now _ _ (meeting_inside m).0 (meeting_inside m).1 c.one_symbol.result c.both_closed.result
+    (symbols t here.After-both_closed) (closed t here.After-both_closed) c.if-one_symbol-both_closed.false in
+    let k = applied t here.After-both_closed in
     record { first_applied = k.0; second_applied = k.1; one_symbol = r.0; not_both = r.1 }
 
 -- whenever the loop begins again, joining can go on
 ready : (t : ℕ) (c : Turning t) → Joinable c.args.nodes.now c.args.arguments.now c.args.counts.now c.loop-k.heads c.loop-k.next
 ready t c =
-    let m = meets t (goal.at.At-loop-k t c).Else-g-h in
-    let a = alike t (goal.at.At-loop-k t c).Else-one_symbol-both_closed in
+    let here = goal.at.At-loop-k t c in
+    let m = meets t here.Else-g-h in
+    let a = alike t here.Else-one_symbol-both_closed in
     joinable_on m a _ _ (applications_united m a _ _ c.unite-2.ensures) c.loop-k.k _ _ c.loop-k.invariant.4
 
 -- the first head's argument
-first-argument : (t : ℕ) (c : Taken t) → c.argument-x.result.0 ≡ argument_of c.args.nodes.now c.args.arguments.now (first_head t (goal.at.After-argument-y t c).Else-g-h) c.loop-k.k
+first-argument : (t : ℕ) (c : Taken t) → c.argument-x.result.0
+    ≡ argument_of c.args.nodes.now c.args.arguments.now (first_head t (goal.at.After-argument-y t c).Else-g-h) c.loop-k.k
 first-argument t c =
     argument_of_lem c.args.nodes.now c.args.arguments.now c.loop-k.k c.argument-x.ensures.0 c.node-first.ensures.0
 
 -- the second head's
-second-argument : (t : ℕ) (c : Taken t) → c.argument-y.result.0 ≡ argument_of c.args.nodes.now c.args.arguments.now (second_head t (goal.at.After-argument-y t c).Else-g-h) c.loop-k.k
+second-argument : (t : ℕ) (c : Taken t) →
+    c.argument-y.result.0 ≡ argument_of c.args.nodes.now c.args.arguments.now (second_head t (goal.at.After-argument-y t c).Else-g-h) c.loop-k.k
 second-argument t c =
     argument_of_lem c.args.nodes.now c.args.arguments.now c.loop-k.k c.argument-y.ensures.0 c.node-second.ensures.0
 
 -- both are nodes
-arguments_within : (t : ℕ) (c : Taken t) → (c.argument-x.result.0 < node_count c.args.nodes.now) × (c.argument-y.result.0 < node_count c.args.nodes.now)
+arguments_within : (t : ℕ) (c : Taken t) → (c.argument-x.result.0 < node_count c.args.nodes.now) ×
+    (c.argument-y.result.0 < node_count c.args.nodes.now)
 arguments_within t c =
     let m = meets t (goal.at.After-argument-y t c).Else-g-h in
     let p = (meeting_inside m).0 in
@@ -157,10 +165,12 @@ unite-requires t c =
 
 pub returns-then-is_variable : goal.returns-then-is_variable
 returns-then-is_variable t c =
-    let m = meets t (goal.at.returns-then-is_variable t c).Else-g-h in
+    let here = goal.at.returns-then-is_variable t c in
+    let m = meets t here.Else-g-h in
     join_variable m _ _ c.unite.ensures
     (variable_tested c.args.nodes.now _
-    _ c.is_variable.result c.is_variable-2.result (first_kind t (goal.at.returns-then-is_variable t c).After-is_variable-2) (second-kind t (goal.at.returns-then-is_variable t c).After-is_variable-2) c.if-is_variable.true)
+    _ c.is_variable.result c.is_variable-2.result (first_kind t here.After-is_variable-2) (second-kind t here.After-is_variable-2)
+    c.if-is_variable.true)
 
 pub one_symbol-requires : goal.one_symbol-requires
 one_symbol-requires t c =
@@ -182,9 +192,11 @@ both_closed-requires t c =
 
 pub returns-then-one_symbol-both_closed : goal.returns-then-one_symbol-both_closed
 returns-then-one_symbol-both_closed t c =
-    let m = meets t (goal.at.returns-then-one_symbol-both_closed t c).Else-g-h in
-    join_clash m (applied t (goal.at.returns-then-one_symbol-both_closed t c).After-both_closed)
-    (clash_tested c.args.nodes.now c.args.counts.now _ _ (meeting_inside m).0 (meeting_inside m).1 c.one_symbol.result c.both_closed.result (symbols t (goal.at.returns-then-one_symbol-both_closed t c).After-both_closed) (closed t (goal.at.returns-then-one_symbol-both_closed t c).After-both_closed) c.if-one_symbol-both_closed.true)
+    let here = goal.at.returns-then-one_symbol-both_closed t c in
+    let m = meets t here.Else-g-h in
+    join_clash m (applied t here.After-both_closed)
+    (clash_tested c.args.nodes.now c.args.counts.now _ _ (meeting_inside m).0 (meeting_inside m).1 c.one_symbol.result c.both_closed.result
+    (symbols t here.After-both_closed) (closed t here.After-both_closed) c.if-one_symbol-both_closed.true)
 
 pub unite-requires-2 : goal.unite-requires-2
 unite-requires-2 t c =
@@ -204,8 +216,9 @@ arity-count-requires t c =
 
 pub loop-k-init : goal.loop-k-init
 loop-k-init t c =
-    let m = meets t (goal.at.loop-k-init t c).Else-g-h in
-    let u = applications_united m (alike t (goal.at.loop-k-init t c).Else-one_symbol-both_closed) _ _ c.unite-2.ensures in (
+    let here = goal.at.loop-k-init t c in
+    let m = meets t here.Else-g-h in
+    let u = applications_united m (alike t here.Else-one_symbol-both_closed) _ _ c.unite-2.ensures in (
       c.arity-count.ensures.0 ∙ ap (count_of c.args.nodes.now) c.node-first.ensures.0,
       search rules,
       refl,
@@ -226,39 +239,44 @@ argument-x-requires t c =
 
 pub argument-y-requires : goal.argument-y-requires
 argument-y-requires t c =
-    let m = meets t (goal.at.argument-y-requires t c).Else-g-h in
+    let here = goal.at.argument-y-requires t c in
+    let m = meets t here.Else-g-h in
     let l = c.loop-k.invariant.0 in
     let e = c.node-second.ensures.0 in
     let p = (meeting_inside m).1 in
     let k = ap (count_of c.args.nodes.now) e in
-    let n = one_count m (alike t (goal.at.argument-y-requires t c).Else-one_symbol-both_closed) in record {
+    let n = one_count m (alike t here.Else-one_symbol-both_closed) in record {
       sections = m.joinable.sections;
       node_bound = (omega (arith, e, p), omega (arith, l, k, n, c.loop-k-test.true));
     }
 
 pub join_at_once-requires : goal.join_at_once-requires
-join_at_once-requires t c = record {
-  joinable = ready t (goal.at.join_at_once-requires t c).At-loop-k;
-  a_bound = arguments_within t (goal.at.join_at_once-requires t c).After-argument-y;
-}
+join_at_once-requires t c =
+    let here = goal.at.join_at_once-requires t c in
+    record {
+      joinable = ready t here.At-loop-k;
+      a_bound = arguments_within t here.After-argument-y;
+    }
 
 pub join-requires : goal.join-requires
 join-requires t c =
+    let here = goal.at.join-requires t c in
     let a = c.join_at_once.ensures in
     let o = c.if-not-join_at_once.true in
-    let u = applications_united (meets t (goal.at.join-requires t c).Else-g-h) (alike t (goal.at.join-requires t c).Else-one_symbol-both_closed) _ _ c.unite-2.ensures in
+    let u = applications_united (meets t here.Else-g-h) (alike t here.Else-one_symbol-both_closed) _ _ c.unite-2.ensures in
     let f = c.loop-k.invariant.4.fewer in
     let r = u.fewer in
     let n = roots_left a o in (
       omega (arith, f, r, n, c.decreases),
-      (joinable_left a o (ready t (goal.at.join-requires t c).At-loop-k), arguments_within t (goal.at.join-requires t c).After-argument-y),
+      (joinable_left a o (ready t here.At-loop-k), arguments_within t here.After-argument-y),
     )
 
 pub returns-then-not-join : goal.returns-then-not-join
 returns-then-not-join t c =
-    let m = meets t (goal.at.returns-then-not-join t c).Else-g-h in
+    let here = goal.at.returns-then-not-join t c in
+    let m = meets t here.Else-g-h in
     let l = c.loop-k in
-    let a = alike t (goal.at.returns-then-not-join t c).Else-one_symbol-both_closed in
+    let a = alike t here.Else-one_symbol-both_closed in
     let u = applications_united m a _ _ c.unite-2.ensures in
     let e = l.invariant.0 in
     let w = joins_left c.join_at_once.ensures c.if-not-join_at_once.true c.join.ensures in
@@ -266,7 +284,7 @@ returns-then-not-join t c =
       arith,
       e,
       c.loop-k-test.true,
-    )) _ _ _ _ _ (first-argument t (goal.at.returns-then-not-join t c).After-argument-y) (second-argument t (goal.at.returns-then-not-join t c).After-argument-y) c.if-not-join.true w
+    )) _ _ _ _ _ (first-argument t here.After-argument-y) (second-argument t here.After-argument-y) c.if-not-join.true w
 
 pub shape_of-heads-then-not-join : goal.shape_of-heads-then-not-join
 shape_of-heads-then-not-join t c = (joins_long c.requires.joinable (returns-then-not-join t c)).0
@@ -276,30 +294,35 @@ shape_of-next-then-not-join t c = (joins_long c.requires.joinable (returns-then-
 
 -- in either arm the pair of arguments is joined
 pair_joined : (t : ℕ) (c : Turned t) → Joins
-    c.args.nodes.now c.args.arguments.now c.args.counts.now c.loop-k.heads c.loop-k.next c.argument-x.result.0 c.argument-y.result.0 true c.if-not-join_at_once.heads c.if-not-join_at_once.next
+    c.args.nodes.now c.args.arguments.now c.args.counts.now c.loop-k.heads c.loop-k.next c.argument-x.result.0 c.argument-y.result.0 true
+    c.if-not-join_at_once.heads c.if-not-join_at_once.next
 pair_joined t c =
     let a = c.join_at_once.ensures in
     elim c.if-not-join_at_once.branch [
-      | then-not-join_at_once+else-not-join w ↦ joined_to (joins_left a w.if-not-join_at_once.true w.join.ensures) w.if-not-join.false w.heads-is w.next-is
+      | then-not-join_at_once+else-not-join w ↦ joined_to (joins_left a w.if-not-join_at_once.true w.join.ensures) w.if-not-join.false w.heads-is
+          w.next-is
       | else-not-join_at_once w ↦ joined_to (a.joins w.if-not-join_at_once.false) refl w.heads-is w.next-is
     ]
 
 pub loop-k-preserved : goal.loop-k-preserved
 loop-k-preserved t c =
+    let here = goal.at.loop-k-preserved t c in
     let l = c.loop-k in
     let w = pair_joined t c in
-    let e = joins_long (ready t (goal.at.loop-k-preserved t c).At-loop-k) w in (
+    let e = joins_long (ready t here.At-loop-k) w in (
       l.invariant.0,
       search rules,
       e.0 ∙ l.invariant.2,
       e.1 ∙ l.invariant.3,
-      arguments_next _ _ _ _ _ _ _ l.k _ _ l.invariant.4 _ _ true _ _ (first-argument t (goal.at.loop-k-preserved t c).After-argument-y) (second-argument t (goal.at.loop-k-preserved t c).After-argument-y) w refl,
+      arguments_next _ _ _ _ _ _ _ l.k _ _ l.invariant.4 _ _ true _ _ (first-argument t here.After-argument-y)
+          (second-argument t here.After-argument-y) w refl,
     )
 
 pub returns : goal.returns
 returns t c =
-    let m = meets t (goal.at.returns t c).Else-g-h in
-    let s = alike t (goal.at.returns t c).Else-one_symbol-both_closed in
+    let here = goal.at.returns t c in
+    let m = meets t here.Else-g-h in
+    let s = alike t here.Else-one_symbol-both_closed in
     let l = c.loop-k in
     let e = l.invariant.0 in
     let k = l.invariant.1 in

@@ -1,4 +1,5 @@
--- The measure is the number of classes: two are joined before their heads' arguments are. Each way out is one of the ways in which two classes are joined.
+-- The measure is the number of classes: two are joined before their heads' arguments are. Each way out is one of the ways in which two
+-- classes are joined.
 use Prim.Native.Nat.{◌≤◌, ◌-◌}
 use mathlib.Core.Path.{◌≡◌}
 use lib.ListN.{length}

@@ -1,4 +1,3 @@
--- classes::closure::goes_first
 use mathlib.Core.Path.{◌≡◌, ap, ◌∙◌}
 use native.Mathlib.Omega.{arith}
 use borrow.Author.Tests.{ltb-true, ltb-false}
@@ -33,15 +32,17 @@ is_shorter-requires c =
 
 pub returns-then-x-y : goal.returns-then-x-y
 returns-then-x-y c =
-    let p = first-strength (goal.at.returns-then-x-y c).After-strength-y in
-    let q = second-strength (goal.at.returns-then-x-y c).After-strength-y in
+    let here = goal.at.returns-then-x-y c in
+    let p = first-strength here.After-strength-y in
+    let q = second-strength here.After-strength-y in
     let e = c.if-x-y.true in
     ((λ r. omega (arith, p, q, e)), (λ r. omega (arith, p, q, e)))
 
 pub returns : goal.returns
 returns c =
-    let p = first-strength (goal.at.returns c).After-strength-y in
-    let q = second-strength (goal.at.returns c).After-strength-y in
+    let here = goal.at.returns c in
+    let p = first-strength here.After-strength-y in
+    let q = second-strength here.After-strength-y in
     let x = c.strength-x.result in
     let y = c.strength-y.result in
     ((λ r. let l = ltb-true x y r in omega (arith, p, q, l)), (λ r. let l = ltb-false x y r in omega (arith, p, q, l)))

@@ -1,4 +1,3 @@
--- It comes back to the first node.
 use native.Mathlib.Omega.{arith}
 use Rattle.nodes.proofs.CircleLaws.{nearer, follows_still, not_there}
 use Rattle.classes.proofs.closure.is_shorter.Goals as goal

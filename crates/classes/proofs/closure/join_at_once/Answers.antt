@@ -46,7 +46,8 @@ returns-then-is_variable c =
     let ns = c.args.nodes.now in
     joined_at_once
     (join_variable (meets (goal.at.returns-then-is_variable c).Else-g-h) _ _ c.unite.ensures
-    (variable_tested ns _ _ c.is_variable.result c.is_variable-2.result (kind_of_lem ns c.is_variable.ensures c.node-first.ensures.0) (kind_of_lem ns c.is_variable-2.ensures c.node-second.ensures.0) c.if-is_variable.true))
+    (variable_tested ns _ _ c.is_variable.result c.is_variable-2.result (kind_of_lem ns c.is_variable.ensures c.node-first.ensures.0)
+    (kind_of_lem ns c.is_variable-2.ensures c.node-second.ensures.0) c.if-is_variable.true))
 
 pub returns : goal.returns
 returns c = left_at_once

@@ -1,4 +1,3 @@
--- classes::closure::strength
 use mathlib.Core.Path.{sym, ◌∙◌}
 use borrow.Author.Tests.{eqb-true, eqb-false}
 use Rattle.nodes.proofs.OpenLaws.{strength_variable, strength_open, strength_closed}
@@ -10,8 +9,10 @@ returns-then-is_variable c =
 
 pub returns-then-counts-i-ne0 : goal.returns-then-counts-i-ne0
 returns-then-counts-i-ne0 c =
-    sym (strength_open c.args.nodes.now c.args.counts.now c.args.h.0 (eqb-false _ 0 (sym c.is_variable.ensures ∙ c.if-is_variable.false)) c.if-counts-i-ne0.true)
+    sym (strength_open c.args.nodes.now c.args.counts.now c.args.h.0 (eqb-false _ 0 (sym c.is_variable.ensures ∙ c.if-is_variable.false))
+    c.if-counts-i-ne0.true)
 
 pub returns : goal.returns
 returns c =
-    sym (strength_closed c.args.nodes.now c.args.counts.now c.args.h.0 (eqb-false _ 0 (sym c.is_variable.ensures ∙ c.if-is_variable.false)) c.if-counts-i-ne0.false)
+    sym (strength_closed c.args.nodes.now c.args.counts.now c.args.h.0 (eqb-false _ 0 (sym c.is_variable.ensures ∙ c.if-is_variable.false))
+    c.if-counts-i-ne0.false)

@@ -1,4 +1,3 @@
--- classes::closure::unite
 use mathlib.Core.Logic.{inl, inr}
 use Rattle.nodes.proofs.CircleLaws.{circling, turned}
 use Rattle.classes.proofs.closure.unite.Goals as goal

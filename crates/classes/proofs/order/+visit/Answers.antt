@@ -1,4 +1,3 @@
--- The measure is the number of new nodes: a visit opens one before it visits others. A head that is not due is done already, or none of its arguments is looked at.
 use Prim.Native.Nat.{◌<◌}
 use mathlib.Core.Path.{sym, ◌∙◌}
 use native.Mathlib.Omega.{arith}
@@ -94,8 +93,10 @@ loop-j-preserved t c =
     let b : l.j < word c.args.counts.now c.args.h.0 = c.loop-j-test.true in (
       search rules,
       elim c.if-is_due.branch [
-        | then-is_due+in-Count w ↦ turned v new l.invariant.1 g.result.0 b g.ensures.0 _ _ _ (w.visit.ensures.counted _ w.in-Count.is) w.marks-is w.order-is w.count-is
-        | else-is_due w ↦ turned_over v new l.invariant.1 g.result.0 b g.ensures.0 (not_due (word c.args.counts.now) l.marks g.result.0 _ c.is_due.ensures w.if-is_due.false) w.marks-is w.order-is w.count-is
+        | then-is_due+in-Count w ↦ turned v new l.invariant.1 g.result.0 b g.ensures.0 _ _ _ (w.visit.ensures.counted _ w.in-Count.is) w.marks-is
+            w.order-is w.count-is
+        | else-is_due w ↦ turned_over v new l.invariant.1 g.result.0 b g.ensures.0
+            (not_due (word c.args.counts.now) l.marks g.result.0 _ c.is_due.ensures w.if-is_due.false) w.marks-is w.order-is w.count-is
       ],
     )
 

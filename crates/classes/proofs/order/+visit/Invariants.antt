@@ -1,4 +1,5 @@
--- The measure is the number of new nodes: a visit opens one before it visits others. A head that is not due is done already, or none of its arguments is looked at.
+-- The measure is the number of new nodes: a visit opens one before it visits others. A head that is not due is done already, or none of its
+-- arguments is looked at.
 use Prim.Native.Nat.{◌≤◌, ◌-◌}
 use Rattle.table.specs.Layout.{word, node_count}
 use Rattle.unification.specs.Code.Heads.{count_below}

@@ -1,4 +1,3 @@
--- classes::order::argument_head
 use Rattle.classes.proofs.OrderLaws.{argument_head}
 use Rattle.classes.proofs.order.argument_head.Goals as goal
 

@@ -1,4 +1,3 @@
--- A head with no arguments that are looked at is ordered by itself. From another the only argument that leads on is followed: where there is an order for the head that is come to, there is one for the first. A head that was noted on the way leads to itself where it is come to again.
 use Prim.Native.Nat.{◌<◌}
 use native.Mathlib.Omega.{arith}
 use borrow.Author.Rules.{rules}

@@ -1,4 +1,6 @@
--- A head with no arguments that are looked at is ordered by itself. From another the only argument that leads on is followed: where there is an order for the head that is come to, there is one for the first. A head that was noted on the way leads to itself where it is come to again.
+-- A head with no arguments that are looked at is ordered by itself. From another the only argument that leads on is followed: where there
+-- is an order for the head that is come to, there is one for the first. A head that was noted on the way leads to itself where it is come
+-- to again.
 use Prim.Native.Nat.{◌≤◌, ◌-◌}
 use Rattle.table.specs.Limits.{max_nodes}
 use Rattle.table.specs.Layout.{word}
@@ -7,7 +9,8 @@ use Rattle.classes.proofs.order.leads_back.Given as goal
 
 abbrev pub invariant-loop-steps : goal.invariant-loop-steps
 invariant-loop-steps l =
-    (l.steps ≤ max_nodes) × Followed l.nodes l.arguments (word l.counts) l.heads l.h.0 l.g × Followed l.nodes l.arguments (word l.counts) l.heads l.mark l.g
+    (l.steps ≤ max_nodes) × Followed l.nodes l.arguments (word l.counts) l.heads l.h.0 l.g ×
+    Followed l.nodes l.arguments (word l.counts) l.heads l.mark l.g
 
 abbrev pub decreases-loop-steps : goal.decreases-loop-steps
 decreases-loop-steps l = max_nodes - l.steps

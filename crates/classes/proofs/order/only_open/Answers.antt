@@ -1,4 +1,3 @@
--- What is found of the arguments so far is carried from argument to argument.
 use mathlib.Core.Path.{refl}
 use native.Mathlib.Omega.{arith}
 use borrow.Author.Rules.{rules}

@@ -1,4 +1,3 @@
--- The heads of the nodes of the list so far are done, if arguments of theirs are looked at, and no node is open. As there is an order, no class leads to itself.
 use mathlib.Core.Path.{sym, ◌∙◌}
 use native.Mathlib.Omega.{arith}
 use borrow.Author.Rules.{rules}
@@ -65,10 +64,13 @@ loop-i-preserved c =
     let h = c.node_in-h in (
       search rules,
       elim c.if-is_due.branch [
-        | then-is_due+in-Count w ↦ swept c.requires.sections.0 c.requires.sections.1 c.requires.formed.partition c.requires.open_listed l.invariant.1 b g.result.0 g.ensures.0
+        | then-is_due+in-Count w ↦ swept c.requires.sections.0 c.requires.sections.1 c.requires.formed.partition c.requires.open_listed l.invariant.1
+            b g.result.0 g.ensures.0
             h.result.0 h.ensures.0 _ _ _ (w.visit.ensures.counted _ w.in-Count.is) w.marks-is w.order-is w.count-is
-        | else-is_due w ↦ swept_over c.requires.sections.0 c.requires.sections.1 c.requires.formed.partition c.requires.open_listed l.invariant.1 b g.result.0 g.ensures.0
-            h.result.0 h.ensures.0 (not_due (word c.args.counts.now) l.marks h.result.0 _ c.is_due.ensures w.if-is_due.false) w.marks-is w.order-is w.count-is
+        | else-is_due w ↦ swept_over c.requires.sections.0 c.requires.sections.1 c.requires.formed.partition c.requires.open_listed l.invariant.1 b
+            g.result.0 g.ensures.0
+            h.result.0 h.ensures.0 (not_due (word c.args.counts.now) l.marks h.result.0 _ c.is_due.ensures w.if-is_due.false) w.marks-is w.order-is
+            w.count-is
       ],
     )
 

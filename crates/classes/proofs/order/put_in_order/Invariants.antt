@@ -1,4 +1,5 @@
--- The heads of the nodes of the list so far are done, if arguments of theirs are looked at, and no node is open. As there is an order, no class leads to itself.
+-- The heads of the nodes of the list so far are done, if arguments of theirs are looked at, and no node is open. As there is an order, no
+-- class leads to itself.
 use Prim.Native.Nat.{◌≤◌, ◌-◌}
 use lib.ListN.{length}
 use Rattle.table.specs.Layout.{word}

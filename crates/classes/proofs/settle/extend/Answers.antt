@@ -15,7 +15,8 @@ undo-requires c =
 pub returns-then-not-join : goal.returns-then-not-join
 returns-then-not-join c =
     let j = c.join.ensures in
-    extends_clash _ _ _ c.requires.sections.0 _ c.requires.formed.0 c.args.a.0 c.args.b.0 c.requires.a_bound.0 c.requires.a_bound.1 _ _ _ _ j c.if-not-join.true (merges_back j.partition.size j.merges c.undo.ensures)
+    extends_clash _ _ _ c.requires.sections.0 _ c.requires.formed.0 c.args.a.0 c.args.b.0 c.requires.a_bound.0 c.requires.a_bound.1 _ _ _ _ j
+    c.if-not-join.true (merges_back j.partition.size j.merges c.undo.ensures)
 
 pub undo-requires-then-leads_back : goal.undo-requires-then-leads_back
 undo-requires-then-leads_back c =
@@ -25,8 +26,11 @@ undo-requires-then-leads_back c =
 pub returns-then-leads_back : goal.returns-then-leads_back
 returns-then-leads_back c =
     let j = c.join.ensures in
-    extends_occurs _ _ _ c.requires.sections.0 _ c.requires.formed.0 c.args.a.0 c.args.b.0 c.requires.a_bound.0 c.requires.a_bound.1 _ _ _ _ j c.if-not-join.false c.requires.sections.1 _ c.leads_back.ensures c.if-leads_back.true (merges_back j.partition.size j.merges c.undo-then-leads_back.ensures)
+    extends_occurs _ _ _ c.requires.sections.0 _ c.requires.formed.0 c.args.a.0 c.args.b.0 c.requires.a_bound.0 c.requires.a_bound.1 _ _ _ _ j
+    c.if-not-join.false c.requires.sections.1 _ c.leads_back.ensures c.if-leads_back.true
+    (merges_back j.partition.size j.merges c.undo-then-leads_back.ensures)
 
 pub returns : goal.returns
 returns c =
-    extends_unified _ _ _ c.requires.sections.0 _ c.requires.formed.0 c.args.a.0 c.args.b.0 c.requires.a_bound.0 c.requires.a_bound.1 _ _ _ _ c.join.ensures c.if-not-join.false c.requires.sections.1 _ c.leads_back.ensures c.if-leads_back.false
+    extends_unified _ _ _ c.requires.sections.0 _ c.requires.formed.0 c.args.a.0 c.args.b.0 c.requires.a_bound.0 c.requires.a_bound.1 _ _ _ _
+    c.join.ensures c.if-not-join.false c.requires.sections.1 _ c.leads_back.ensures c.if-leads_back.false

@@ -1,4 +1,3 @@
--- classes::trail::link
 use borrow.Author.Rules.{rules}
 use Rattle.nodes.specs.Code.Uniting.{exchanged}
 use Rattle.classes.proofs.trail.link.Goals as goal

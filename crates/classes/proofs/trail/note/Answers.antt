@@ -1,4 +1,3 @@
--- classes::trail::note
 use Prim.Native.Nat.{ℕ, ◌+◌}
 use mathlib.Core.Path.{ap}
 use native.Mathlib.Numerals.{add-one}

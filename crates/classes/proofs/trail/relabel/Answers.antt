@@ -1,4 +1,3 @@
--- The circle is gone around.
 use mathlib.Core.Path.{◌∙◌}
 use native.Mathlib.Omega.{arith}
 use lib.ListN.{length-set}

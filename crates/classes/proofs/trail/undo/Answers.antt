@@ -1,4 +1,3 @@
--- classes::trail::undo
 use native.Mathlib.Omega.{arith}
 use Rattle.classes.proofs.TrailLaws.{undoing_none, undoing_done, undoing_last, undoing_some, undoing_on}
 use Rattle.classes.proofs.trail.undo.Goals as goal

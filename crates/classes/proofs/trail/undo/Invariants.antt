@@ -1,4 +1,3 @@
--- classes::trail::undo
 use lib.ListN.{length}
 use Rattle.classes.proofs.TrailLaws.{Undoing}
 use Rattle.classes.proofs.trail.undo.Given as goal

@@ -1,4 +1,3 @@
--- The words so far are copied behind the first ones, and the others are as they were (`paste`). A turn copies one more.
 use native.Mathlib.Omega.{arith}
 use borrow.Author.Rules.{rules}
 use lib.Seq.{paste-zero}

@@ -1,4 +1,3 @@
--- The words so far are copied behind the first ones, and the others are as they were (`paste`). What is read stands before what is written.
 use native.Mathlib.Omega.{arith}
 use borrow.Author.Rules.{rules}
 use lib.ListN.{take, drop, length-drop}

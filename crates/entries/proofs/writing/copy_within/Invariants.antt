@@ -6,7 +6,8 @@ use lib.Seq.{paste}
 use Rattle.entries.proofs.writing.copy_within.Given as goal
 
 abbrev pub invariant-loop-i : goal.invariant-loop-i
-invariant-loop-i l = (l.i ≤ l.count) × (length l.out ≡ length l.initial.out) × (l.out ≡ paste l.initial.out l.at (take l.count (drop l.from l.initial.out)) l.i)
+invariant-loop-i l = (l.i ≤ l.count) × (length l.out ≡ length l.initial.out) ×
+    (l.out ≡ paste l.initial.out l.at (take l.count (drop l.from l.initial.out)) l.i)
 
 abbrev pub decreases-loop-i : goal.decreases-loop-i
 decreases-loop-i l = l.count - l.i

@@ -1,4 +1,3 @@
--- The first entries have the digit, and the next place to have it is that of the next entry (`Digits`). A turn puts one more.
 use native.Mathlib.Omega.{arith}
 use borrow.Author.Rules.{rules}
 use Rattle.entries.proofs.BlockLaws.{digits_first, digits_next, digits_last}

@@ -1,4 +1,3 @@
--- A turn writes the entries with one digit (`Repeating`), or as many of them as there are widths in the room. The block itself stays.
 use Prim.Native.Nat.{◌<◌, ◌+◌, ◌-◌}
 use native.Mathlib.Nat.{div-mul-le_self}
 use native.Mathlib.Omega.{arith}
@@ -27,8 +26,13 @@ copy_with-requires c =
     let l = c.loop-d in
     let m = div-mul-le_self (length l.out - l.used) c.args.width in
     let t = c.if-room-count.true in
-    let u = c.if-count-width.false in
-    (c.requires.1, omega (arith, u, c.requires, l.invariant), omega (arith, m, t, c.requires, l.invariant), omega (arith, m, t, l.invariant), search rules)
+    let u = c.if-count-width.false in (
+      c.requires.1,
+      omega (arith, u, c.requires, l.invariant),
+      omega (arith, m, t, c.requires, l.invariant),
+      omega (arith, m, t, l.invariant),
+      search rules,
+    )
 
 pub returns-then-room-count : goal.returns-then-room-count
 returns-then-room-count c =

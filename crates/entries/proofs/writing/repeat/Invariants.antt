@@ -9,7 +9,8 @@ use Rattle.entries.proofs.writing.repeat.Given as goal
 
 abbrev pub invariant-loop-d : goal.invariant-loop-d
 invariant-loop-d l = (l.first < l.d) × (l.d ≤ l.last + 1) × (l.to ≤ l.used) × (l.used ≤ length l.out) ×
-    (length l.out ≡ length l.initial.out) × ((es : List (List ℕ)) → Block es l.width l.initial.out l.from l.to → Repeating es l.width l.p l.first l.last l.from l.to l.initial.out l.d l.out l.used)
+    (length l.out ≡ length l.initial.out) × ((es : List (List ℕ)) → Block es l.width l.initial.out l.from l.to →
+    Repeating es l.width l.p l.first l.last l.from l.to l.initial.out l.d l.out l.used)
 
 abbrev pub decreases-loop-d : goal.decreases-loop-d
 decreases-loop-d l = l.last + 1 - l.d

@@ -1,4 +1,3 @@
--- From the last place back, the entries written are those with any digits from the place on. At a mark they are repeated with the digits after 1.
 use Prim.Native.Nat.{◌≤◌, ◌<◌, ◌-◌}
 use mathlib.Core.Path.{◌≡◌}
 use native.Mathlib.Omega.{arith}
@@ -54,7 +53,8 @@ loop-q-preserved-else-used c =
       omega (arith, n.1, r.0),
       omega (arith, r.0, l.invariant.4),
       λ lent m q. rights_repeat
-          a.k a.entry.now a.p l.q a.end h l.invariant.1 c.requires.k_le_max_labels.2 (l.invariant.5 lent m q) (omega (arith, m)) f c.requires.nonzero.1
+          a.k a.entry.now a.p l.q a.end h l.invariant.1 c.requires.k_le_max_labels.2 (l.invariant.5 lent m q) (omega (arith, m)) f
+          c.requires.nonzero.1
           c.if-entry-q-ne0.true e,
     )
 

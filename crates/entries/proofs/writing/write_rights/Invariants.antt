@@ -8,7 +8,8 @@ use Rattle.entries.proofs.writing.write_rights.Given as goal
 
 abbrev pub invariant-loop-q : goal.invariant-loop-q
 invariant-loop-q l = (l.p ≤ l.q) × (l.q ≤ l.end) × (l.at ≤ l.used) × (l.used ≤ length l.out) × (length l.out ≡ length l.initial.out) ×
-    ((lent : List ℕ) → l.at + length l.entry ≤ length lent → l.initial.out ≡ put l.at l.entry lent → Writes (right_entries l.k l.entry l.q l.end) lent l.at l.out l.used)
+    ((lent : List ℕ) → l.at + length l.entry ≤ length lent → l.initial.out ≡ put l.at l.entry lent →
+    Writes (right_entries l.k l.entry l.q l.end) lent l.at l.out l.used)
 
 abbrev pub decreases-loop-q : goal.decreases-loop-q
 decreases-loop-q l = l.q - l.p

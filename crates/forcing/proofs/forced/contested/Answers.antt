@@ -1,4 +1,3 @@
--- What more than one row before row i has is in the second set.
 use native.Mathlib.Omega.{arith}
 use borrow.Author.Rules.{rules}
 use Rattle.forcing.proofs.TakerLaws.{taken_first, taken_turn, taken_end}

@@ -1,4 +1,3 @@
--- The classes stand for what every choice has, right term by right term.
 use native.Mathlib.Omega.{arith}
 use Rattle.forcing.proofs.ForcedLaws.{forced_none, forced_failed}
 use Rattle.forcing.proofs.forced.force_rights.Goals as goal

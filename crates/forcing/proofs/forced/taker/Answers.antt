@@ -1,4 +1,3 @@
--- No left term before term i may take the right term.
 use native.Mathlib.Omega.{arith}
 use borrow.Author.Rules.{rules}
 use Rattle.forcing.proofs.TakerLaws.{takes_first, takes_next, takes_here, takes_none}

@@ -1,4 +1,3 @@
--- The rows before row i have every pair, and nothing else changes.
 use mathlib.Core.Path.{refl}
 use native.Mathlib.Omega.{arith}
 use Rattle.forcing.proofs.SettledLaws.{whole_first, whole_turn, whole_end}

@@ -40,14 +40,18 @@ pub returns-then-joins-lt-FEW : goal.returns-then-joins-lt-FEW
 returns-then-joins-lt-FEW c =
     let p = c.requires in
     let s = c.strike-joins.ensures in
-    looks_based p.known_of s.keeps_known (struck_based p.known_of s.keeps_known p.formed.0 p.formed.1 p.standing s.rows_to) c.plan_first.ensures.completable
+    looks_based p.known_of s.keeps_known (struck_based p.known_of s.keeps_known p.formed.0 p.formed.1 p.standing s.rows_to)
+    c.plan_first.ensures.completable
 
 pub settle-requires : goal.settle-requires
 settle-requires c =
     let p = c.requires in
     let s = c.strike-joins.ensures in record {
       known_of = known_kept p.known_of s.keeps_known;
-      based = (struck_based p.known_of s.keeps_known p.formed.0 p.formed.1 p.standing s.rows_to, planned (planning p.known_of s.keeps_known p.can_value c.if-known.false).0 c.plan_first.ensures);
+      based = (
+        struck_based p.known_of s.keeps_known p.formed.0 p.formed.1 p.standing s.rows_to,
+        planned (planning p.known_of s.keeps_known p.can_value c.if-known.false).0 c.plan_first.ensures,
+      );
     }
 
 pub returns : goal.returns

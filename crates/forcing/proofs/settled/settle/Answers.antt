@@ -1,4 +1,3 @@
--- After each round the rows, the bits and the classes are right.
 use mathlib.Core.Path.{sym, ◌∙◌}
 use Rattle.forcing.proofs.SettledLaws.{settling_first, settling_known, settling_end, settling_none, settling_same, settling_plan, settling_cannot, settling_again}
 use Rattle.forcing.proofs.settled.settle.Goals as goal
@@ -16,10 +15,12 @@ settle_round-fewer-requires c =
     }
 
 pub returns-then-fewer-eq-NO_CHOICE : goal.returns-then-fewer-eq-NO_CHOICE
-returns-then-fewer-eq-NO_CHOICE c = settling_none c.requires.known_of c.loop-rounds.invariant c.settle_round-fewer.ensures c.if-fewer-eq-NO_CHOICE.true
+returns-then-fewer-eq-NO_CHOICE c = settling_none c.requires.known_of c.loop-rounds.invariant c.settle_round-fewer.ensures
+    c.if-fewer-eq-NO_CHOICE.true
 
 pub returns-then-fewer-eq0 : goal.returns-then-fewer-eq0
-returns-then-fewer-eq0 c = settling_same c.requires.known_of c.loop-rounds.invariant c.settle_round-fewer.ensures c.if-fewer-eq-NO_CHOICE.false c.if-fewer-eq0.true
+returns-then-fewer-eq0 c = settling_same c.requires.known_of c.loop-rounds.invariant c.settle_round-fewer.ensures c.if-fewer-eq-NO_CHOICE.false
+    c.if-fewer-eq0.true
 
 pub plan-requires : goal.plan-requires
 plan-requires c = settling_plan c.requires.known_of c.loop-rounds.invariant c.settle_round-fewer.ensures
@@ -39,7 +40,8 @@ shape_of-can-then-not-plan c = c.plan.ensures.ready.size ∙ sym c.requires.base
 
 pub returns-then-not-plan : goal.returns-then-not-plan
 returns-then-not-plan c =
-    settling_cannot c.requires.known_of c.loop-rounds.invariant c.settle_round-fewer.ensures c.plan.ensures c.if-fewer-eq-NO_CHOICE.false c.if-not-plan.true
+    settling_cannot c.requires.known_of c.loop-rounds.invariant c.settle_round-fewer.ensures c.plan.ensures c.if-fewer-eq-NO_CHOICE.false
+    c.if-not-plan.true
 
 pub loop-rounds-preserved : goal.loop-rounds-preserved
 loop-rounds-preserved c =

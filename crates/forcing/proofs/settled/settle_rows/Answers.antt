@@ -1,4 +1,3 @@
--- The rows before row i are tried, and `fewer` counts those that have fewer pairs.
 use mathlib.Core.Path.{refl}
 use native.Mathlib.Omega.{arith}
 use Rattle.branches.proofs.KnownLaws.{known_kept, keeps_all, keeps_twice}

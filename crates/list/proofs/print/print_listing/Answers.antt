@@ -14,13 +14,21 @@ write_title-requires c =
 
 pub write_entries-requires : goal.write_entries-requires
 write_entries-requires c =
-    let l = c.list-answer in
-    (omega arith, full_printable _ _ _ _ _ c.requires.0 l.ensures.out_after c.entry_words-width.ensures (sym (ap told c.in-Full.is) ∙ l.ensures.result_value), c.requires.1)
+    let l = c.list-answer in (
+      omega arith,
+      full_printable _ _ _ _ _ c.requires.0 l.ensures.out_after c.entry_words-width.ensures
+          (sym (ap told c.in-Full.is) ∙ l.ensures.result_value),
+      c.requires.1,
+    )
 
 pub write_entries-requires-in-Finished : goal.write_entries-requires-in-Finished
 write_entries-requires-in-Finished c =
-    let l = c.list-answer in
-    (omega arith, finished_printable _ _ _ _ _ c.requires.0 l.ensures.out_after c.entry_words-width.ensures (sym (ap told c.in-Finished.is) ∙ l.ensures.result_value), c.requires.1)
+    let l = c.list-answer in (
+      omega arith,
+      finished_printable _ _ _ _ _ c.requires.0 l.ensures.out_after c.entry_words-width.ensures
+          (sym (ap told c.in-Finished.is) ∙ l.ensures.result_value),
+      c.requires.1,
+    )
 
 pub returns-in-Refused : goal.returns-in-Refused
 returns-in-Refused c =
@@ -30,9 +38,11 @@ returns-in-Refused c =
 pub returns-in-Full : goal.returns-in-Full
 returns-in-Full c =
     let l = c.list-answer in
-    full_printed _ _ _ _ _ c.requires.0 l.ensures.out_after c.entry_words-width.ensures (sym (ap told c.in-Full.is) ∙ l.ensures.result_value) c.write_entries.ensures
+    full_printed _ _ _ _ _ c.requires.0 l.ensures.out_after c.entry_words-width.ensures (sym (ap told c.in-Full.is) ∙ l.ensures.result_value)
+    c.write_entries.ensures
 
 pub returns-in-Finished : goal.returns-in-Finished
 returns-in-Finished c =
     let l = c.list-answer in
-    finished_printed _ _ _ _ _ c.requires.0 l.ensures.out_after c.entry_words-width.ensures (sym (ap told c.in-Finished.is) ∙ l.ensures.result_value) c.write_entries-in-Finished.ensures
+    finished_printed _ _ _ _ _ c.requires.0 l.ensures.out_after c.entry_words-width.ensures (sym (ap told c.in-Finished.is) ∙ l.ensures.result_value)
+    c.write_entries-in-Finished.ensures

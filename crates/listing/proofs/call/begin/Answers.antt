@@ -17,7 +17,14 @@ put_sides-requires c =
     let p = c.requires in
     let g = p.listable in
     let b = c.begin_shared-begun.ensures in record {
-      left_len_bound = (g.left_few, g.right_few, g.left_labels_lem, g.right_labels_lem, b.begins_shared.lists.within, simp length-set (b.by_index.1 ∙ p.heads_len.2));
+      left_len_bound = (
+        g.left_few,
+        g.right_few,
+        g.left_labels_lem,
+        g.right_labels_lem,
+        b.begins_shared.lists.within,
+        simp length-set (b.by_index.1 ∙ p.heads_len.2),
+      );
       all_bytes = (left_bytes g b.begins_shared, right_bytes g b.begins_shared);
     }
 

@@ -82,7 +82,8 @@ list_single-requires c =
 pub returns-then-is_single : goal.returns-then-is_single
 returns-then-is_single c =
     let u = c.is_single.ensures c.if-is_single.true in
-    parts_single (parts (goal.at.returns-then-is_single c).After-section-l) u.0 u.1 u.2 u.3 c.node_at.ensures c.node_at-then-is_single.ensures c.list_single.ensures
+    parts_single (parts (goal.at.returns-then-is_single c).After-section-l) u.0 u.1 u.2 u.3 c.node_at.ensures c.node_at-then-is_single.ensures
+    c.list_single.ensures
 
 pub list_sides-requires : goal.list_sides-requires
 list_sides-requires c = parts_listable (parts (goal.at.list_sides-requires c).After-section-l)

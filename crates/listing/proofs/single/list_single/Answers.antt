@@ -13,7 +13,8 @@ bounds-out-1 c =
 pub returns-in-Unified : goal.returns-in-Unified
 returns-in-Unified c =
     let p = c.requires in
-    single_finished _ _ _ _ c.unify_nodes.ensures (is_node _ _ _ p.a_bound.0) (is_node _ _ _ p.a_bound.1) p.arguments_len_bound p.a_bound.2 c.in-Unified.is
+    single_finished _ _ _ _ c.unify_nodes.ensures (is_node _ _ _ p.a_bound.0) (is_node _ _ _ p.a_bound.1) p.arguments_len_bound p.a_bound.2
+    c.in-Unified.is
 
 pub returns-in-Clash : goal.returns-in-Clash
 returns-in-Clash c =
@@ -23,11 +24,13 @@ returns-in-Clash c =
 pub returns-in-Occurs : goal.returns-in-Occurs
 returns-in-Occurs c =
     let p = c.requires in
-    single_occurs _ _ _ _ c.unify_nodes.ensures (is_node _ _ _ p.a_bound.0) (is_node _ _ _ p.a_bound.1) p.arguments_len_bound p.a_bound.2 c.in-Occurs.is
+    single_occurs _ _ _ _ c.unify_nodes.ensures (is_node _ _ _ p.a_bound.0) (is_node _ _ _ p.a_bound.1) p.arguments_len_bound p.a_bound.2
+    c.in-Occurs.is
 
 pub returns-in-Refused : goal.returns-in-Refused
 returns-in-Refused c =
     let p = c.requires in
     absurd
-    (single_refused _ _ _ c.args.out.now c.unify_nodes.ensures (is_node _ _ _ p.a_bound.0) (is_node _ _ _ p.a_bound.1) p.arguments_len_bound p.a_bound.2 _
+    (single_refused _ _ _ c.args.out.now c.unify_nodes.ensures (is_node _ _ _ p.a_bound.0) (is_node _ _ _ p.a_bound.1) p.arguments_len_bound
+    p.a_bound.2 _
     c.in-Refused.is)

@@ -30,4 +30,5 @@ overflow_add-result-2 c =
 
 pub returns : goal.returns
 returns c =
-    entry_counted _ _ _ _ _ _ c.section-nodes.ensures c.section-arguments.ensures c.section-left.ensures c.section-right.ensures c.count_variables.ensures
+    entry_counted _ _ _ _ _ _ c.section-nodes.ensures c.section-arguments.ensures c.section-left.ensures c.section-right.ensures
+    c.count_variables.ensures

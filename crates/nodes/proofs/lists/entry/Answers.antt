@@ -1,4 +1,3 @@
--- nodes::lists::entry
 use native.Mathlib.Omega.{arith}
 use Rattle.nodes.proofs.lists.entry.Goals as goal
 

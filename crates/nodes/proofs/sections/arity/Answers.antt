@@ -1,4 +1,3 @@
--- nodes::sections::arity
 use mathlib.Core.Path.{◌∙◌}
 use native.Mathlib.Omega.{arith}
 use Rattle.nodes.proofs.sections.arity.Goals as goal

@@ -1,4 +1,3 @@
--- nodes::sections::both_closed
 use Rattle.nodes.proofs.sections.both_closed.Goals as goal
 
 pub returns : goal.returns

@@ -1,4 +1,3 @@
--- nodes::sections::differ
 use Rattle.nodes.proofs.sections.differ.Goals as goal
 
 pub returns : goal.returns

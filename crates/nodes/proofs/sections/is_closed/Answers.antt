@@ -1,4 +1,3 @@
--- nodes::sections::is_closed
 use Rattle.nodes.specs.Code.Open.{closed_test}
 use Rattle.nodes.proofs.sections.is_closed.Goals as goal
 

@@ -1,4 +1,3 @@
--- nodes::sections::is_variable
 use Rattle.nodes.proofs.sections.is_variable.Goals as goal
 
 pub returns : goal.returns

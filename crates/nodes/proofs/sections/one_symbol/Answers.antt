@@ -1,4 +1,3 @@
--- nodes::sections::one_symbol
 use Rattle.nodes.proofs.sections.one_symbol.Goals as goal
 
 pub returns : goal.returns

@@ -1,4 +1,3 @@
--- Two arguments at one place that differ leave the nodes never equal.
 use mathlib.Core.Path.{sym}
 use mathlib.Core.Bool.{false≢true}
 use native.Mathlib.Omega.{arith}

@@ -1,4 +1,3 @@
--- The terms before the one that it finds are never equal to the node.
 use native.Mathlib.Omega.{arith}
 use Rattle.symbols.proofs.SymbolLaws.{none_next}
 use Rattle.symbols.proofs.symbols.first_may.Goals as goal

@@ -1,4 +1,3 @@
--- A set is below 256, so that 256 says that left terms are too many or one is alone.
 use native.Mathlib.Omega.{arith}
 use Rattle.symbols.specs.Code.Symbols.{too_few, alone}
 use Rattle.symbols.proofs.SymbolLaws.{none_named}

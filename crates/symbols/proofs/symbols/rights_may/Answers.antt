@@ -1,4 +1,3 @@
--- It refuses where right terms are too many or one is alone.
 use mathlib.Core.Path.{sym}
 use mathlib.Core.Bool.{false≢true}
 use native.Mathlib.Omega.{arith}

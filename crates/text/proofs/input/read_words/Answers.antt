@@ -1,4 +1,3 @@
--- The words so far, and those of the bytes that are left, are the words of all bytes.
 use mathlib.Core.Path.{refl}
 use borrow.Author.Rules.{rules}
 use Rattle.text.proofs.InputLaws.{reading_goes_on, reading_ends}

@@ -1,4 +1,3 @@
--- Each turn writes the line of the next part.
 use borrow.Author.Rules.{rules}
 use Rattle.text.proofs.LineLaws.{part_inside, next_part, line_fits, no_lines, wrote_part, wrote_parts}
 use Rattle.text.proofs.lines.write_lines.Goals as goal

@@ -1,4 +1,3 @@
--- Each turn writes a blank and a word, and the rest is left.
 use mathlib.Core.Path.{refl}
 use Rattle.text.proofs.LineLaws.{word_next, word_none, word_fits, feed_fits}
 use Rattle.text.proofs.WritingLaws.{writing_begins, writing_goes_on, writing_ends}

@@ -1,4 +1,3 @@
--- Each turn writes a byte, and the rest is left.
 use borrow.Author.Rules.{rules}
 use lib.ListN.{drop_of_length-le}
 use Rattle.text.proofs.LineLaws.{text_next, byte_fits}

@@ -1,4 +1,3 @@
--- The symbols are one, and the arguments so far have the same heads, which are their own.
 use native.Mathlib.Omega.{arith}
 use borrow.Author.Rules.{rules}
 use Rattle.values.proofs.AlikeLaws.{compare_symbols, compare_start, compare_next, compare_different, compare_end}

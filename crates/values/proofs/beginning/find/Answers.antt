@@ -1,4 +1,3 @@
--- No head with the key from the cursor on is alike, and the cursor falls.
 use mathlib.Core.Path.{refl}
 use native.Mathlib.Omega.{arith}
 use borrow.Author.Rules.{rules}
@@ -22,8 +21,12 @@ overflow_cast-g c =
 
 pub alike-requires : goal.alike-requires
 alike-requires c =
-    let l = c.loop-cursor in
-    (c.requires.sharing.before, (seek_inside _ _ _ _ _ _ c.requires.sharing _ l.cursor l.invariant c.loop-cursor-test.true _ refl c.requires.node_bound.0).0, c.requires.node_bound.0)
+    let l = c.loop-cursor in (
+      c.requires.sharing.before,
+      (seek_inside _ _ _ _ _ _ c.requires.sharing _ l.cursor l.invariant c.loop-cursor-test.true _ refl
+          c.requires.node_bound.0).0,
+      c.requires.node_bound.0,
+    )
 
 pub returns-then-alike : goal.returns-then-alike
 returns-then-alike c =
@@ -52,4 +55,5 @@ loop-cursor-preserved c =
 pub returns : goal.returns
 returns c =
     let l = c.loop-cursor in
-    seek_nothing _ _ _ _ _ _ c.requires.sharing _ l.cursor l.invariant c.requires.node_bound.0 c.requires.node_bound.1 c.requires.node_bound.2 c.loop-cursor-test.false
+    seek_nothing _ _ _ _ _ _ c.requires.sharing _ l.cursor l.invariant c.requires.node_bound.0 c.requires.node_bound.1 c.requires.node_bound.2
+    c.loop-cursor-test.false

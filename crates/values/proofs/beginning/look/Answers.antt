@@ -1,4 +1,3 @@
--- The key is that of the symbol and the heads of the arguments so far, and it is known whether these are closed applications.
 use mathlib.Core.Path.{◌∙◌}
 use native.Mathlib.Omega.{arith}
 use borrow.Author.Rules.{rules}

@@ -9,7 +9,8 @@ use Rattle.values.proofs.beginning.look.Given as goal
 
 abbrev pub invariant-loop-j : goal.invariant-loop-j
 invariant-loop-j l =
-    (l.n ≡ count_of l.nodes l.node.0) × (l.n ≤ max_count) × (l.j ≤ l.n) × ((l.key ≡ key_up_to l.nodes l.arguments l.heads l.heads l.node.0 l.j) × (l.key < keys)) ×
+    (l.n ≡ count_of l.nodes l.node.0) × (l.n ≤ max_count) × (l.j ≤ l.n) ×
+    ((l.key ≡ key_up_to l.nodes l.arguments l.heads l.heads l.node.0 l.j) × (l.key < keys)) ×
     ClosedSoFar l.nodes l.arguments l.counts l.node.0 l.j l.closed
 
 abbrev pub decreases-loop-j : goal.decreases-loop-j

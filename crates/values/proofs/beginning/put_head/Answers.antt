@@ -14,4 +14,5 @@ bounds-next-h-2 c =
 
 pub returns : goal.returns
 returns c =
-    head_grows _ _ _ _ c.requires.i_in_bounds.0 c.requires.i_in_bounds.1 c.requires.by_index.1 c.requires.i_in_bounds.2 c.requires.i_in_bounds.3 c.if-h-i.false
+    head_grows _ _ _ _ c.requires.i_in_bounds.0 c.requires.i_in_bounds.1 c.requires.by_index.1 c.requires.i_in_bounds.2 c.requires.i_in_bounds.3
+    c.if-h-i.false

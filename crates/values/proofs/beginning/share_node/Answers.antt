@@ -20,7 +20,8 @@ returns-then-is_variable c =
     let k = eqb-true _ _ (sym c.is_variable.ensures ∙ c.if-is_variable.true) in record {
       sharing_2 = sharing_skip _ _ _ _ _ _ _ c.requires.sharing.0 v.heads_before_2.0 v.by_index k;
       least_before_2 = (v.least_before_2, v.heads_before_2.1);
-      open_before_2 = open_variable _ _ _ _ _ c.requires.sharing.0.before.sections c.requires.open_before.0 c.requires.sharing.1 c.requires.open_before.1 k c.note_count-opens.ensures;
+      open_before_2 = open_variable _ _ _ _ _ c.requires.sharing.0.before.sections c.requires.open_before.0 c.requires.sharing.1
+          c.requires.open_before.1 k c.note_count-opens.ensures;
     }
 
 pub share_application-requires : goal.share_application-requires
@@ -33,12 +34,14 @@ share_application-requires c =
 
 pub note_count-opens-requires-2 : goal.note_count-opens-requires-2
 note_count-opens-requires-2 c =
-    open_place _ _ _ _ _ _ _ c.requires.sharing.0.before.sections c.requires.open_before.0 c.requires.sharing.1 c.requires.open_before.1 c.look-looked.ensures.counted_at
+    open_place _ _ _ _ _ _ _ c.requires.sharing.0.before.sections c.requires.open_before.0 c.requires.sharing.1 c.requires.open_before.1
+    c.look-looked.ensures.counted_at
 
 pub returns : goal.returns
 returns c =
     let a = c.share_application.ensures in record {
       sharing_2 = a.sharing_2;
       least_before_2 = (least_other _ _ _ _ (sym c.is_variable.ensures ∙ c.if-is_variable.false) c.requires.least_before.0, a.circles_before);
-      open_before_2 = open_next _ _ _ _ _ _ _ c.requires.sharing.0.before.sections c.requires.open_before.0 c.requires.sharing.1 c.requires.open_before.1 c.look-looked.ensures.counted_at _ _ c.note_count-opens-2.ensures;
+      open_before_2 = open_next _ _ _ _ _ _ _ c.requires.sharing.0.before.sections c.requires.open_before.0 c.requires.sharing.1
+          c.requires.open_before.1 c.look-looked.ensures.counted_at _ _ c.note_count-opens-2.ensures;
     }

@@ -1,4 +1,3 @@
--- The nodes before i have their heads, are in circles and are counted.
 use native.Mathlib.Omega.{arith}
 use borrow.Author.Rules.{rules}
 use Rattle.values.proofs.PreparedLaws.{open_none}
@@ -41,5 +40,6 @@ loop-i-preserved c =
 pub returns : goal.returns
 returns c =
     let l = c.loop-i in
-    let p = shared_all _ _ _ _ _ _ _ _ _ _ _ l.i _ l.invariant.0 l.invariant.1 c.loop-i-test.false l.invariant.2 l.invariant.3 l.invariant.4 l.invariant.5 in
+    let p = shared_all _ _ _ _ _ _ _ _ _ _ _ l.i _ l.invariant.0 l.invariant.1 c.loop-i-test.false l.invariant.2 l.invariant.3 l.invariant.4
+    l.invariant.5 in
     record { heads_before = p.0; least_before = p.1.0; open_before = p.1.1 }

@@ -10,7 +10,8 @@ use Rattle.values.proofs.beginning.share_nodes.Given as goal
 
 abbrev pub invariant-loop-i : goal.invariant-loop-i
 invariant-loop-i l =
-    (l.n ≡ node_count l.nodes) × (l.i ≤ l.n) × Sharing l.nodes l.arguments l.heads l.buckets l.earlier l.i × LeastBefore l.nodes l.least l.i l.counted.end ×
+    (l.n ≡ node_count l.nodes) × (l.i ≤ l.n) × Sharing l.nodes l.arguments l.heads l.buckets l.earlier l.i ×
+    LeastBefore l.nodes l.least l.i l.counted.end ×
     CirclesBefore l.heads l.next l.i × OpenBefore l.nodes l.arguments l.initial.counts l.counts l.counted.opens l.i
 
 abbrev pub decreases-loop-i : goal.decreases-loop-i

@@ -1,4 +1,3 @@
--- The symbols are one, and the arguments so far have the same names.
 use borrow.Author.Rules.{rules}
 use Rattle.values.proofs.AlikeLaws.{compare_symbols, compare_start, compare_next, compare_different, compare_end}
 use Rattle.values.proofs.names.alike.Goals as goal
@@ -13,12 +12,17 @@ loop-j-init c =
 pub returns-then-x-y : goal.returns-then-x-y
 returns-then-x-y c =
     let l = c.loop-j in
-    compare_different _ _ _ _ _ _ l.j _ l.invariant.0 l.invariant.2 _ _ c.argument_name-x.ensures.0 c.argument_name-y.ensures.0 c.loop-j-test.true c.if-x-y.true
+    compare_different _ _ _ _ _ _ l.j _ l.invariant.0 l.invariant.2 _ _ c.argument_name-x.ensures.0 c.argument_name-y.ensures.0 c.loop-j-test.true
+    c.if-x-y.true
 
 pub loop-j-preserved : goal.loop-j-preserved
 loop-j-preserved c =
-    let l = c.loop-j in
-    (l.invariant.0, search rules, compare_next _ _ _ _ _ _ l.j _ l.invariant.0 l.invariant.2 _ _ c.argument_name-x.ensures.0 c.argument_name-y.ensures.0 c.if-x-y.false)
+    let l = c.loop-j in (
+      l.invariant.0,
+      search rules,
+      compare_next _ _ _ _ _ _ l.j _ l.invariant.0 l.invariant.2 _ _ c.argument_name-x.ensures.0
+          c.argument_name-y.ensures.0 c.if-x-y.false,
+    )
 
 pub returns : goal.returns
 returns c =

@@ -1,4 +1,3 @@
--- No representative with the key from the cursor on is alike, and the cursor falls.
 use native.Mathlib.Omega.{arith}
 use Rattle.values.proofs.FindLaws.{search_start, cursor_inside, nodes_inside, search_found, search_next, search_less, search_nothing}
 use Rattle.values.proofs.names.find.Goals as goal
@@ -21,13 +20,15 @@ pub alike-requires : goal.alike-requires
 alike-requires c =
     let l = c.loop-cursor in record {
       readable = c.requires.naming.readable;
-      g_bound = nodes_inside _ _ _ _ _ _ _ _ c.requires.naming _ l.cursor l.invariant.1 c.loop-cursor-test.true c.requires.p_in_bounds.0 _ _ c.node_in-g.ensures.0 l.invariant.0;
+      g_bound = nodes_inside _ _ _ _ _ _ _ _ c.requires.naming _ l.cursor l.invariant.1 c.loop-cursor-test.true c.requires.p_in_bounds.0 _ _
+          c.node_in-g.ensures.0 l.invariant.0;
     }
 
 pub returns-then-alike : goal.returns-then-alike
 returns-then-alike c =
     let l = c.loop-cursor in
-    search_found _ _ _ _ _ _ _ _ c.requires.naming _ l.cursor l.invariant.1 c.loop-cursor-test.true _ _ _ c.node_in-g.ensures.0 l.invariant.0 c.alike.ensures c.if-alike.true
+    search_found _ _ _ _ _ _ _ _ c.requires.naming _ l.cursor l.invariant.1 c.loop-cursor-test.true _ _ _ c.node_in-g.ensures.0 l.invariant.0
+    c.alike.ensures c.if-alike.true
 
 pub entry-cursor-requires-in-loop-cursor : goal.entry-cursor-requires-in-loop-cursor
 entry-cursor-requires-in-loop-cursor c =
@@ -41,8 +42,11 @@ loop-cursor-smaller c =
 
 pub loop-cursor-preserved : goal.loop-cursor-preserved
 loop-cursor-preserved c =
-    let l = c.loop-cursor in
-    (l.invariant.0, search_next _ _ _ _ _ _ _ _ c.requires.naming _ l.cursor l.invariant.1 c.loop-cursor-test.true _ _ _ c.node_in-g.ensures.0 l.invariant.0 c.alike.ensures c.if-alike.false _ c.entry-cursor-in-loop-cursor.ensures)
+    let l = c.loop-cursor in (
+      l.invariant.0,
+      search_next _ _ _ _ _ _ _ _ c.requires.naming _ l.cursor l.invariant.1 c.loop-cursor-test.true _ _ _ c.node_in-g.ensures.0
+          l.invariant.0 c.alike.ensures c.if-alike.false _ c.entry-cursor-in-loop-cursor.ensures,
+    )
 
 pub returns : goal.returns
 returns c =

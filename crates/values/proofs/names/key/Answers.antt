@@ -1,4 +1,3 @@
--- X is the key of the symbol and the arguments so far.
 use mathlib.Core.Path.{◌∙◌}
 use borrow.Author.Rules.{rules}
 use Rattle.values.proofs.AlikeLaws.{key_start, key_next, key_end}

@@ -1,4 +1,3 @@
--- The nodes before place p have their names.
 use mathlib.Core.Path.{sym, ◌∙◌}
 use borrow.Author.Rules.{rules}
 use Rattle.values.proofs.NamingLaws.{naming_end}

@@ -1,4 +1,3 @@
--- The nodes before i name themselves.
 use native.Mathlib.Omega.{arith}
 use borrow.Author.Rules.{rules}
 use lib.ListN.{length-set}

@@ -8,7 +8,8 @@ use Rattle.values.proofs.names.name_themselves.Given as goal
 
 abbrev pub invariant-loop-i : goal.invariant-loop-i
 invariant-loop-i l =
-    (length l.names ≡ length l.initial.names) × (length l.initial.names ≤ max_nodes) × (l.i ≤ length l.initial.names) × ((k : ℕ) → k < l.i → word l.names k ≡ k)
+    (length l.names ≡ length l.initial.names) × (length l.initial.names ≤ max_nodes) × (l.i ≤ length l.initial.names) ×
+    ((k : ℕ) → k < l.i → word l.names k ≡ k)
 
 abbrev pub decreases-loop-i : goal.decreases-loop-i
 decreases-loop-i l = length l.initial.names - l.i

@@ -1,4 +1,3 @@
--- values::prepared::is_closed_head
 use native.Mathlib.Omega.{arith}
 use Rattle.nodes.specs.Code.Open.{closed_head_test}
 use Rattle.values.proofs.prepared.is_closed_head.Goals as goal

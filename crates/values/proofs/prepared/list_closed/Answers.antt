@@ -1,4 +1,3 @@
--- Of the nodes before i, the closed applications with arguments that are heads are listed, and stand in the table.
 use Prim.Native.Nat.{ℕ}
 use mathlib.Core.Path.{sym, ◌∙◌}
 use native.Mathlib.Omega.{arith}

@@ -8,7 +8,8 @@ use Rattle.values.proofs.prepared.list_closed.Given as goal
 
 abbrev pub invariant-loop-i : goal.invariant-loop-i
 invariant-loop-i l =
-    (l.n ≡ node_count l.nodes) × (l.n ≤ max_nodes) × (l.i ≤ l.n) × ClosedBefore l.nodes l.arguments l.counts l.heads l.order l.buckets l.earlier l.count l.i
+    (l.n ≡ node_count l.nodes) × (l.n ≤ max_nodes) × (l.i ≤ l.n) ×
+    ClosedBefore l.nodes l.arguments l.counts l.heads l.order l.buckets l.earlier l.count l.i
 
 abbrev pub decreases-loop-i : goal.decreases-loop-i
 decreases-loop-i l = l.n - l.i

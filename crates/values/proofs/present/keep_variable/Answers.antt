@@ -1,4 +1,3 @@
--- values::present::keep_variable
 use borrow.Author.Rules.{rules}
 use Rattle.values.proofs.LeastLaws.{kept_variable, passed_variable}
 use Rattle.values.proofs.present.keep_variable.Goals as goal

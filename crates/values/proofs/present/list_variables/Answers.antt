@@ -1,4 +1,3 @@
--- The least nodes of the variables below x stand in the list.
 use native.Mathlib.Omega.{arith}
 use borrow.Author.Rules.{rules}
 use Rattle.values.proofs.LeastLaws.{present_none, present_next, present_all}

@@ -1,4 +1,3 @@
--- The nodes before node i are noted, and their variables are below end.
 use borrow.Author.Rules.{rules}
 use Rattle.values.proofs.LeastLaws.{least_counted}
 use Rattle.values.proofs.present.note_variables.Goals as goal

@@ -1,4 +1,3 @@
--- Each way round hands the branch on with one left term less to go, so the measure falls. Each way through the code is a law of the definition that mirrors it.
 use Prim.Native.Nat.{◌≤◌, ◌<◌, ◌+◌}
 use mathlib.Core.Path.{refl, sym, ap, ◌∙◌}
 use native.Mathlib.Omega.{arith}
@@ -201,7 +200,8 @@ walk_labels-returns-then-used t c =
     let l = c.requires.term_bound.1 in
     let b : length c.args.out.now < full = search rules in
     let y = c.walk-used.ensures in record {
-      stepped_from = label_full g h l c.put_digit.ensures (omega (arith, c.if-last-d.false, c.at.ensures.0, c.at-2.ensures.0)) y.walked b c.if-used.true;
+      stepped_from = label_full g h l c.put_digit.ensures (omega (arith, c.if-last-d.false, c.at.ensures.0, c.at-2.ensures.0)) y.walked b
+          c.if-used.true;
       heads_unchanged = (y.heads_unchanged.0, y.heads_unchanged.1);
     }
 
@@ -211,7 +211,8 @@ walk_labels-returns-then-d-last t c =
     let h = c.requires.term_bound.0 in
     let l = c.requires.term_bound.1 in
     let y = c.walk-used.ensures in record {
-      stepped_from = labels_one g h l c.put_digit.ensures (omega (arith, c.if-last-d.false, c.at.ensures.0, c.at-2.ensures.0)) y.walked c.if-used.false (omega (arith, c.if-d-last.true, c.at.ensures.0, c.at-2.ensures.0));
+      stepped_from = labels_one g h l c.put_digit.ensures (omega (arith, c.if-last-d.false, c.at.ensures.0, c.at-2.ensures.0)) y.walked
+          c.if-used.false (omega (arith, c.if-d-last.true, c.at.ensures.0, c.at-2.ensures.0));
       heads_unchanged = (y.heads_unchanged.0, y.heads_unchanged.1);
     }
 
@@ -257,7 +258,8 @@ walk_labels-returns t c =
     let l = c.requires.term_bound.1 in
     let y = c.walk-used.ensures
     in record {
-      stepped_from = labels_stepped g h l c.put_digit.ensures (omega (arith, c.if-last-d.false, c.at.ensures.0, c.at-2.ensures.0)) y.walked c.if-used.false c.at-3.ensures.0 (omega (arith, c.at.ensures.0, c.at-2.ensures.0)) c.repeat.ensures;
+      stepped_from = labels_stepped g h l c.put_digit.ensures (omega (arith, c.if-last-d.false, c.at.ensures.0, c.at-2.ensures.0)) y.walked
+          c.if-used.false c.at-3.ensures.0 (omega (arith, c.at.ensures.0, c.at-2.ensures.0)) c.repeat.ensures;
       heads_unchanged = (y.heads_unchanged.0, y.heads_unchanged.1);
     }
 
