@@ -11,19 +11,19 @@ pub mod limits;
 pub mod layout;
 
 // The number of a node.
-#[derive(Clone, Copy)]
+#[derive(Clone, Copy, PartialEq, Eq, PartialOrd, Ord)]
 pub struct Node(pub u32);
 
 // The number of a variable.
-#[derive(Clone, Copy)]
+#[derive(Clone, Copy, PartialEq, Eq, PartialOrd, Ord)]
 pub struct Variable(pub u32);
 
 // A label: document 000's multiset variable. It and a variable of equal number are unrelated.
-#[derive(Clone, Copy)]
+#[derive(Clone, Copy, PartialEq, Eq, PartialOrd, Ord)]
 pub struct Label(pub u32);
 
 // Why a call is refused, in document 01's order: the first seven by any operation that takes a table.
-#[derive(Clone, Copy)]
+#[derive(Clone, Copy, PartialEq, Eq)]
 pub enum Refusal {
     TooFewWords,
     BrokenPair,
