@@ -1,47 +1,55 @@
 -- What looking ahead comes to: rows with every pair leave all bits 1, and where the bits leave no choice, there is no entry.
 -- By the laws of what cannot be completed. Assumes nothing.
-use Prim.Native.Nat.{ℕ, ◌+◌, ◌≤◌, ◌<◌}
+use Prim.Native.Nat.{ℕ, ◌+◌, ◌-◌, ◌≤◌, ◌<◌}
 use mathlib.Core.Bool.{Bool, true, false, ◌||◌, false≢true}
-use mathlib.Core.List.{List, []}
+use mathlib.Core.List.{List, [], ◌++◌}
 use mathlib.Core.Path.{◌≡◌, refl, sym, ap, ◌∙◌}
-use native.Mathlib.Decide.{ℕ_discrete}
 use native.Mathlib.Omega.{arith}
 use borrow.Author.Tests.{ltb-false}
+use borrow.Rule.Slice.PartMut.{put_mid, mid_of, post_of, same_len_mid}
 use lib.Dec.{ltb}
-use lib.ListN.{length, set, replicate, length-replicate}
-use lib.Seq.{get_or-set_same, get_or-set_other}
+use lib.ListN.{length, take, drop, replicate, length-drop, length-replicate, get_or-append, get_or-replicate}
+use lib.Seq.{length-take-le, get_or-take}
+use Rattle.std.proofs.lemmas.List.{get_or-append_right}
 use Rattle.table.specs.Layout.{word}
 use Rattle.table.proofs.BoolLaws.{or_false_left}
 use Rattle.branches.specs.Code.Known.{left_count, right_count, every_in, KnownOf, KeepsKnown}
 use Rattle.branches.specs.Code.Ahead.{has, completes_from, MayPair}
 use Rattle.branches.specs.Code.Walk.{all_entries, Standing, LooksAhead}
 use Rattle.branches.proofs.SetLaws.{has_every, paired_first}
-use Rattle.branches.proofs.KnownLaws.{known_kept, left_kept, right_kept, keeps_all, keeps_twice}
+use Rattle.branches.proofs.KnownLaws.{known_kept, left_kept, right_kept, keeps_twice}
 use Rattle.branches.proofs.CompleteLaws.{below_cannot}
 use Rattle.ahead.specs.Code.Plan.{Sized, Ready, Plans}
 use Rattle.ahead.specs.Code.Struck.{RowsTo}
-use Rattle.ahead.specs.Code.Whole.{NotFit, WholeTo, WholeRows}
+use Rattle.ahead.specs.Code.Whole.{NotFit, WholeRows}
 use Rattle.ahead.proofs.PlanLaws.{full_ready, full_completable}
-use Rattle.ahead.proofs.StruckLaws.{rows_pairs, rows_end, keeps_row}
+use Rattle.ahead.proofs.StruckLaws.{rows_pairs, rows_end}
 use Rattle.ahead.proofs.FitLaws.{not_fit_none}
 
--- at first no row is needed
-pub whole_first : (known : List ℕ) → WholeTo known known 0
-whole_first known = record { keeps = keeps_all known; rows = λ q h. absurd (omega (arith, h)) }
-
--- then one more has every pair
-pub whole_turn : {known₀ known : List ℕ} {i v : ℕ} → 600 + i < length known → v ≡ every_in known₀ → WholeTo known₀ known i →
-    WholeTo known₀ (set known (600 + i) v) (i + 1)
-whole_turn {known₀} {known} {i} {v} l e w =
-    record { keeps = keeps_twice w.keeps (keeps_row known i v); rows = λ q h. go q h (ℕ_discrete q i) }
+-- rows with every pair are put
+pub whole_put : {known ys : List ℕ} {n k : ℕ} → k ≡ n → n ≡ left_count known → 600 + n ≤ length known →
+    ys ≡ replicate (length (mid_of 600 k known)) (every_in known) → WholeRows known (put_mid 600 k known ys)
+whole_put {known} {ys} {n} {k} d l h e =
+    record { keeps = record { size = same_len_mid 600 k known ys same_length; same = before }; rows = rows }
   where
-    go : (q : ℕ) → q < i + 1 → Dec (q ≡ i) → word (set known (600 + i) v) (600 + q) ≡ every_in known₀
-    go q h (yes d) = ap (λ (x : ℕ). word (set known (600 + i) v) (600 + x)) d ∙ get_or-set_same known (600 + i) v 0 l ∙ e
-    go q h (no d) = get_or-set_other known (600 + i) (600 + q) v 0 (λ z. d (omega (arith, z))) ∙ w.rows q (omega (arith, h, d))
+    same_length : length ys ≡ length (mid_of 600 k known)
+    same_length = ap length e ∙ length-replicate (length (mid_of 600 k known)) (every_in known)
 
--- until all have
-pub whole_end : {known₀ known : List ℕ} {i n : ℕ} → n ≤ i → WholeTo known₀ known i → WholeTo known₀ known n
-whole_end h w = record { keeps = w.keeps; rows = λ q l. w.rows q (omega (arith, h, l)) }
+    first : length (take 600 known) ≡ 600
+    first = length-take-le 600 known (omega (arith, h))
+
+    second : length (mid_of 600 k known) ≡ n
+    second = length-take-le k (drop 600 known) (omega (arith, length-drop 600 known, d, h)) ∙ d
+
+    before : (q : ℕ) → q < 600 → word (put_mid 600 k known ys) q ≡ word known q
+    before q o = get_or-append (take 600 known) (ys ++ post_of 600 k known) 0 q (omega (arith, first, o)) ∙ get_or-take 600 known q 0 o
+
+    rows : (q : ℕ) → q < left_count known → word (put_mid 600 k known ys) (600 + q) ≡ every_in known
+    rows q o =
+        get_or-append_right (take 600 known) (ys ++ post_of 600 k known) 600 (600 + q) 0 first (omega arith)
+        ∙ get_or-append ys (post_of 600 k known) 0 (600 + q - 600) (omega (arith, o, l, second, same_length))
+        ∙ ap (λ (zs : List ℕ). word zs (600 + q - 600)) e
+        ∙ get_or-replicate (length (mid_of 600 k known)) (600 + q - 600) (every_in known) 0 (omega (arith, o, l, second))
 
 module _ {nodes arguments known : List ℕ} (k : KnownOf nodes arguments known) where
   -- what the bits need to know

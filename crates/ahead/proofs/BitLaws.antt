@@ -1,6 +1,6 @@
 -- Bits of a word of sets: what a union and a shift under a mask have, and so a word of a row from the row after it.
 -- By the laws of bit operations; that a mask has the bits it needs is computed. Assumes nothing.
-use Prim.Native.Nat.{ℕ, suc, ◌+◌, ◌/◌, ◌%◌, ◌^◌, ◌<◌}
+use Prim.Native.Nat.{ℕ, zero, suc, ◌+◌, ◌*◌, ◌/◌, ◌%◌, ◌^◌, ◌<◌}
 use mathlib.Core.Bool.{Bool, true, false, not, ◌&&◌, false≢true}
 use mathlib.Core.List.{List}
 use mathlib.Core.Path.{◌≡◌, refl, sym, ap, ◌∙◌}
@@ -63,10 +63,6 @@ shifted_has w c u h = ap (λ (x : ℕ). eqb (x % 2) 1) (shr-shr w c u) ∙ h
 pub with_put : (sets more : ℕ) → (may : Bool) → may ≡ true → WithSets sets more may (bit_or sets more)
 with_put sets more may e =
     record { kept = λ u h. or_left sets more u h; put = λ z u h. or_right sets more u h }
-
--- and others are not
-pub with_none : (sets more : ℕ) → (may : Bool) → may ≡ false → WithSets sets more may sets
-with_none sets more may e = record { kept = λ u h. h; put = λ z. absurd (false≢true (sym e ∙ z)) }
 
 -- at first the sets of the row after it, if they stay
 pub before_first : (can : List ℕ) (t x row w : ℕ) (stay : Bool) (r : ℕ) → w ≡ word can (t + x) → WithSets 0 w stay r → SetsBefore can t x row 0 stay r
@@ -198,28 +194,44 @@ module _ (can : List ℕ) (t x row : ℕ) (stay : Bool) (sets more : ℕ) (may :
       (λ s n. let z = bit_nought s 5 32 refl n in (omega (arith, z), omega (arith, z), nought_bit (s % 64) 5 32 refl (omega (arith, z))))
       (mask_has 0x00000000ffffffff 5 refl)
 
+-- the word of a set with the seventh right term
+pub or_one : (x : ℕ) → x < 4 → bit_or x 1 ≡ x / 2 * 2 + 1
+or_one zero h = refl
+or_one (suc zero) h = refl
+or_one (suc (suc zero)) h = refl
+or_one (suc (suc (suc zero))) h = refl
+or_one (suc (suc (suc (suc x)))) h = absurd (omega (arith, h))
+
+-- and with the eighth
+pub or_two : (x : ℕ) → x < 4 → bit_or x 2 ≡ x % 2 + 2
+or_two zero h = refl
+or_two (suc zero) h = refl
+or_two (suc (suc zero)) h = refl
+or_two (suc (suc (suc zero))) h = refl
+or_two (suc (suc (suc (suc x)))) h = absurd (omega (arith, h))
+
 -- and the last two
 module _ (can : List ℕ) (t x row : ℕ) (stay : Bool) (sets : ℕ) (may : Bool) (r : ℕ) (four : x < 4) where
   -- the seventh
-  pub before_6 : SetsBefore can t x row 6 stay sets → WithSets sets (word can (t + x + 1)) may r → may ≡ (eqb (row / 64 % 2) 1 && eqb (x % 2) 0) →
+  pub before_6 : SetsBefore can t x row 6 stay sets → WithSets sets (word can (t + bit_or x 1)) may r → may ≡ (eqb (row / 64 % 2) 1 && eqb (x % 2) 0) →
       SetsBefore can t x row 7 stay r
   unfolding has
   before_6 b p f =
-      before_high can t x row 6 stay sets (word can (t + x + 1)) may r b p (t + x + 1) refl
+      before_high can t x row 6 stay sets (word can (t + bit_or x 1)) may r b p (t + bit_or x 1) refl
       (λ s d n h. let z = bit_nought s 6 64 refl n in let y : x % 2 ≡ 0 = omega (arith, z, d) in f ∙ both _ _ h (eq-eqb (x % 2) 0 y))
-      (λ s d n. (omega (arith, d), omega arith))
+      (λ s d n. let z = bit_nought s 6 64 refl n in let o = or_one x four in (omega (arith, d, z, o), omega arith))
     where
       both : (a b : Bool) → a ≡ true → b ≡ true → (a && b) ≡ true
       both a b u v = rw (u, v) refl
 
   -- the eighth
-  pub before_7 : SetsBefore can t x row 7 stay sets → WithSets sets (word can (t + x + 2)) may r → may ≡ (eqb (row / 128 % 2) 1 && ltb x 2) →
+  pub before_7 : SetsBefore can t x row 7 stay sets → WithSets sets (word can (t + bit_or x 2)) may r → may ≡ (eqb (row / 128 % 2) 1 && ltb x 2) →
       SetsBefore can t x row 8 stay r
   unfolding has
   before_7 b p f =
-      before_high can t x row 7 stay sets (word can (t + x + 2)) may r b p (t + x + 2) refl
+      before_high can t x row 7 stay sets (word can (t + bit_or x 2)) may r b p (t + bit_or x 2) refl
       (λ s d n h. let z = bit_nought s 7 128 refl n in let y : x < 2 = omega (arith, z, d, four) in f ∙ both _ _ h (lt-ltb x 2 y))
-      (λ s d n. (omega (arith, d), omega arith))
+      (λ s d n. let z = bit_nought s 7 128 refl n in let o = or_two x four in (omega (arith, d, z, o, four), omega arith))
     where
       both : (a b : Bool) → a ≡ true → b ≡ true → (a && b) ≡ true
       both a b u v = rw (u, v) refl

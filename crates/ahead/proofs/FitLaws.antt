@@ -1,20 +1,19 @@
 -- Where a side has more terms than the other, which has no labels, there is no entry.
 -- By induction on the left terms still to go, each of which lowers the number of unpaired right terms by one at most. Assumes nothing.
 use Prim.Native.Nat.{ℕ, zero, suc, ◌+◌, ◌-◌, ◌<◌}
-use mathlib.Core.Bool.{Bool, true, false, cond, ◌&&◌}
+use mathlib.Core.Bool.{Bool, true, false, cond}
 use mathlib.Core.List.{List, [], ◌∷◌, ◌++◌, map}
 use mathlib.Core.Path.{◌≡◌, refl, ap, ◌∙◌}
 use native.Mathlib.Omega.{arith}
-use borrow.Author.Tests.{eqb-true, ne_eqb, ltb-true}
-use lib.Dec.{eqb, ltb}
+use borrow.Author.Tests.{ne_eqb}
+use lib.Dec.{eqb}
 use lib.ListN.{length, set, replicate}
 use Rattle.table.specs.Layout.{word}
-use Rattle.table.proofs.BoolLaws.{and_true_left, and_true_right}
 use Rattle.unification.specs.Node.{Node, nodes_from}
 use Rattle.unification.specs.Computed.Unifying.{words_of}
 use Rattle.multiset_unification.specs.Computed.Choices.{branch}
 use Rattle.entries.specs.Code.Writing.{marked}
-use Rattle.branches.specs.Code.Known.{left_count, right_count, left_labels, right_labels, left_in, right_in, KnownOf}
+use Rattle.branches.specs.Code.Known.{right_count, left_labels, right_labels, left_in, right_in, KnownOf}
 use Rattle.branches.specs.Code.Walk.{on_digit, below, all_entries}
 use Rattle.branches.proofs.OverLaws.{over_none, digit_empty}
 use Rattle.branches.proofs.KnownLaws.{left_long}
@@ -96,15 +95,3 @@ not_fit_none nodes arguments known k (more_right e h) ps =
     (replicate (right_count known) 1)) e
     ∙ many_unpaired (nodes_from nodes arguments) (right_in known) (right_labels known) (left_in known) [] ps (replicate (right_count known) 1)
     (omega (arith, h, x, y))
-
--- what the test for more left terms tells
-pub more_left_test : (known : List ℕ) → (eqb (right_labels known) 0 && ltb (right_count known) (left_count known)) ≡ true → NotFit known
-more_left_test known t =
-    more_left (eqb-true (right_labels known) 0 (and_true_left (eqb (right_labels known) 0) (ltb (right_count known) (left_count known)) t))
-    (ltb-true (right_count known) (left_count known) (and_true_right (eqb (right_labels known) 0) (ltb (right_count known) (left_count known)) t))
-
--- and that for more right terms
-pub more_right_test : (known : List ℕ) → (eqb (left_labels known) 0 && ltb (left_count known) (right_count known)) ≡ true → NotFit known
-more_right_test known t =
-    more_right (eqb-true (left_labels known) 0 (and_true_left (eqb (left_labels known) 0) (ltb (left_count known) (right_count known)) t))
-    (ltb-true (left_count known) (right_count known) (and_true_right (eqb (left_labels known) 0) (ltb (left_count known) (right_count known)) t))

@@ -48,11 +48,7 @@ sets_same {can} {can₀} {t} {x} {row} {n} {stay} {r} f b =
     there : (s : ℕ) → bit_from can t s ≡ bit_from can₀ t s
     there s = ap (λ (v : ℕ). has v (s % 64)) (f (t + s / 64) (omega arith))
 
--- at first no word of a row is filled
-pub fill_first : (can : List ℕ) (t row : ℕ) (stay : Bool) → FillsRow can t 0 row stay can
-fill_first can t row stay = record { size = refl; kept = λ p h. refl; filled = λ x h. absurd (omega (arith, h)) }
-
--- then one word more is
+-- one word more of a row is filled
 pub fill_turn : {can₀ can can' : List ℕ} {t x row w : ℕ} {stay : Bool} → FillsRow can₀ t x row stay can → x < 4 → t + x < length can →
     SetsBefore can (t + 4) x row 8 stay w → can' ≡ set can (t + x) w → FillsRow can₀ t (x + 1) row stay can'
 fill_turn {can₀} {can} {can'} {t} {x} {row} {w} {stay} f four l b e =
@@ -71,22 +67,14 @@ fill_turn {can₀} {can} {can'} {t} {x} {row} {w} {stay} f four l b e =
         let v : word can' (t + y) ≡ word can (t + y) = ap (λ (zs : List ℕ). word zs (t + y)) e ∙ get_or-set_other can (t + x) (t + y) w 0 z in
         rw v (f.filled y (omega (arith, h, d)))
 
--- until all are
-pub fill_end : {can₀ can : List ℕ} {t x words row : ℕ} {stay : Bool} → FillsRow can₀ t x row stay can → words ≤ x → FillsRow can₀ t words row stay can
-fill_end f h = record { size = f.size; kept = f.kept; filled = λ y q. f.filled y (omega (arith, h, q)) }
-
--- where there are left labels the last row stays
-pub ends_none : (can : List ℕ) (t every : ℕ) (closed : Bool) → closed ≡ false → EndsRow can t every closed can
-ends_none can t every closed e = record { size = refl; whole = λ z. absurd (false≢true (sym e ∙ z)); same = λ z. refl }
-
 -- one bit alone
-one_bit : (k : ℕ) → k < 64 → 1 * 2 ^ k % 18446744073709551616 ≡ 2 ^ k
+pub one_bit : (k : ℕ) → k < 64 → 1 * 2 ^ k % 18446744073709551616 ≡ 2 ^ k
 one_bit k h =
     let e : 1 * 2 ^ k ≡ 2 ^ k = omega arith in
     let l : 2 ^ k < 18446744073709551616 = pow-lt h in
     ap (λ (x : ℕ). x % 18446744073709551616) e ∙ mod-eq_of_lt l
 
--- otherwise it has the whole set
+-- where there are no left labels, the last row has the whole set
 pub ends_whole : (can can₁ can' : List ℕ) (t every p v : ℕ) (closed : Bool) → closed ≡ true → length can₁ ≡ length can → every < 256 →
     t + 4 ≤ length can → p ≡ t + every / 64 → v ≡ 1 * 2 ^ (every % 64) % 18446744073709551616 → can' ≡ set can₁ p v → EndsRow can t every closed can'
 ends_whole can can₁ can' t every p v closed y l few room q d e =
@@ -103,10 +91,6 @@ ends_whole can can₁ can' t every p v closed y l few room q d e =
         ap (λ (zs : List ℕ). word zs (t + every / 64)) e ∙ ap (λ (k : ℕ). word (set can₁ k v) (t + every / 64)) q
         ∙ get_or-set_same can₁ (t + every / 64) v 0 (omega (arith, l, few, room))
         ∙ r
-
--- the left term from which on it holds, by another name
-pub completable_at : {known can : List ℕ} {i k : ℕ} → k ≡ i → CompletableFrom known can i → CompletableFrom known can k
-completable_at e c = rw e c
 
 -- what is known of the sets
 module _ {known : List ℕ} (z : Sized known) where
@@ -135,13 +119,6 @@ module _ {known : List ℕ} (z : Sized known) where
   set_few s h =
       let f = sets_few (right_count known) z.right_few in
       omega (arith, h, f)
-
-  -- so does the whole set
-  pub every_few : every_in known < 256
-  every_few =
-      let f = sets_few (right_count known) z.right_few in
-      let e = z.every in
-      omega (arith, f, e)
 
   -- where the left terms from term i on can be placed, the word before its row has the set
   pub bit_before : {can : List ℕ} {i t row s r : ℕ} {stay : Bool} → CompletableFrom known can i → i < left_count known → t ≡ 4 * i →

@@ -1,6 +1,6 @@
 -- Pairs that are struck out have no common value on top of whatever pairs the classes stand for: a substitution that unified them would
 -- unify the pairs of the classes with them, which clash or lead in a circle. Assumes nothing.
-use Prim.Native.Nat.{ℕ, suc, ◌+◌, ◌*◌, ◌/◌, ◌%◌, ◌^◌, ◌≤◌, ◌<◌}
+use Prim.Native.Nat.{ℕ, ◌+◌, ◌*◌, ◌/◌, ◌%◌, ◌^◌, ◌≤◌, ◌<◌}
 use mathlib.Core.Bool.{Bool, true, false, not, ◌&&◌, ◌||◌, false≢true}
 use mathlib.Core.List.Memᴰ
 use mathlib.Core.List.{List, ◌∷◌}
@@ -12,7 +12,6 @@ use native.Mathlib.Numerals.{add-one}
 use native.Mathlib.Omega.{arith}
 use lib.Dec.{eqb}
 use lib.ListN.{length, set, length-set}
-use lib.Pow.{shr-shr, pow-lt}
 use borrow.Author.Tests.{eqb-true, not-false}
 use lib.Seq.{get_or-set_same, get_or-set_other, set-get_or}
 use Rattle.table.specs.Layout.{word, node_count}
@@ -21,7 +20,7 @@ use Rattle.terms.specs.Substitution.{Substitution}
 use Rattle.unification.specs.Node.{Node, nodes_from}
 use Rattle.unification.specs.Unifier.{value, Unifies}
 use Rattle.unification.specs.Closure.{Joined, given, back, on}
-use Rattle.unification.specs.Outcome.{unified, clash, occurs}
+use Rattle.unification.specs.Outcome.{unified, clash}
 use Rattle.unification.specs.Computed.Classes.{class_of}
 use Rattle.unification.specs.Computed.Unifying.{outcome}
 use Rattle.unification.specs.Code.Sections.{Sections, differ_test}
@@ -31,18 +30,20 @@ use Rattle.unification.proofs.SectionLaws.{is_node, sections_well_formed}
 use Rattle.nodes.specs.Code.Open.{IsClosed, closed_test, Counts}
 use Rattle.nodes.specs.Code.Formed.{Formed, Stands}
 use Rattle.nodes.proofs.OpenLaws.{closed_true}
-use Rattle.classes.specs.declared.Extended.{Extended}
-use Rattle.classes.specs.declared.Extended.TheVariants.{Clash, Occurs}
-use Rattle.classes.specs.Code.Stands.{Extends, extended}
+use Rattle.unification.specs.declared.Unification.{Unification}
+use Rattle.unification.specs.declared.Unification.TheVariants.{Unified, Clash, Occurs}
+use Rattle.unification.specs.Answer.{outcome_of}
+use Rattle.classes.specs.Code.Stands.{Extends}
 use Rattle.classes.proofs.AtOnceLaws.{differ_clash}
 use Rattle.classes.proofs.ClosedClashLaws.{SameTerm, closed_joined}
 use Rattle.unification.specs.Closure as closure
 use Rattle.branches.specs.Code.Known.{every_in, left_count, right_count, KeepsKnown}
 use Rattle.branches.specs.Code.Ahead.{has, NeverOn, MayPair}
 use Rattle.branches.specs.Code.Walk.{Standing}
+use Rattle.branches.proofs.BitLaws.{has_false}
 use Rattle.branches.proofs.SetLaws.{has_every, has_added, has_other, has_above}
-use Rattle.ahead.specs.Code.Struck.{NeverJoins, Adds, RowTo, RowsTo}
-use Rattle.ahead.proofs.PlanLaws.{sets_few}
+use Rattle.ahead.specs.Code.Struck.{NeverJoins, RowTo, RowsTo}
+use Rattle.ahead.proofs.PlanLaws.{sets_few, one_bit}
 
 module _ (nodes arguments counts : List ℕ) (s : Sections nodes arguments) (heads : List ℕ) (f : Formed nodes arguments counts heads)
     (a b : ℕ) (p : a < node_count nodes) (q : b < node_count nodes) where
@@ -109,89 +110,48 @@ module _ (nodes arguments counts : List ℕ) (s : Sections nodes arguments) (hea
           absurd
           (n (x ∙ sym (f.partition.own a p) ∙ f.closed.shared (class_of heads a) (class_of heads b) first second v ∙ f.partition.own b q ∙ sym y))
 
-  -- a pair that clashes with the classes
-  pub clash_never : (r : Extended) (next heads' next' : List ℕ) → r ≡ Clash → Extends nodes arguments counts heads next a b r heads' next' →
-      NeverJoins nodes arguments heads a b
-  clash_never r next heads' next' e x =
-      never_by
-      (λ ps d u.
-      let k : clash ≡ unified = sym (ap extended e) ∙ x.answers ps d ∙ u in
-      let w : ◌≡◌ {A = ℕ} 0 1 = cc in
-      omega arith)
-
-  -- and one that makes a cycle
-  pub occurs_never : (r : Extended) (next heads' next' : List ℕ) → r ≡ Occurs → Extends nodes arguments counts heads next a b r heads' next' →
-      NeverJoins nodes arguments heads a b
-  occurs_never r next heads' next' e x =
-      never_by
-      (λ ps d u.
-      let k : occurs ≡ unified = sym (ap extended e) ∙ x.answers ps d ∙ u in
-      let w : ◌≡◌ {A = ℕ} 0 1 = cc in
-      omega arith)
-
--- there are few bits
-pub bit_few : (j bit : ℕ) → bit ≡ 2 ^ j → j ≤ 8 → bit ≤ 511
-bit_few j bit e h =
-    let p : 2 ^ j < 512 = pow-lt {i = j} {j = 9} (omega (arith, h)) in
-    omega (arith, p, e)
-
--- the next bit
-pub bit_next : (j bit : ℕ) → bit ≡ 2 ^ j → bit + bit ≡ 2 ^ (j + 1)
-bit_next j bit e =
-    let d = pow-suc 2 j in
-    let a : 2 ^ (j + 1) ≡ 2 ^ suc j = ap (λ (x : ℕ). 2 ^ x) (add-one j) in
-    omega (arith, e, d, a)
-
--- what is left of a row after one bit more
-pub rest_next : (row j rest : ℕ) → rest ≡ row / 2 ^ j → rest / 2 ≡ row / 2 ^ (j + 1)
-rest_next row j rest e = ap (λ (x : ℕ). x / 2) e ∙ shr-shr row j 1
-
--- a bit of a row is the first of what is left
-pub rest_bit : (row j rest : ℕ) → rest ≡ row / 2 ^ j → has row j ≡ eqb (rest % 2) 1
-unfolding has
-rest_bit row j rest e = sym (ap (λ (x : ℕ). eqb (x % 2) 1) e)
+  -- a pair by which the classes cannot be extended
+  pub failed_never : (r : Unification) (next heads' next' : List ℕ) → (r ≡ Unified → ⊥) →
+      Extends nodes arguments counts heads next a b r heads' next' → NeverJoins nodes arguments heads a b
+  failed_never r next heads' next' n x = never_by (λ ps d u. n (is_unified r (x.answers ps d ∙ u)))
+    where
+      is_unified : (r : Unification) → outcome_of r ≡ unified → r ≡ Unified
+      is_unified Unified e = refl
+      is_unified Clash e = absurd (let w : ◌≡◌ {A = ℕ} 0 1 = cc in omega arith)
+      is_unified Occurs e = absurd (let w : ◌≡◌ {A = ℕ} 0 1 = cc in omega arith)
 
 module _ {nodes arguments known heads : List ℕ} {i : ℕ} where
-  -- at first a row is empty
-  pub row_first : RowTo nodes arguments known heads i 0 0
-  row_first = record { within = omega arith; never = λ j h. absurd (omega (arith, h)) }
-
-  -- then it has one right term more, or that never joins
-  pub row_turn : {j row bit r : ℕ} {b : Bool} → RowTo nodes arguments known heads i j row → bit ≡ 2 ^ j → Adds row bit b r →
-      (b ≡ false → NeverJoins nodes arguments heads (word known (584 + i)) (word known (592 + j))) → RowTo nodes arguments known heads i (j + 1) r
-  row_turn {j} {row} {bit} {r} {b} t e x n = pick b refl
+  -- a row has one right term more
+  pub row_with : {j row r : ℕ} → RowTo nodes arguments known heads i j row → j < 64 → r ≡ row + 1 * 2 ^ j % 18446744073709551616 →
+      RowTo nodes arguments known heads i (j + 1) r
+  row_with {j} {row} {r} t l s =
+      record { within = omega (arith, e, t.within, twice); never = λ k h. go k h (ℕ_discrete k j) }
     where
+      e : r ≡ row + 2 ^ j
+      e = s ∙ ap (λ (x : ℕ). row + x) (one_bit j l)
+
       none : has row j ≡ false
       none = has_above j row j t.within (omega arith)
 
       twice : 2 ^ (j + 1) ≡ 2 ^ j * 2
       twice = ap (λ (y : ℕ). 2 ^ y) (add-one j) ∙ pow-suc 2 j
 
-      with_it : r ≡ row + 2 ^ j → (k : ℕ) → k < j + 1 → Dec (k ≡ j) → has r k ≡ false →
-          NeverJoins nodes arguments heads (word known (584 + i)) (word known (592 + k))
-      with_it z k h (yes y) o = absurd (false≢true (sym o ∙ ap (λ (u : ℕ). has u k) z ∙ ap (has (row + 2 ^ j)) y ∙ has_added row j none))
-      with_it z k h (no y) o = t.never k (omega (arith, h, y)) (sym (has_other row j k none y) ∙ sym (ap (λ (u : ℕ). has u k) z) ∙ o)
+      go : (k : ℕ) → k < j + 1 → Dec (k ≡ j) → has r k ≡ false → NeverJoins nodes arguments heads (word known (584 + i)) (word known (592 + k))
+      go k h (yes y) o = absurd (false≢true (sym o ∙ ap (λ (u : ℕ). has u k) e ∙ ap (has (row + 2 ^ j)) y ∙ has_added row j none))
+      go k h (no y) o = t.never k (omega (arith, h, y)) (sym (has_other row j k none y) ∙ sym (ap (λ (u : ℕ). has u k) e) ∙ o)
 
-      without : b ≡ false → r ≡ row → (k : ℕ) → k < j + 1 → Dec (k ≡ j) → has r k ≡ false →
-          NeverJoins nodes arguments heads (word known (584 + i)) (word known (592 + k))
-      without g z k h (yes y) o = rw y (n g)
-      without g z k h (no y) o = t.never k (omega (arith, h, y)) (sym (ap (λ (u : ℕ). has u k) z) ∙ o)
+  -- or lacks one that never joins
+  pub row_without : {j row : ℕ} → RowTo nodes arguments known heads i j row →
+      NeverJoins nodes arguments heads (word known (584 + i)) (word known (592 + j)) → RowTo nodes arguments known heads i (j + 1) row
+  row_without {j} {row} t n =
+      record { within = omega (arith, t.within, twice); never = λ k h. go k h (ℕ_discrete k j) }
+    where
+      twice : 2 ^ (j + 1) ≡ 2 ^ j * 2
+      twice = ap (λ (y : ℕ). 2 ^ y) (add-one j) ∙ pow-suc 2 j
 
-      pick : (c : Bool) → b ≡ c → RowTo nodes arguments known heads i (j + 1) r
-      pick true g =
-          let z : r ≡ row + 2 ^ j = x.more g ∙ ap (λ (y : ℕ). row + y) e in
-          let l = t.within in
-          record { within = omega (arith, z, l, twice); never = λ k h. with_it z k h (ℕ_discrete k j) }
-      pick false g =
-          let z : r ≡ row = x.same g in
-          let l = t.within in
-          record { within = omega (arith, z, l, twice); never = λ k h. without g z k h (ℕ_discrete k j) }
-
-  -- a row of all right terms
-  pub row_end : {j m row : ℕ} → RowTo nodes arguments known heads i j row → j ≤ m → m ≤ j → RowTo nodes arguments known heads i m row
-  row_end {j} {m} {row} t h l =
-      let e : m ≡ j = omega (arith, h, l) in
-      rw e t
+      go : (k : ℕ) → k < j + 1 → Dec (k ≡ j) → has row k ≡ false → NeverJoins nodes arguments heads (word known (584 + i)) (word known (592 + k))
+      go k h (yes y) o = rw y n
+      go k h (no y) o = t.never k (omega (arith, h, y)) o
 
 -- a row with every right term lacks none
 pub row_whole : {nodes arguments known heads : List ℕ} {i row : ℕ} → every_in known + 1 ≡ 2 ^ right_count known → row ≡ every_in known →
@@ -201,26 +161,6 @@ row_whole {known = known} {i} {row} e d =
       within = omega (arith, e, d);
       never = λ j h o. absurd (false≢true (sym o ∙ ap (λ (x : ℕ). has x j) d ∙ has_every (right_count known) (every_in known) j e h));
     }
-
--- a number that comes to another
-pub adds_more : (x y : ℕ) (b : Bool) → b ≡ true → Adds x y b (x + y)
-adds_more x y b e = record { more = λ z. refl; same = λ z. absurd (false≢true (sym z ∙ e)) }
-
--- or not
-pub adds_none : (x y : ℕ) (b : Bool) → b ≡ false → Adds x y b x
-adds_none x y b e = record { more = λ z. absurd (false≢true (sym e ∙ z)); same = λ z. refl }
-
--- it is small
-pub adds_few : {x y : ℕ} {b : Bool} {r : ℕ} → Adds x y b r → r ≤ x + y
-adds_few {x} {y} {b} {r} a = pick b refl
-  where
-    pick : (c : Bool) → b ≡ c → r ≤ x + y
-    pick true e =
-        let z = a.more e in
-        omega (arith, z)
-    pick false e =
-        let z = a.same e in
-        omega (arith, z)
 
 -- a row is put among what is known
 module _ (known : List ℕ) (i v : ℕ) where
@@ -266,10 +206,6 @@ module _ (known : List ℕ) (i v : ℕ) where
     -- the same number of rows
     pub rows_again : {n : ℕ} → n ≤ 8 → RowsTo nodes arguments known heads n → RowsTo nodes arguments (set known (600 + i) v) heads n
     rows_again h r = rows_put h (λ q l e. l) r
-
--- at first no row is needed
-pub rows_first : (nodes arguments known heads : List ℕ) → RowsTo nodes arguments known heads 0
-rows_first nodes arguments known heads = record { never = λ q j h. absurd (omega (arith, h)) }
 
 -- rows of all left terms
 pub rows_end : {nodes arguments known heads : List ℕ} {i n : ℕ} → RowsTo nodes arguments known heads i → n ≤ i → RowsTo nodes arguments known heads n
@@ -322,16 +258,11 @@ pub never_named : {nodes arguments heads : List ℕ} {a b a' b' : ℕ} → a ≡
     NeverJoins nodes arguments heads a' b'
 never_named e d n = rw (sym e, sym d) n
 
--- a pair that is no longer to be tried, or was tried
-pub try_never : {nodes arguments known heads₀ heads : List ℕ} {i j rest a : ℕ} → RowsTo nodes arguments known heads₀ (left_count known) →
-    i < left_count known → j < right_count known → rest ≡ word known (600 + i) / 2 ^ j → heads ≡ heads₀ → a ≡ word known (584 + i) →
-    (eqb (rest % 2) 1 ≡ true → NeverJoins nodes arguments heads a (word known (592 + j))) →
-    NeverJoins nodes arguments heads₀ (word known (584 + i)) (word known (592 + j))
-try_never {nodes} {arguments} {known} {heads₀} {heads} {i} {j} {rest} {a} r h g e d x n = pick (eqb (rest % 2) 1) refl
-  where
-    pick : (b : Bool) → eqb (rest % 2) 1 ≡ b → NeverJoins nodes arguments heads₀ (word known (584 + i)) (word known (592 + j))
-    pick true z = rw (sym d, sym x) (n z)
-    pick false z = r.never i j h g (rest_bit (word known (600 + i)) j rest e ∙ z)
+-- a pair that is struck out already
+pub struck_never : {nodes arguments known heads : List ℕ} {i j row : ℕ} → RowsTo nodes arguments known heads (left_count known) →
+    i < left_count known → j < right_count known → row ≡ word known (600 + i) → row / 2 ^ j % 2 ≡ 0 →
+    NeverJoins nodes arguments heads (word known (584 + i)) (word known (592 + j))
+struck_never {i = i} {j} {row} r h g e z = r.never i j h g (ap (λ (v : ℕ). has v j) (sym e) ∙ has_false row j (λ o. omega (arith, z, o)))
 
 -- a row by another name of the heads
 pub row_as : {nodes arguments known heads heads₀ : List ℕ} {i n row : ℕ} → heads ≡ heads₀ → RowTo nodes arguments known heads i n row →
@@ -342,11 +273,3 @@ row_as e t = rw (sym e) t
 pub rows_as : {nodes arguments known heads heads₀ : List ℕ} {n : ℕ} → heads ≡ heads₀ → RowsTo nodes arguments known heads₀ n →
     RowsTo nodes arguments known heads n
 rows_as e t = rw e t
-
--- a row is a byte
-pub row_byte : {nodes arguments known heads : List ℕ} {i row : ℕ} → right_count known ≤ 8 →
-    RowTo nodes arguments known heads i (right_count known) row → row < 256
-row_byte {nodes} {arguments} {known} h t =
-    let f = sets_few (right_count known) h in
-    let l = t.within in
-    omega (arith, f, l)

@@ -19,8 +19,8 @@ pub const SETS: usize = 32;
 // Every set.
 pub const ALL: u64 = 18446744073709551615;
 
-// With fewer pairs that are to be joined none is tried by itself.
-const FEW: usize = 5;
+// With fewer pairs that are to be joined none is tried before the walk.
+pub const FEW: usize = 5;
 
 // Whether the two sides can be paired by their numbers: a side with more terms needs labels of the other.
 fn fits(nodes: &[u32], arguments: &[u32], known: &[u8]) -> bool
@@ -39,27 +39,20 @@ fn fits(nodes: &[u32], arguments: &[u32], known: &[u8]) -> bool
 }
 
 // Leaves every pair.
-fn leave(nodes: &[u32], arguments: &[u32], known: &mut [u8])
+pub fn leave(nodes: &[u32], arguments: &[u32], known: &mut [u8])
     requires { KnownOf nodes.now arguments.now known.old }
     ensures { WholeRows known.old known.new }
 {
     let n = known::at(known, LEFT_COUNT);
     let every = known[EVERY];
-    let mut i: usize = 0;
-    while i < n {
-        known[ROWS + i] = every;
-        i += 1;
-    }
+    known[ROWS..ROWS + n].fill(every);
 }
 
 // The first left term whose pairs are tried: where there are left labels, the second.
-fn first_tried(known: &[u8]) -> usize
+pub fn first_tried(known: &[u8]) -> usize
     requires { 580 < length known.now }
 {
-    if known[LEFT_LABELS] != 0 {
-        return 1;
-    }
-    0
+    if known[LEFT_LABELS] == 0 { 0 } else { 1 }
 }
 
 // Looks ahead: whether there may be a choice.

@@ -4,47 +4,46 @@ ghost use Rattle.table.specs.Layout.{word, node_count};
 ghost use Rattle.nodes.specs.Code.Trail.{Trailed};
 ghost use Rattle.nodes.specs.Code.Formed.{Formed};
 ghost use Rattle.branches.specs.Code.Known.{left_count, right_count, KnownOf, KeepsKnown};
-ghost use Rattle.ahead.specs.Code.Struck.{NeverJoins, Adds, RowTo, RowsTo};
+ghost use Rattle.ahead.specs.Code.Struck.{NeverJoins, RowTo, RowsTo};
+ghost use Rattle.ahead.specs.declared.pairs.Seen.TheVariants.{Different};
 
 use branches::known;
 use branches::known::{EVERY, LEFT, LEFT_COUNT, RIGHT, RIGHT_COUNT, ROWS};
-use classes::Extended;
 use classes::settle::extend;
 use classes::trail::{GONE, undo};
 use nodes::{lists, sections};
 use table::Node;
+use unification::Unification;
 
-// A number, with another if that comes to it.
-fn added(x: usize, y: usize, comes: bool) -> usize
-    requires { (x < 65536) × (y < 65536) }
-    ensures { Adds x y comes result }
-{
-    if comes {
-        return x + y;
-    }
-    x
+// What is seen of two terms at once.
+#[derive(Clone, Copy, PartialEq, Eq)]
+enum Seen {
+    // They differ, by their symbols or as closed terms.
+    Different,
+    // They are of one class.
+    Same,
+    // They are to be joined.
+    Open,
 }
 
-// Two terms, by the heads of their classes: 0 if they differ at once, by their symbols or as closed terms, 1 if they are of one class,
-// and otherwise 2.
-fn seen(nodes: &[u32], arguments: &[u32], known: &[u8], heads: &[u8], a: Node, b: Node) -> usize
+// Looks at two terms, by the heads of their classes.
+fn see(nodes: &[u32], arguments: &[u32], known: &[u8], heads: &[u8], a: Node, b: Node) -> Seen
     requires known_of { KnownOf nodes.now arguments.now known.now × Formed nodes.now arguments.now known.now heads.now }
     requires a_bound { (a.0 < node_count nodes.now) × (b.0 < node_count nodes.now) }
-    ensures never_joins { result ≡ 0 → NeverJoins nodes.now arguments.now heads.now a.0 b.0 }
-    ensures upper_bound { result ≤ 2 }
+    ensures { result ≡ Different → NeverJoins nodes.now arguments.now heads.now a.0 b.0 }
 {
     let g = lists::node_in(heads, a.0 as usize);
     let h = lists::node_in(heads, b.0 as usize);
-    if g.0 == h.0 {
-        return 1;
+    if g == h {
+        return Seen::Same;
     }
     if sections::differ(nodes, g, h) {
-        return 0;
+        return Seen::Different;
     }
     if sections::both_closed(nodes, known, g, h) {
-        return 0;
+        return Seen::Different;
     }
-    2
+    Seen::Open
 }
 
 // The right terms that a left term may be paired with, and how many of them are to be joined with it.
@@ -63,17 +62,18 @@ fn strike_row(nodes: &[u32], arguments: &[u32], known: &[u8], heads: &[u8], i: u
 {
     let m = known::at(known, RIGHT_COUNT);
     let a = lists::node_in(known, LEFT + i);
-    let mut may: usize = 0;
-    let mut joins: usize = 0;
-    let mut bit: usize = 1;
-    let mut j: usize = 0;
-    while j < m {
+    let mut may = 0;
+    let mut joins = 0;
+    for j in 0..m {
         let b = lists::node_in(known, RIGHT + j);
-        let s = seen(nodes, arguments, known, heads, a, b);
-        may = added(may, bit, s != 0);
-        joins += s / 2;
-        bit += bit;
-        j += 1;
+        match see(nodes, arguments, known, heads, a, b) {
+            Seen::Different => {}
+            Seen::Same => may += 1 << j,
+            Seen::Open => {
+                may += 1 << j;
+                joins += 1;
+            }
+        }
     }
     Row { may, joins }
 }
@@ -103,13 +103,11 @@ pub fn strike(nodes: &[u32], arguments: &[u32], heads: &[u8], known: &mut [u8]) 
     ensures rows_to { RowsTo nodes.now arguments.now known.new heads.now (left_count known.old) }
 {
     let n = known::at(known, LEFT_COUNT);
-    let mut joins: usize = 0;
-    let mut i: usize = 0;
-    while i < n {
+    let mut joins = 0;
+    for i in 0..n {
         let row = first_row(nodes, arguments, known, heads, i);
         known[ROWS + i] = row.may as u8;
         joins += row.joins;
-        i += 1;
     }
     joins
 }
@@ -119,15 +117,13 @@ fn may_hold(nodes: &[u32], arguments: &[u32], known: &[u8], heads: &[u8], h: Nod
     requires known_of { KnownOf nodes.now arguments.now known.now × Formed nodes.now arguments.now known.now heads.now }
     requires h_bound { h.0 < node_count nodes.now }
 {
-    let n = known[h.0 as usize] as usize;
-    let mut j: usize = 0;
-    while j < n {
+    let n = usize::from(known[h.0 as usize]);
+    for j in 0..n {
         let a = sections::argument(nodes, arguments, h, j);
         let x = lists::node_in(heads, a.0 as usize);
-        if (x.0 == g.0) | (known[x.0 as usize] != 0) {
+        if (x == g) | (known[x.0 as usize] != 0) {
             return true;
         }
-        j += 1;
     }
     false
 }
@@ -164,45 +160,18 @@ fn try_pair(
 {
     let g = lists::node_in(heads, a.0 as usize);
     let h = lists::node_in(heads, b.0 as usize);
-    if g.0 == h.0 {
+    if g == h {
         return true;
     }
     if joins(nodes, arguments, known, heads, g, h) {
         return true;
     }
     let mark = next[GONE];
-    match extend(nodes, arguments, known, heads, next, a, b) {
-        Extended::Clash => false,
-        Extended::Occurs => false,
-        Extended::Unified => {
-            undo(heads, next, mark);
-            true
-        }
-    }
-}
-
-// Whether right term j stays a partner, if it is one.
-fn stays(
-    nodes: &[u32],
-    arguments: &[u32],
-    known: &[u8],
-    heads: &mut [u8],
-    next: &mut [u8],
-    a: Node,
-    j: usize,
-    is: bool,
-) -> bool
-    requires known_of { KnownOf nodes.now arguments.now known.now }
-    requires formed { Formed nodes.now arguments.now known.now heads.old × Trailed (node_count nodes.now) heads.old next.old }
-    requires a_bound { (a.0 < node_count nodes.now) × (j < right_count known.now) }
-    ensures never_joins { result ≡ false → is ≡ true → NeverJoins nodes.now arguments.now heads.old a.0 (word known.now (592 + j)) }
-    ensures heads_unchanged { (heads.new ≡ heads.old) × (next.new ≡ next.old) }
-{
-    if !is {
+    if extend(nodes, arguments, known, heads, next, a, b) != Unification::Unified {
         return false;
     }
-    let b = lists::node_in(known, RIGHT + j);
-    try_pair(nodes, arguments, known, heads, next, a, b)
+    undo(heads, next, mark);
+    true
 }
 
 // The row of left term i, with those of its pairs that may be joined, each by itself.
@@ -222,16 +191,16 @@ pub fn try_row(
 {
     let m = known::at(known, RIGHT_COUNT);
     let a = lists::node_in(known, LEFT + i);
-    let mut rest = known::at(known, ROWS + i);
-    let mut may: usize = 0;
-    let mut bit: usize = 1;
-    let mut j: usize = 0;
-    while j < m {
-        let stay = stays(nodes, arguments, known, heads, next, a, j, rest % 2 == 1);
-        may = added(may, bit, stay);
-        rest = rest / 2;
-        bit += bit;
-        j += 1;
+    let row = known::at(known, ROWS + i);
+    let mut may = 0;
+    for j in 0..m {
+        if (row >> j) % 2 == 0 {
+            continue;
+        }
+        let b = lists::node_in(known, RIGHT + j);
+        if try_pair(nodes, arguments, known, heads, next, a, b) {
+            may += 1 << j;
+        }
     }
     may
 }
@@ -255,13 +224,11 @@ pub fn try_pairs(
 {
     let n = known::at(known, LEFT_COUNT);
     let mut fewer = false;
-    let mut i = first;
-    while i < n {
+    for i in first..n {
         let row = known::at(known, ROWS + i);
         let may = try_row(nodes, arguments, known, heads, next, i);
         known[ROWS + i] = may as u8;
-        fewer = fewer | (may != row);
-        i += 1;
+        fewer |= may != row;
     }
     fewer
 }

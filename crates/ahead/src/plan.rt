@@ -17,17 +17,6 @@ fn with_sets(sets: u64, more: u64, may: bool) -> u64
     sets
 }
 
-// The same with a word of a row.
-fn with_word(sets: u64, can: &[u64], p: usize, may: bool) -> u64
-    requires { may ≡ true → p < length can.now }
-    ensures { WithSets sets (word can.now p) may result }
-{
-    if may {
-        return sets | can[p];
-    }
-    sets
-}
-
 // The sets of one word.
 fn sets_before(can: &[u64], t: usize, x: usize, row: usize, stay: bool) -> u64
     requires { (t + 4 ≤ length can.now) × (x < 4) × (row < 256) }
@@ -50,8 +39,8 @@ fn sets_before(can: &[u64], t: usize, x: usize, row: usize, stay: bool) -> u64
     if row < 64 {
         return g;
     }
-    let h = with_word(g, can, t + x + 1, (row / 64 % 2 == 1) & (x % 2 == 0));
-    with_word(h, can, t + x + 2, (row / 128 % 2 == 1) & (x < 2))
+    let h = with_sets(g, can[t + (x | 1)], (row / 64 % 2 == 1) & (x % 2 == 0));
+    with_sets(h, can[t + (x | 2)], (row / 128 % 2 == 1) & (x < 2))
 }
 
 // The words of one row, from the row after it.
@@ -59,22 +48,9 @@ fn fill_row(can: &mut [u64], t: usize, words: usize, row: usize, stay: bool)
     requires { (t + 8 ≤ length can.old) × (words ≤ 4) × (row < 256) }
     ensures { FillsRow can.old t words row stay can.new }
 {
-    let mut x: usize = 0;
-    while x < words {
+    for x in 0..words {
         let w = sets_before(can, t + 4, x, row, stay);
         can[t + x] = w;
-        x += 1;
-    }
-}
-
-// Leaves no set in a row.
-fn clear_row(can: &mut [u64], t: usize)
-    requires { t + 4 ≤ length can.old }
-{
-    let mut x: usize = 0;
-    while x < 4 {
-        can[t + x] = 0;
-        x += 1;
     }
 }
 
@@ -86,7 +62,7 @@ fn end_row(can: &mut [u64], t: usize, every: usize, closed: bool)
     if !closed {
         return;
     }
-    clear_row(can, t);
+    can[t..t + 4].fill(0);
     can[t + every / 64] = 1 << (every % 64);
 }
 
@@ -96,10 +72,9 @@ fn fill_rows(known: &[u8], can: &mut [u64], words: usize, stay: bool)
     requires words_value { (words ≡ every_in known.now / 64 + 1) × (stay ≡ not (eqb (right_labels known.now) 0)) }
     ensures { FillsRows known.now can.old can.new }
 {
-    let mut i = known::at(known, LEFT_COUNT) - 1;
-    while 0 < i {
-        fill_row(can, 4 * (i - 1), words, known::at(known, ROWS + i), stay);
-        i -= 1;
+    let n = known::at(known, LEFT_COUNT);
+    for i in (0..n - 1).rev() {
+        fill_row(can, 4 * i, words, known::at(known, ROWS + i + 1), stay);
     }
 }
 

@@ -6,8 +6,8 @@ use mathlib.Core.Path.{◌≡◌, refl, sym, ap, ◌∙◌}
 use native.Mathlib.Decide.{ℕ_discrete}
 use native.Mathlib.Nat.{sub-zero}
 use native.Mathlib.Omega.{arith}
-use lib.ListN.{length, take, drop, replicate, get_or-replicate}
-use lib.Seq.{take-append-le, get_or-take}
+use lib.ListN.{length, take, drop, replicate}
+use lib.Seq.{take-append-le}
 use Rattle.table.specs.Limits.{max_nodes}
 use Rattle.table.specs.Layout.{word, kind_of, name_of, node_count}
 use Rattle.unification.specs.Node.{Node, variable, application, node_at, Present, nodes_from}
@@ -30,7 +30,9 @@ use Rattle.nodes.specs.Code.Formed.{Formed}
 use Rattle.values.specs.Code.Begins.{Leaves}
 use Rattle.nodes.specs.Code.Open.{Counts, OpenListed}
 use Rattle.nodes.specs.Code.Order.{Ordered}
+use Rattle.classes.specs.declared.order.Mark.TheVariants.{New}
 use Rattle.classes.specs.Code.Ordering.{Starting}
+use Rattle.classes.proofs.OrderLaws.{starting}
 use Rattle.values.specs.Code.Kept.{WrittenAt}
 use Rattle.values.specs.Code.Present.{least_nodes}
 use Rattle.nodes.specs.Code.Named.{value_name, Applied, Named}
@@ -230,13 +232,9 @@ found_leaves nodes arguments counts heads names opens list out out' f m l k o g 
     ∙ ap (λ (n : ℕ). words_of (nodes_from nodes arguments) ps ++ drop n out) (ap length e ∙ least_long (nodes_from nodes arguments))
 
 -- the search for an order starts with no node placed
-pub nothing_placed : (n m : ℕ) → n ≡ m → n ≤ max_nodes → Starting m (take (n - 0) (replicate max_nodes 0)) (take (n - 0) (replicate max_nodes 0))
-nothing_placed n m e l =
-    record {
-      marks_size = first_long n l ∙ e;
-      order_size = first_long n l ∙ e;
-      new = λ k h. get_or-take (n - 0) (replicate max_nodes 0) k 0 (omega arith) ∙ get_or-replicate {A = ℕ} max_nodes k 0 0 (omega arith);
-    }
+pub nothing_placed : (n m : ℕ) → n ≡ m → n ≤ max_nodes →
+    Starting m (take (n - 0) (replicate max_nodes New)) (take (n - 0) (replicate max_nodes 0))
+nothing_placed n m e l = starting n (first_long n l ∙ e) e l
 
 -- the order is the first part of a longer list
 pub ordered_part : (nodes arguments : List ℕ) (due : ℕ → ℕ) (heads xs ys : List ℕ) (k : ℕ) → k ≤ length xs →

@@ -219,10 +219,6 @@ module _ (nodes arguments heads names : List ℕ) (m : HeadNames nodes arguments
         let e : k ≡ suc (k - 1) = omega arith in
         free_next by' (k - 1) (omega arith) (rw e at r)
 
-    -- all are noted
-    pub free_all : (by' : List ℕ) (k : ℕ) → k ≤ 0 → FreeFrom nodes heads names list by by' k → FreeFrom nodes heads names list by by' 0
-    free_all by' k z r = let e : k ≡ 0 = omega arith in rw e at r
-
 -- The words of a list of nodes, by a function.
 module _ (f : ℕ → ℕ) (list out : List ℕ) where
   -- The words of the first k nodes, before those past them.

@@ -6,10 +6,12 @@ use mathlib.Core.List.{List, ◌++◌, map, Memᴰ, map-map}
 use mathlib.Core.Path.{◌≡◌, refl, sym, ap, ◌∙◌}
 use native.Mathlib.Decide.{ℕ_discrete}
 use native.Mathlib.Omega.{arith}
-use borrow.Author.Count.{below_more}
 use borrow.Author.Tests.{eq-eqb, ne_eqb, eqb-true}
 use lib.Dec.{eqb}
-use lib.ListN.{length, set, drop, length-set}
+use lib.ListN.{length, set, drop, length-set, get_or}
+use Rattle.std.proofs.Common.{reverse}
+use Rattle.std.proofs.lemmas.Grind.{get_or_default_zero}
+use Rattle.std.proofs.lemmas.List.{get_or-reverse, length-reverse}
 use Rattle.table.specs.Limits.{max_nodes}
 use Rattle.table.specs.Layout.{word, kind_of, name_of, count_of, node_count}
 use Rattle.terms.specs.Term.{var, app}
@@ -37,11 +39,17 @@ use Rattle.nodes.specs.Code.Open.{IsClosed, Counts, OpenListed}
 use Rattle.values.specs.Code.Begins.{Leaves}
 use Rattle.values.specs.Code.Kept.{WrittenAt}
 use Rattle.values.specs.Code.Present.{least_nodes}
-use Rattle.values.proofs.KeptLaws.{kept_none, kept_set}
+use Rattle.values.proofs.KeptLaws.{kept_set}
 use Rattle.values.proofs.LeastLaws.{rising_places, least_long}
 use Rattle.classes.proofs.OrderedLaws.{rank, ordered_enough, ordered_solved}
 use Rattle.binding.specs.Code.Binding.{AllBelow, AreNodes, head_at, AreBare, HeadsFrom, plain_word, plain_at, PlainFound}
 use Rattle.binding.proofs.BindingLaws.{list_long, list_at, place_of, at}
+
+-- what stands at a place of a list is below what all of it is below
+pub item_below : {n : ℕ} {xs : List ℕ} → AllBelow n xs → (k x : ℕ) → k < length xs → x ≡ get_or xs k x → x < n
+item_below {xs = xs} a k x h e =
+    let b = a.below k h in
+    omega (arith, b, e, get_or_default_zero xs k x h)
 
 -- heads are nodes
 pub heads_below : (n m : ℕ) (heads : List ℕ) → n ≤ m → Partition n heads → AllBelow m heads
@@ -63,45 +71,24 @@ nodes_headed nodes heads list q a =
           omega (arith, z, b);
     }
 
--- no head is looked at yet
-pub bare_none : (nodes heads list : List ℕ) → AreBare nodes heads list 0
-bare_none nodes heads list = record { bare = λ k h. absurd (omega arith) }
-
--- one more has no arguments
-pub bare_next : (nodes heads list : List ℕ) (k v h r : ℕ) → v ≡ word list k → h ≡ class_of heads v → r ≡ count_of nodes h → r ≡ 0 →
-    AreBare nodes heads list k → AreBare nodes heads list (k + 1)
-bare_next nodes heads list k v h r d e c z b =
-    record {
-      bare = below_more (λ j. count_of nodes (head_at heads list j) ≡ 0) k b.bare
-          (ap (count_of nodes) (sym (e ∙ ap (class_of heads) d)) ∙ sym c ∙ z);
-    }
-
--- all of them
-pub bare_all : (nodes heads list : List ℕ) (k : ℕ) → length list ≤ k → AreBare nodes heads list k → AreBare nodes heads list (length list)
-bare_all nodes heads list k h b = record { bare = λ j l. b.bare j (omega arith) }
-
--- no node is noted yet
-pub heads_none : (heads list by : List ℕ) → length by ≡ max_nodes → HeadsFrom heads list by (length list)
-heads_none heads list by l =
-    record { long = l; kept = kept_none (λ j. j < length list) (head_at heads list) (word list) (length list) (length list) (omega arith) by }
-
--- one place more
-pub heads_down : (heads list by : List ℕ) (k z h : ℕ) → 0 < k → k ≤ length list → z ≡ word list (k - 1) → h ≡ class_of heads z → h < max_nodes →
-    HeadsFrom heads list by k → HeadsFrom heads list (set by h z) (k - 1)
-heads_down heads list by k z h a b d e l r =
-    let n : k ≡ suc (k - 1) = omega arith in
-    let y : h ≡ head_at heads list (k - 1) = e ∙ ap (class_of heads) d in
-    let m = r.long in
+-- one place more, from the last down: the n-th of the list, backwards
+pub heads_down : (heads list by : List ℕ) (n m z h : ℕ) → n < length (reverse list) → m ≡ n + 1 → z ≡ get_or (reverse list) n z → h ≡ class_of heads z →
+    h < max_nodes → HeadsFrom heads list by (length list - n) → HeadsFrom heads list (set by h z) (length list - m)
+heads_down heads list by n m z h t b d e l r =
+    let a : n < length list = omega (arith, t, length-reverse list) in
+    let k : length list - n ≡ suc (length list - m) = omega arith in
+    let w : length list - 1 - n ≡ length list - m = omega arith in
+    let i : length list - m < length list = omega arith in
+    let v : z ≡ word list (length list - m) =
+    d ∙ get_or-reverse list n z a ∙ ap (λ j. get_or list j z) w ∙ get_or_default_zero list (length list - m) z i in
+    let y : h ≡ head_at heads list (length list - m) = e ∙ ap (class_of heads) v in
+    let c = r.long in
     record {
       long = length-set by h z ∙ r.long;
-      kept = rw (y, d)
-          (kept_set (λ j. j < length list) (head_at heads list) (word list) (length list) (k - 1) by (omega arith) (omega arith)
-          (omega (arith, y, l, m)) (rw n at r.kept));
+      kept = rw (y, v)
+          (kept_set (λ j. j < length list) (head_at heads list) (word list) (length list) (length list - m) by (omega arith) (omega arith)
+          (omega (arith, y, l, c)) (rw k at r.kept));
     }
-
--- all are noted
-pub heads_all : (heads list by : List ℕ) (k : ℕ) → k ≤ 0 → HeadsFrom heads list by k → HeadsFrom heads list by 0
-heads_all heads list by k z r = let e : k ≡ 0 = omega arith in rw e at r
 
 -- the word of a node whose head is a variable
 pub word_noted : (nodes heads by : List ℕ) (u v h r : ℕ) → v ≡ u → h ≡ class_of heads v → eqb (kind_of nodes h) 0 ≡ true → r ≡ word by h →

@@ -6,7 +6,6 @@ use mathlib.Core.Logic.{◌⊎◌, inl, inr}
 use mathlib.Core.Path.{◌≡◌, sym, ap, ◌∙◌}
 use native.Mathlib.Decide.{ℕ_discrete, dec_lt}
 use native.Mathlib.Omega.{arith}
-use borrow.Author.Count.{below_more}
 use lib.ListN.{length, take, drop, length-append, get_or-append}
 use lib.Seq.{get_or-append-add, take_at, length-take-le}
 use Rattle.table.specs.Limits.{max_nodes}
@@ -22,6 +21,7 @@ use Rattle.unification.proofs.SectionLaws.{run, is_node, application_from, run_l
 use Rattle.nodes.specs.Code.Open.{IsClosed, Counts, OpenListed}
 use Rattle.nodes.specs.Code.Order.{Met, leaf, before, Ordered}
 use Rattle.nodes.specs.Code.Named.{value_name, Alike, Applied, Named, Themselves}
+use Rattle.values.specs.declared.applications.Applications.{Applications}
 use Rattle.values.specs.Code.Naming.{Nameable, IsPlaced, key_of, key_at, NamedBefore, Naming, NamedAlong}
 use Rattle.binding.specs.Code.Binding.{HeadNames, NamesLeast, NoneLeads}
 use Rattle.values.specs.Code.Prepared.{ClosedListed, ClosedTable}
@@ -292,10 +292,10 @@ module _ (nodes arguments : List ℕ) (s : Sections nodes arguments) (counts hea
             apart = λ q r h b x y. closed_apart q r h b;
           }
 
-      first_naming : (buckets earlier : List ℕ) → ClosedTable nodes arguments heads closed buckets earlier →
-          Naming nodes arguments heads (closed ++ placed) names buckets earlier (length closed)
+      first_naming : (u : Applications) → ClosedTable nodes arguments heads closed u →
+          Naming nodes arguments heads (closed ++ placed) names u (length closed)
       unfolding key_at
-      first_naming buckets earlier x =
+      first_naming u x =
           record {
             readable = record { sections = s; partition = f.partition; long = l };
             ordered = prefix_nameable;
@@ -305,10 +305,8 @@ module _ (nodes arguments : List ℕ) (s : Sections nodes arguments) (counts hea
               itself = λ i h z. t.itself i (omega arith);
               constants = f.constants;
             };
-            buckets_long = x.buckets_long;
-            earlier_long = x.earlier_long;
             named = first_named;
-            chained = chained_same _ _ _ _ buckets earlier (length closed)
+            chained = chained_same _ _ _ _ u (length closed)
                 (λ q h r. record { application = rw (same_node q h) r.application; itself = rw (same_node q h) r.itself })
                 (λ q h r. record { application = rw (same_node q h) at r.application; itself = rw (same_node q h) at r.itself })
                 (λ q h. ap (λ (g : ℕ). key_of nodes arguments heads names g) (same_node q h)) (x.chained names l t);
@@ -351,34 +349,16 @@ module _ (nodes arguments : List ℕ) (s : Sections nodes arguments) (counts hea
     -- The same for an order that is both.
     module _ (xs : List ℕ) (e : xs ≡ closed ++ placed) where
       -- naming goes on behind the closed ones
-      pub prefix_naming : (names : List ℕ) → length names ≡ node_count nodes → Themselves names → (buckets earlier : List ℕ) →
-          ClosedTable nodes arguments heads closed buckets earlier →
-          Naming nodes arguments heads xs names buckets earlier (length closed) × (length closed ≤ length xs)
-      prefix_naming names l t buckets earlier x =
+      pub prefix_naming : (names : List ℕ) → length names ≡ node_count nodes → Themselves names → (u : Applications) →
+          ClosedTable nodes arguments heads closed u →
+          Naming nodes arguments heads xs names u (length closed) × (length closed ≤ length xs)
+      prefix_naming names l t u x =
           let z = ap length e ∙ length-append closed placed in
-          (rw e (first_naming names l t buckets earlier x), omega (arith, z))
+          (rw e (first_naming names l t u x), omega (arith, z))
 
       -- and closed applications have the least names
       pub prefix_least : (names : List ℕ) → NamedAlong nodes arguments heads xs names → NamesLeast nodes arguments counts heads names
       prefix_least names m = named_least names (rw e at m)
-
--- no open application is looked at yet
-pub leads_none : (counts opens heads : List ℕ) → NoneLeads counts opens heads 0
-leads_none counts opens heads = record { none = λ p h. absurd (omega arith) }
-
--- one more has a head that is closed
-pub leads_next : (counts opens heads : List ℕ) (p o h : ℕ) → o ≡ word opens p → h ≡ class_of heads o → word counts h ≡ 0 →
-    NoneLeads counts opens heads p → NoneLeads counts opens heads (p + 1)
-leads_next counts opens heads p o h d e z n =
-    record {
-      none = below_more (λ q. word counts (class_of heads (word opens q)) ≡ 0) p n.none
-          (ap (word counts) (sym (e ∙ ap (class_of heads) d)) ∙ z);
-    }
-
--- all of them
-pub leads_all : (counts opens heads : List ℕ) (p : ℕ) → length opens ≤ p → NoneLeads counts opens heads p →
-    NoneLeads counts opens heads (length opens)
-leads_all counts opens heads p h n = record { none = λ q l. n.none q (omega arith) }
 
 -- so no argument of a head is looked at
 pub none_leads : (nodes counts opens heads : List ℕ) → OpenListed nodes counts opens → Partition (node_count nodes) heads →

@@ -1,5 +1,5 @@
 // The binding words of classes, by the names of their values.
-ghost use Rattle.std.specs.Prelude.{◌≡◌, true, false, ◌++◌, ◌≤◌, ◌<◌, length, drop, replicate};
+ghost use Rattle.std.specs.Prelude.{◌≡◌, true, false, ◌++◌, ◌≤◌, ◌<◌, length, drop};
 ghost use Rattle.table.specs.Limits.{max_nodes};
 ghost use Rattle.table.specs.Layout.{word, node_count};
 ghost use Rattle.unification.specs.Node.{nodes_from};
@@ -9,17 +9,17 @@ ghost use Rattle.nodes.specs.Code.Order.{Ordered};
 ghost use Rattle.values.specs.Code.Present.{least_nodes};
 ghost use Rattle.nodes.specs.Code.Named.{value_name, Named, Themselves};
 ghost use Rattle.binding.specs.Code.Binding.{HeadNames, NamesLeast, AreApplied, application_noted, OpenNoted, free_noted, FreeFrom, read_at, AreNodes, AllBelow, WordsFound, NoneLeads, AreBare, HeadsFrom, plain_word, plain_at, PlainFound};
-ghost use Rattle.values.specs.Code.Naming.{keys};
+ghost use Rattle.values.specs.Code.Applications.{IsEmpty};
 ghost use Rattle.nodes.specs.Code.Formed.{Formed};
 ghost use Rattle.values.specs.Code.Begins.{Leaves};
 
-use classes::order;
+use classes::order::{self, Mark};
 use nodes::{lists, sections};
 use table::Node;
 use table::limits::MAX_NODES;
+use values::applications::Applications;
 use values::bytes::put_bytes;
 use values::names;
-use values::names::KEYS;
 use values::prepared::list_closed;
 
 // Notes an application at its name, if no smaller node stands there.
@@ -56,11 +56,8 @@ fn note_applications(
     requires by_len { (length by.old ≡ node_count nodes.now) × Themselves by.old }
     ensures { OpenNoted nodes.now heads.now names.now opens.now by.new (length opens.now) }
 {
-    let mut p: usize = 0;
-    while p < opens.len() {
-        let i = lists::node_in(opens, p).0 as usize;
-        note_application(nodes, arguments, heads, names, by, i);
-        p += 1;
+    for i in opens {
+        note_application(nodes, arguments, heads, names, by, usize::from(*i));
     }
 }
 
@@ -99,9 +96,7 @@ fn note_free_variables(
     requires are_nodes { AreNodes nodes.now list.now × (length by.old ≡ node_count nodes.now) }
     ensures { FreeFrom nodes.now heads.now names.now list.now by.old by.new 0 }
 {
-    let mut k = list.len();
-    while 0 < k {
-        k -= 1;
+    for k in (0..list.len()).rev() {
         note_free_variable(nodes, arguments, heads, names, by, list, k);
     }
 }
@@ -139,10 +134,8 @@ fn write_words(
     requires are_nodes { AreNodes nodes.now list.now × (length by.now ≡ node_count nodes.now) × (length list.now ≤ length out.old) }
     ensures { out.new ≡ read_at heads.now names.now by.now list.now ++ drop (length list.now) out.old }
 {
-    let mut k: usize = 0;
-    while k < list.len() {
+    for k in 0..list.len() {
         out[k] = binding_word(nodes, arguments, heads, names, by, list, k);
-        k += 1;
     }
 }
 
@@ -176,32 +169,20 @@ fn name_open(
     heads: &[u8],
     placed: &[u8],
     order: &mut [u8],
-    buckets: &mut [u16],
-    earlier: &mut [u16],
+    table: &mut Applications,
     names: &mut [u8],
 )
     requires sections { Sections nodes.now arguments.now × Counts nodes.now arguments.now counts.now (node_count nodes.now) }
     requires formed { Formed nodes.now arguments.now counts.now heads.now }
     requires ordered { Ordered nodes.now arguments.now (word counts.now) heads.now placed.now }
     requires names_len { (length names.old ≡ node_count nodes.now) × Themselves names.old }
-    requires order_len { (length order.old ≡ max_nodes) × (buckets.old ≡ replicate keys 0) × (length earlier.old ≡ max_nodes) }
+    requires order_len { (length order.old ≡ max_nodes) × IsEmpty table.old }
     ensures { Named nodes.now arguments.now heads.now names.new × NamesLeast nodes.now arguments.now counts.now heads.now names.new }
 {
-    let start = list_closed(
-        nodes, arguments, counts, heads, names, order, buckets, earlier,
-    );
+    let start = list_closed(nodes, arguments, counts, heads, names, order, table);
     let end = start + placed.len();
     put_bytes(placed, order, start);
-    names::name_all(
-        nodes,
-        arguments,
-        heads,
-        &order[0..end],
-        start,
-        names,
-        buckets,
-        earlier,
-    );
+    names::name_all(nodes, arguments, heads, &order[0..end], start, names, table);
 }
 
 // Whether the head of an open application is one.
@@ -209,16 +190,10 @@ fn some_leads(counts: &[u8], opens: &[u8], heads: &[u8]) -> bool
     requires { AllBelow (length heads.now) opens.now × AllBelow (length counts.now) heads.now }
     ensures { result ≡ false → NoneLeads counts.now opens.now heads.now (length opens.now) }
 {
-    let mut p: usize = 0;
-    while p < opens.len() {
-        let o = lists::node_in(opens, p);
-        let h = lists::node_in(heads, o.0 as usize);
-        if counts[h.0 as usize] != 0 {
-            return true;
-        }
-        p += 1;
-    }
-    false
+    opens.iter().any(|o| {
+        let h = lists::node_in(heads, usize::from(*o));
+        counts[h.0 as usize] != 0
+    })
 }
 
 // Whether the heads of a list of nodes have no arguments: each is free, or bound to a constant.
@@ -227,16 +202,10 @@ fn all_plain(nodes: &[u32], arguments: &[u32], list: &[u8], heads: &[u8]) -> boo
     requires all_below { AllBelow (length heads.now) list.now × AllBelow (node_count nodes.now) heads.now }
     ensures { result ≡ true → AreBare nodes.now heads.now list.now (length list.now) }
 {
-    let mut p: usize = 0;
-    while p < list.len() {
-        let v = lists::node_in(list, p);
-        let h = lists::node_in(heads, v.0 as usize);
-        if sections::arity(nodes, arguments, h) != 0 {
-            return false;
-        }
-        p += 1;
-    }
-    true
+    list.iter().all(|v| {
+        let h = lists::node_in(heads, usize::from(*v));
+        sections::arity(nodes, arguments, h) == 0
+    })
 }
 
 // The first node of a list with each head, by the head: the nodes are noted from the last place down.
@@ -244,12 +213,9 @@ fn note_heads(list: &[u8], heads: &[u8], by: &mut [u8])
     requires { AllBelow (length heads.now) list.now × (length by.old ≡ max_nodes) }
     ensures { HeadsFrom heads.now list.now by.new 0 }
 {
-    let mut k = list.len();
-    while 0 < k {
-        k -= 1;
-        let z = list[k];
-        let h = heads[z as usize] as usize;
-        by[h] = z;
+    for z in list.iter().rev() {
+        let h = usize::from(heads[usize::from(*z)]);
+        by[h] = *z;
     }
 }
 
@@ -273,10 +239,8 @@ fn write_plain(nodes: &[u32], list: &[u8], heads: &[u8], by: &[u8], out: &mut [u
     requires by_len { (length by.now ≡ max_nodes) × (length list.now ≤ length out.old) }
     ensures { out.new ≡ plain_at nodes.now heads.now by.now list.now ++ drop (length list.now) out.old }
 {
-    let mut p: usize = 0;
-    while p < list.len() {
+    for p in 0..list.len() {
         out[p] = plain_word(nodes, list, heads, by, p);
-        p += 1;
     }
 }
 
@@ -310,7 +274,7 @@ fn bind_named(
     ensures { Leaves nodes.now arguments.now heads.now out.old out.new }
 {
     let n = sections::node_count(nodes, arguments);
-    let mut marks = [0u8; MAX_NODES];
+    let mut marks = [Mark::New; MAX_NODES];
     let mut placed = [0u8; MAX_NODES];
     let count = order::put_in_order(
         nodes,
@@ -322,8 +286,7 @@ fn bind_named(
         &mut placed[0..n],
     );
     let mut order = [0u8; MAX_NODES];
-    let mut buckets = [0u16; KEYS];
-    let mut earlier = [0u16; MAX_NODES];
+    let mut table = Applications::new();
     name_open(
         nodes,
         arguments,
@@ -331,8 +294,7 @@ fn bind_named(
         heads,
         &placed[0..count],
         &mut order,
-        &mut buckets,
-        &mut earlier,
+        &mut table,
         names,
     );
     find_words(nodes, arguments, opens, heads, names, by, list, out);

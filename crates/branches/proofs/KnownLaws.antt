@@ -201,10 +201,6 @@ module _ {nodes arguments known known' : List ℕ} (k : KnownOf nodes arguments 
           below_node : {a b : ℕ} → a < b → b < node_count nodes → a < node_count nodes
           below_node x y = omega (arith, x, y)
 
--- nothing changed keeps all
-pub keeps_all : (known : List ℕ) → KeepsKnown known known
-keeps_all known = record { size = refl; same = λ k h. refl }
-
 -- what is kept twice is kept
 pub keeps_twice : {known₀ known₁ known₂ : List ℕ} → KeepsKnown known₀ known₁ → KeepsKnown known₁ known₂ → KeepsKnown known₀ known₂
 keeps_twice a b = record { size = b.size ∙ a.size; same = λ k h. b.same k h ∙ a.same k h }

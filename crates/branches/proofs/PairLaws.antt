@@ -6,6 +6,7 @@ use mathlib.Core.List.{List, ◌∷◌}
 use mathlib.Core.Logic.{◌↔◌}
 use mathlib.Core.Path.{◌≡◌, refl, sym, ap, ◌∙◌}
 use native.Mathlib.Omega.{arith}
+use denote.Enum.Bare.{sameb}
 use Rattle.table.specs.Layout.{node_count}
 use Rattle.unification.specs.Node.{nodes_from}
 use Rattle.unification.specs.Outcome.{unified}
@@ -16,9 +17,11 @@ use Rattle.unification.proofs.SectionLaws.{is_node, sections_well_formed}
 use Rattle.unification.specs.Computed.Classes.{class_of}
 use Rattle.nodes.specs.Code.Trail.{none}
 use Rattle.nodes.specs.Code.Formed.{Formed, Stands}
-use Rattle.classes.specs.declared.Extended.{Extended}
-use Rattle.classes.specs.declared.Extended.TheVariants.{Unified, Clash, Occurs}
-use Rattle.classes.specs.Code.Stands.{Extends, extended}
+use Rattle.unification.specs.declared.Unification.{Unification}
+use Rattle.unification.specs.declared.Unification.TheVariants.{Unified, Clash, Occurs}
+use Rattle.unification.specs.contracts.Unification.{the_type}
+use Rattle.unification.specs.Answer.{outcome_of}
+use Rattle.classes.specs.Code.Stands.{Extends}
 use Rattle.classes.proofs.AtOnceLaws.{together, formed_unified}
 use Rattle.branches.specs.Code.Branch.{JoinsPair}
 use Rattle.branches.specs.Code.Ahead.{MayPair}
@@ -44,13 +47,13 @@ module _ {nodes arguments known heads : List ℕ} (next : List ℕ) (k : KnownOf
       both = together nodes arguments known heads k.sections f a b p q e
 
 -- the classes are extended
-module _ {nodes arguments known heads next : List ℕ} {a b : ℕ} {r : Extended} {heads' next' : List ℕ}
+module _ {nodes arguments known heads next : List ℕ} {a b : ℕ} {r : Unification} {heads' next' : List ℕ}
     (x : Extends nodes arguments known heads next a b r heads' next') where
   -- by a pair that has a unifier with the others
-  pub joined_unified : r ≡ Unified → JoinsPair nodes arguments known heads next a b true heads' next'
+  joined_unified : r ≡ Unified → JoinsPair nodes arguments known heads next a b true heads' next'
   joined_unified e =
       record {
-        answers = λ ps s. ((λ z. sym (x.answers ps s) ∙ ap extended e), λ z. refl);
+        answers = λ ps s. ((λ z. sym (x.answers ps s) ∙ ap outcome_of e), λ z. refl);
         formed = λ z ps s. x.formed e ps s;
         stands = λ z ps s. x.stands e ps s;
         merges = x.merges;
@@ -58,23 +61,22 @@ module _ {nodes arguments known heads next : List ℕ} {a b : ℕ} {r : Extended
       }
 
   -- by one that has none
-  joined_failed : (extended r ≡ unified → ⊥) → JoinsPair nodes arguments known heads next a b false heads' next'
+  joined_failed : (outcome_of r ≡ unified → ⊥) → JoinsPair nodes arguments known heads next a b false heads' next'
   joined_failed n =
       record {
         answers = λ ps s. ((λ z. absurd (false≢true z)), λ z. absurd (n (x.answers ps s ∙ z)));
         formed = λ z ps s. absurd (false≢true z);
         stands = λ z ps s. absurd (false≢true z);
         merges = x.merges;
-        failed = λ z. x.failed (λ y. n (ap extended y));
+        failed = λ z. x.failed (λ y. n (ap outcome_of y));
       }
 
-  -- by a clash
-  pub joined_clash : r ≡ Clash → JoinsPair nodes arguments known heads next a b false heads' next'
-  joined_clash e = joined_failed (λ z. let y = ap extended e in let o : ◌≡◌ {A = ℕ} 0 1 = cc in omega arith)
-
-  -- by a variable in a term that holds it
-  pub joined_occurs : r ≡ Occurs → JoinsPair nodes arguments known heads next a b false heads' next'
-  joined_occurs e = joined_failed (λ z. let y = ap extended e in let o : ◌≡◌ {A = ℕ} 0 1 = cc in omega arith)
+-- whether they are is the code's test of the answer
+pub joined : {nodes arguments known heads next : List ℕ} {a b : ℕ} (r : Unification) {heads' next' : List ℕ} →
+    Extends nodes arguments known heads next a b r heads' next' → JoinsPair nodes arguments known heads next a b (sameb the_type r Unified) heads' next'
+joined Unified x = joined_unified x refl
+joined Clash x = joined_failed x (λ z. let o : ◌≡◌ {A = ℕ} 0 1 = cc in omega arith)
+joined Occurs x = joined_failed x (λ z. let o : ◌≡◌ {A = ℕ} 0 1 = cc in omega arith)
 
 -- A pair of nodes a and b, on top of pairs that classes stand for.
 module _ {nodes arguments known : List ℕ} (k : KnownOf nodes arguments known) {a b : ℕ} (p : a < node_count nodes) (q : b < node_count nodes) where

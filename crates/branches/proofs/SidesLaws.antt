@@ -73,11 +73,6 @@ module _ (p : ℕ) (words known : List ℕ) (room : p + length words ≤ length 
   put_word : (j : ℕ) → j < length words → word after (p + j) ≡ word words j
   put_word j h = sym (part_word after p (length words) j h) ∙ ap (λ (ws : List ℕ). word ws j) put_here
 
--- the parts are put one after the other
-pub sides_put : {left right known known₁ known₂ known' : List ℕ} {k l v : ℕ} → known₁ ≡ counted (length left) (length right) k l v known →
-    known₂ ≡ put_at 584 left known₁ → known' ≡ put_at 592 right known₂ → PutSides left right k l v known known'
-sides_put {left} {right} y z w = record { is = w ∙ ap (put_at 592 right) (z ∙ ap (put_at 584 left) y) }
-
 -- the sides are put
 module _ {left right known known' : List ℕ} {k l v : ℕ} (size : length known ≡ known_bytes) (left_few : length left ≤ max_terms)
     (right_few : length right ≤ max_terms) (v-few : v ≤ 64) (p : PutSides left right k l v known known') where

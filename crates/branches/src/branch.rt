@@ -9,9 +9,9 @@ ghost use Rattle.branches.specs.Code.Known.{known_bytes, left_count, right_count
 
 use crate::known;
 use crate::known::{LEFT, LEFT_COUNT, RIGHT, ROWS};
-use classes::Extended;
 use classes::settle::extend;
 use nodes::lists;
+use unification::Unification;
 
 // Puts the digit of left term i.
 pub fn put_digit(entry: &mut [u32], i: usize, d: usize)
@@ -60,11 +60,7 @@ pub fn join_pair(
     if heads[a.0 as usize] == heads[b.0 as usize] {
         return true;
     }
-    match extend(nodes, arguments, known, heads, next, a, b) {
-        Extended::Unified => true,
-        Extended::Clash => false,
-        Extended::Occurs => false,
-    }
+    extend(nodes, arguments, known, heads, next, a, b) == Unification::Unified
 }
 
 // The set with the right term that digit d counts to.

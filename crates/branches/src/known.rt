@@ -41,19 +41,12 @@ pub const ROWS: usize = 600;
 // How many bytes there are.
 pub const KNOWN: usize = 608;
 
-// A byte as a number.
-fn wide(x: u8) -> usize
-    ensures { (result ≡ x) × (result < 256) }
-{
-    x as usize
-}
-
 // The number at a place.
 pub fn at(known: &[u8], i: usize) -> usize
     requires { i < length known.now }
     ensures { (result ≡ word known.now i) × (result < 256) }
 {
-    wide(known[i])
+    usize::from(known[i])
 }
 
 // Puts the terms of a side at a place.
@@ -61,10 +54,8 @@ fn put_terms(terms: &[u32], known: &mut [u8], p: usize)
     requires { (p + length terms.now ≤ length known.old) × AllBytes terms.now }
     ensures { known.new ≡ take p known.old ++ terms.now ++ drop (p + length terms.now) known.old }
 {
-    let mut i: usize = 0;
-    while i < terms.len() {
-        known[p + i] = terms[i] as u8;
-        i += 1;
+    for (i, term) in terms.iter().enumerate() {
+        known[p + i] = *term as u8;
     }
 }
 
@@ -73,8 +64,7 @@ fn every(m: usize) -> usize
     requires { m ≤ max_terms }
     ensures { (result ≡ 2 ^ m - 1) × (result < 256) }
 {
-    let sets: usize = 1 << m;
-    sets - 1
+    (1 << m) - 1
 }
 
 // Puts how many terms and labels there are, and the words of an entry with v variables.

@@ -1,18 +1,20 @@
 -- The steps of the loops that try the conditions, over plain lists and numbers. Assumes nothing.
-use Prim.Native.Nat.{ℕ, ◌+◌, ◌*◌, ◌<◌, ◌≤◌}
+use Prim.Native.Nat.{ℕ, ◌+◌, ◌-◌, ◌*◌, ◌<◌, ◌≤◌}
 use mathlib.Core.Bool.{Bool, true, false, not, ◌||◌}
 use mathlib.Core.Path.{◌≡◌, refl, sym, ap, ◌∙◌}
 use mathlib.Core.List.{List}
 use native.Mathlib.Numerals.{add-one}
 use native.Mathlib.Omega.{arith}
-use borrow.Author.Tests.{eq-eqb, ne_eqb, le-leb, lt-leb}
-use lib.Dec.{eqb, ltb}
-use lib.ListN.{length}
+use borrow.Author.Tests.{eq-eqb, ne_eqb}
+use lib.Dec.{eqb, leb, ltb}
+use lib.ListN.{length, take, drop, length-drop}
+use Rattle.std.specs.List.{list_any}
+use Rattle.std.proofs.lemmas.List.{get_or-take, get_or-drop, length-take-le}
 use Rattle.table.specs.Limits.{Section, max_count, max_label}
 use Rattle.table.specs.Some.{some_below}
 use Rattle.table.specs.Layout.{word, offset, size, kind_of, name_of, first_of, count_of, node_count, counts_before}
-use Rattle.table.specs.Conditions.{end_before, offset_is_wrong, broken_pair, words_are_wrong, section_at, size_is_wrong, right_node, node_is_wrong, wrong_node, argument_is_wrong, run_is_wrong, term_is_wrong, wrong_term, labels_are_equal, label_is_wrong}
-use Rattle.table.proofs.SomeLaws.{some_here, some_next, some_end}
+use Rattle.table.specs.Conditions.{end_before, offset_is_wrong, broken_pair, words_are_wrong, section_at, size_is_wrong, right_node, node_is_wrong, wrong_node, argument_is_wrong, run_is_wrong, labels_are_equal, label_is_wrong}
+use Rattle.table.proofs.SomeLaws.{some_here, some_next, some_end, some_any}
 use Rattle.table.proofs.NodeLaws.{right_node_means, right_count_lem}
 
 -- Refusal 2, before section k: no offset so far is wrong, and the sections end here, in any table of so many pairs.
@@ -93,34 +95,18 @@ nodes_end ns args i earlier e a b f =
     let s : earlier ≡ counts_before ns (node_count ns) = e ∙ ap (counts_before ns) (let q : i ≡ node_count ns = omega arith in q) in
     rw (some_end (node_is_wrong ns) i (node_count ns) a b f, s)
 
--- Refusal 5, at node i: its first, its count and one of its arguments.
-module _ (ns args : List ℕ) (i first count j : ℕ) (f : first ≡ first_of ns i) (n : count ≡ count_of ns i) where
-  pub argument_wrong : j < count → (x : ℕ) → x ≡ word args (first + j) → i ≤ x → true ≡ run_is_wrong ns args i
-  unfolding run_is_wrong argument_is_wrong
-  argument_wrong h x e l =
-      let s : word args (first + j) ≡ word args (first_of ns i + j) = ap (λ (k : ℕ). word args (k + j)) f in
-      sym (some_here (argument_is_wrong ns args i) j (count_of ns i) (omega arith) (le-leb i (word args (first_of ns i + j)) (omega arith)))
-
-  pub argument_right : (x : ℕ) → x ≡ word args (first + j) → x < i → some_below j (argument_is_wrong ns args i) ≡ false →
-      some_below (j + 1) (argument_is_wrong ns args i) ≡ false
-  unfolding argument_is_wrong
-  argument_right x e l b =
-      let s : word args (first + j) ≡ word args (first_of ns i + j) = ap (λ (k : ℕ). word args (k + j)) f in
-      some_next (argument_is_wrong ns args i) j b (lt-leb i (word args (first_of ns i + j)) (omega arith))
-
-  pub arguments_end : j ≤ count → count ≤ j → some_below j (argument_is_wrong ns args i) ≡ false → false ≡ run_is_wrong ns args i
-  unfolding run_is_wrong
-  arguments_end a b e = sym (some_end (argument_is_wrong ns args i) j (count_of ns i) (omega arith) (omega arith) e)
-
--- Refusal 6, at term i.
-module _ (ts : List ℕ) (n i x : ℕ) (e : x ≡ word ts i) where
-  pub term_wrong : i < length ts → n ≤ x → true ≡ wrong_term n ts
-  unfolding wrong_term term_is_wrong
-  term_wrong h l = sym (some_here (term_is_wrong n ts) i (length ts) h (le-leb n (word ts i) (omega arith)))
-
-  pub term_right : x < n → some_below i (term_is_wrong n ts) ≡ false → some_below (i + 1) (term_is_wrong n ts) ≡ false
-  unfolding term_is_wrong
-  term_right l b = some_next (term_is_wrong n ts) i b (lt-leb n (word ts i) (omega arith))
+-- Refusal 5, at node i, from a test of the elements of its run.
+pub run_tested : (ns args : List ℕ) (i : ℕ) → first_of ns i + count_of ns i ≤ length args →
+    list_any (leb i) (take ((first_of ns i + count_of ns i) - first_of ns i) (drop (first_of ns i) args)) ≡ run_is_wrong ns args i
+unfolding run_is_wrong argument_is_wrong
+run_tested ns args i h =
+    let z : (first_of ns i + count_of ns i) - first_of ns i ≡ count_of ns i = omega arith in
+    let d = length-drop (first_of ns i) args in
+    let n = length-take-le (count_of ns i) (drop (first_of ns i) args) (omega (arith, d, h)) in
+    let run = take (count_of ns i) (drop (first_of ns i) args) in
+    let at : (j : ℕ) → j < length run → leb i (word run j) ≡ argument_is_wrong ns args i j =
+    λ j l. ap (leb i) (get_or-take (count_of ns i) (drop (first_of ns i) args) j 0 (omega (arith, l, n)) ∙ get_or-drop (first_of ns i) args j 0) in
+    rw z (some_any (leb i) (argument_is_wrong ns args i) run at ∙ ap (λ (k : ℕ). some_below k (argument_is_wrong ns args i)) n)
 
 -- Refusal 7, at label i, with whether it is repeated.
 module _ (ls : List ℕ) (i x : ℕ) (e : x ≡ word ls i) (r : Bool) (tested : r ≡ some_below i (labels_are_equal ls i)) where

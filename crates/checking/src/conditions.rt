@@ -17,14 +17,12 @@ pub fn broken_pair(table: &[u32], pairs: usize) -> bool
     ensures { (ss : List Section) → length ss ≡ pairs → result ≡ broken_pair ss table.now }
 {
     let mut end = 2 * pairs;
-    let mut k: usize = 0;
-    while k < pairs {
+    for k in 0..pairs {
         let at = layout::offset(table, k);
         if at != end {
             return true;
         }
         end = at + layout::size(table, k);
-        k += 1;
     }
     end != table.len()
 }

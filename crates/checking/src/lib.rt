@@ -5,8 +5,8 @@ ghost use Rattle.std.specs.Prelude.{◌≡◌};
 ghost use Rattle.table.specs.Refusal.{refusal};
 ghost use Rattle.table.specs.Answer.{told};
 
+use table::Refusal;
 use table::limits::{HEADER_WORDS, SECTIONS};
-use table::{Checked, Refusal};
 
 // The conditions of the refusals, each over the whole table.
 mod conditions;
@@ -18,29 +18,29 @@ mod nodes;
 mod sides;
 
 // Checks a table: accepted, or the first refusal whose condition holds.
-pub fn check(table: &[u32]) -> Checked
+pub fn check(table: &[u32]) -> Result<(), Refusal>
     ensures { told result ≡ refusal table.now }
 {
     if table.len() < HEADER_WORDS {
-        return Checked::Refused(Refusal::TooFewWords);
+        return Err(Refusal::TooFewWords);
     }
     if conditions::broken_pair(table, SECTIONS) {
-        return Checked::Refused(Refusal::BrokenPair);
+        return Err(Refusal::BrokenPair);
     }
     if conditions::over_limit(table) {
-        return Checked::Refused(Refusal::OverLimit);
+        return Err(Refusal::OverLimit);
     }
     if conditions::wrong_node(table) {
-        return Checked::Refused(Refusal::WrongNode);
+        return Err(Refusal::WrongNode);
     }
     if conditions::wrong_argument(table) {
-        return Checked::Refused(Refusal::WrongArgument);
+        return Err(Refusal::WrongArgument);
     }
     if conditions::wrong_term(table) {
-        return Checked::Refused(Refusal::WrongTerm);
+        return Err(Refusal::WrongTerm);
     }
     if conditions::wrong_label(table) {
-        return Checked::Refused(Refusal::WrongLabel);
+        return Err(Refusal::WrongLabel);
     }
-    Checked::Accepted
+    Ok(())
 }

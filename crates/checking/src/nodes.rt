@@ -5,7 +5,6 @@ ghost use Rattle.table.specs.Layout.{node_count, first_of, count_of};
 ghost use Rattle.table.specs.Conditions.{right_node, start_of, wrong_node, run_is_wrong, wrong_argument};
 ghost use Rattle.table.specs.Code.Reading.{RunsInside};
 
-use table::layout::index;
 use table::limits::{MAX_COUNT, MAX_NAME, MAX_VARIABLE};
 use table::{Node, Variable, layout};
 
@@ -41,8 +40,7 @@ pub fn wrong_nodes(nodes: &[u32], arguments: &[u32]) -> bool
 {
     let n = layout::node_count(nodes);
     let mut earlier: u32 = 0;
-    let mut i: u32 = 0;
-    while i < n {
+    for i in 0..n {
         let node = Node(i);
         let count = layout::count(nodes, node);
         if !right_node(
@@ -55,9 +53,8 @@ pub fn wrong_nodes(nodes: &[u32], arguments: &[u32]) -> bool
             return true;
         }
         earlier += count;
-        i += 1;
     }
-    index(earlier) != arguments.len()
+    earlier as usize != arguments.len()
 }
 
 // Some argument of a node is not smaller than it.
@@ -66,17 +63,11 @@ fn wrong_run(nodes: &[u32], arguments: &[u32], node: Node) -> bool
     requires node_in_bounds { first_of nodes.now node.0 + count_of nodes.now node.0 ≤ length arguments.now }
     ensures { result ≡ run_is_wrong nodes.now arguments.now node.0 }
 {
-    let first = index(layout::first(nodes, node));
-    let count = index(layout::count(nodes, node));
-    let mut j: usize = 0;
-    while j < count {
-        let argument = layout::node_at(arguments, first + j);
-        if argument.0 >= node.0 {
-            return true;
-        }
-        j += 1;
-    }
-    false
+    let first = layout::first(nodes, node) as usize;
+    let count = layout::count(nodes, node) as usize;
+    arguments[first..first + count]
+        .iter()
+        .any(|argument| Node(*argument) >= node)
 }
 
 // An argument is not smaller than its node.
@@ -86,12 +77,10 @@ pub fn wrong_arguments(nodes: &[u32], arguments: &[u32]) -> bool
     ensures { result ≡ wrong_argument nodes.now arguments.now }
 {
     let n = layout::node_count(nodes);
-    let mut i: u32 = 0;
-    while i < n {
+    for i in 0..n {
         if wrong_run(nodes, arguments, Node(i)) {
             return true;
         }
-        i += 1;
     }
     false
 }

@@ -11,15 +11,7 @@ use table::limits::MAX_LABEL;
 pub fn wrong_terms(terms: &[u32], n: u32) -> bool
     ensures { result ≡ wrong_term n terms.now }
 {
-    let mut i: usize = 0;
-    while i < terms.len() {
-        let term = layout::node_at(terms, i);
-        if term.0 >= n {
-            return true;
-        }
-        i += 1;
-    }
-    false
+    terms.iter().any(|term| *term >= n)
 }
 
 // Label i is equal to an earlier one.
@@ -28,13 +20,10 @@ fn repeated_label(left: &[u32], right: &[u32], i: usize) -> bool
     ensures { result ≡ some_below i (labels_are_equal (left.now ++ right.now) i) }
 {
     let label = layout::label(left, right, i);
-    let mut j: usize = 0;
-    while j < i {
-        let earlier = layout::label(left, right, j);
-        if earlier.0 == label.0 {
+    for j in 0..i {
+        if layout::label(left, right, j) == label {
             return true;
         }
-        j += 1;
     }
     false
 }
@@ -45,13 +34,11 @@ pub fn wrong_labels(left: &[u32], right: &[u32]) -> bool
     ensures { result ≡ wrong_label (left.now ++ right.now) }
 {
     let n = left.len() + right.len();
-    let mut i: usize = 0;
-    while i < n {
+    for i in 0..n {
         let label = layout::label(left, right, i);
         if (label.0 == 0) | (label.0 > MAX_LABEL) | repeated_label(left, right, i) {
             return true;
         }
-        i += 1;
     }
     false
 }

@@ -3,7 +3,7 @@
 use Prim.Native.Nat.{ℕ, ◌<◌}
 use mathlib.Core.Bool.{Bool, true, false}
 use mathlib.Core.List.{List, [], ◌∷◌}
-use mathlib.Core.Path.{◌≡◌, refl, sym, ◌∙◌}
+use mathlib.Core.Path.{◌≡◌, refl, sym}
 use native.Mathlib.Omega.{arith}
 use Rattle.table.specs.Layout.{word, node_count}
 use Rattle.unification.specs.Computed.Classes.{class_of}
@@ -15,23 +15,24 @@ use Rattle.unification.specs.Code.Solved.{IsClosure}
 use Rattle.unification.proofs.OutcomeLaws.{outcome_clash, cycle_decides}
 use Rattle.unification.proofs.SectionLaws.{nodes_long, is_node, sections_well_formed}
 use Rattle.unification.proofs.JoinedLaws.{inside_more}
-use Rattle.classes.specs.declared.Extended.{Extended}
-use Rattle.classes.specs.declared.Extended.TheVariants.{Unified, Clash, Occurs}
+use Rattle.unification.specs.declared.Unification.{Unification}
+use Rattle.unification.specs.declared.Unification.TheVariants.{Unified, Clash, Occurs}
+use Rattle.unification.specs.Answer.{outcome_of}
 use Rattle.nodes.specs.Code.Open.{Counts, ClosedHeads}
 use Rattle.nodes.specs.Code.Trail.{none}
 use Rattle.classes.specs.Code.Closure.{ClosureUpTo, Joins}
 use Rattle.nodes.specs.Code.Order.{Ordered, Searched}
 use Rattle.nodes.specs.Code.Formed.{Formed, Stands}
-use Rattle.classes.specs.Code.Stands.{Extends, extended}
+use Rattle.classes.specs.Code.Stands.{Extends}
 use Rattle.nodes.proofs.OpenLaws.{closed_kept}
 use Rattle.classes.proofs.ClosureLaws.{opened, closure_at_last}
 use Rattle.classes.proofs.OrderedLaws.{leads_reaches, ordered_unified}
 use Rattle.classes.proofs.MendLaws.{still_one, mended}
 
 -- a failure: the classes are as before
-extends_failed : (nodes arguments counts heads next : List ℕ) (a b : ℕ) (heads' next' : List ℕ) (x : Extended) →
+extends_failed : (nodes arguments counts heads next : List ℕ) (a b : ℕ) (heads' next' : List ℕ) (x : Unification) →
     (heads' ≡ heads) × (next' ≡ next) → (x ≡ Unified → ⊥) →
-    ((ps : List (ℕ × ℕ)) → Stands nodes arguments heads ps → outcome (nodes_from nodes arguments) ((a, b) ∷ ps) ≡ extended x) →
+    ((ps : List (ℕ × ℕ)) → Stands nodes arguments heads ps → outcome (nodes_from nodes arguments) ((a, b) ∷ ps) ≡ outcome_of x) →
     Extends nodes arguments counts heads next a b x heads' next'
 extends_failed nodes arguments counts heads next a b heads' next' x y n o =
     record {
@@ -42,16 +43,6 @@ extends_failed nodes arguments counts heads next a b heads' next' x y n o =
       failed = λ z. y;
       kept = λ z. absurd (n z);
     }
-
--- where there is a clash the classes are as before
-pub clash_back : {nodes arguments counts heads next : List ℕ} {a b : ℕ} {r : Extended} {heads' next' : List ℕ} → r ≡ Clash →
-    Extends nodes arguments counts heads next a b r heads' next' → (heads' ≡ heads) × (next' ≡ next)
-clash_back e x = x.failed (λ z. let y : Clash ≡ Unified = sym e ∙ z in let o : ◌≡◌ {A = ℕ} 0 1 = cc in omega arith)
-
--- so they are where a class leads to itself
-pub occurs_back : {nodes arguments counts heads next : List ℕ} {a b : ℕ} {r : Extended} {heads' next' : List ℕ} → r ≡ Occurs →
-    Extends nodes arguments counts heads next a b r heads' next' → (heads' ≡ heads) × (next' ≡ next)
-occurs_back e x = x.failed (λ z. let y : Occurs ≡ Unified = sym e ∙ z in let o : ◌≡◌ {A = ℕ} 0 1 = cc in omega arith)
 
 module _ (nodes arguments counts : List ℕ) (s : Sections nodes arguments) (heads : List ℕ) (f : Formed nodes arguments counts heads) (a b : ℕ)
     (p : a < node_count nodes) (q : b < node_count nodes) where
@@ -114,7 +105,7 @@ module _ (nodes arguments counts : List ℕ) (s : Sections nodes arguments) (hea
                 ordered = order_after.1;
               }
 
-          unified_after : outcome (nodes_from nodes arguments) ((a, b) ∷ ps) ≡ extended Unified
+          unified_after : outcome (nodes_from nodes arguments) ((a, b) ∷ ps) ≡ outcome_of Unified
           unified_after =
               ordered_unified nodes arguments s counts k heads' j.partition heads_after ((a, b) ∷ ps) (longer ps d) (closure_after ps d)
               order_after.0 order_after.1

@@ -10,18 +10,14 @@ use native.Mathlib.Omega.{arith}
 use borrow.Author.Count.{below_more}
 use lib.ListN.{length, length-append, get_or-append}
 use lib.Seq.{get_or-append_seam}
-use Rattle.table.specs.Limits.{max_nodes}
+use Rattle.std.specs.Prelude.{Option, Some, None}
+use Rattle.table.specs.declared.Node.{Node}
 use Rattle.table.specs.Layout.{word, node_count, argument_of}
 use Rattle.unification.specs.Computed.Classes.{class_of}
 use Rattle.unification.specs.Code.Heads.{Partition}
-use Rattle.unification.specs.Code.Sections.{Sections}
 use Rattle.nodes.specs.Code.Order.{Leads, next, further, Met, leaf, before, Listed, Searched}
-use Rattle.classes.specs.Code.Ordering.{no_head, several_heads, Led, led_no, led_first, led_same, led_several, OnlyTo, Onward, OrderedTo, Followed}
+use Rattle.classes.specs.Code.Ordering.{Led, led_no, led_first, led_same, OnlyTo, Onward, OrderedTo, Followed}
 use Rattle.classes.proofs.OrderLaws.{searched_cycle, searched_order}
-
--- there are no more nodes than bytes name
-pub nodes_few : {nodes arguments : List ℕ} → Sections nodes arguments → node_count nodes ≤ max_nodes
-nodes_few s = let l = s.limit in omega (arith, l)
 
 -- a number stands at one of the first n places of a list, or at none
 stands : (order : List ℕ) (g n : ℕ) → ((q : ℕ) × (q < n) × (word order q ≡ g)) ⊎ ((q : ℕ) → q < n → word order q ≡ g → ⊥)
@@ -148,68 +144,61 @@ only_ordered {nodes} {arguments} {heads} {due} {g} {k} node t o = met_ordered o.
     go j (inl e) = leaf e
     go j (inr e) = rw e o.met
 
+-- nothing is no head
+none_some : {A : Type 0} {x : Option A} {a : A} → x ≡ None → x ≡ Some a → ⊥
+none_some {A} {a = a} e d = let q : ◌≡◌ {A = Option A} None (Some a) = sym e ∙ d in let z : ◌≡◌ {A = ℕ} 0 1 = cc in omega arith
+
 -- before the first argument nothing is found
-pub onward_none : {nodes arguments heads : List ℕ} {due : ℕ → ℕ} {h : ℕ} → Onward nodes arguments due heads h 0 no_head
-onward_none = record { none = λ e i l. absurd (omega arith); one = λ d. absurd (d refl) }
+pub onward_none : {nodes arguments heads : List ℕ} {due : ℕ → ℕ} {h : ℕ} → Onward nodes arguments due heads h 0 None
+onward_none = record { none = λ e i l. absurd (omega arith); one = λ g e. absurd (none_some refl e) }
 
 -- Argument j of node h, whose head is g, is looked at.
-module _ {nodes arguments heads : List ℕ} {due : ℕ → ℕ} {h j found : ℕ} (few : node_count nodes ≤ max_nodes) (node : h < node_count nodes)
-    (o : Onward nodes arguments due heads h j found) (l : j < due h) {g : ℕ} (e : g ≡ class_of heads (argument_of nodes arguments h j))
-    (inside : g < node_count nodes) where
+module _ {nodes arguments heads : List ℕ} {due : ℕ → ℕ} {h j : ℕ} {found : Option Node} (node : h < node_count nodes)
+    (o : Onward nodes arguments due heads h j found) (l : j < due h) {g : Node} (e : g.0 ≡ class_of heads (argument_of nodes arguments h j))
+    (inside : g.0 < node_count nodes) where
   -- it leads on, and nothing before it leads on to another head
   onward_to : ((i : ℕ) → i < j → (due (class_of heads (argument_of nodes arguments h i)) ≡ 0) ⊎
-      (class_of heads (argument_of nodes arguments h i) ≡ g)) →
-      Onward nodes arguments due heads h (j + 1) g
-  onward_to f =
+      (class_of heads (argument_of nodes arguments h i) ≡ g.0)) → (f : Node) → f.0 ≡ g.0 → Onward nodes arguments due heads h (j + 1) (Some f)
+  onward_to w f d =
       record {
-        none = λ z. absurd (omega (arith, z, inside, few));
-        one = λ d. record {
+        none = λ n. absurd (none_some n refl);
+        one = λ k q. let z : f ≡ k = cc in rw (← z, d) (record {
           node = inside;
           leads = next j node l (sym e);
           only =
               below_more
-              (λ i. (due (class_of heads (argument_of nodes arguments h i)) ≡ 0) ⊎ (class_of heads (argument_of nodes arguments h i) ≡ g)) j
-              f (inr (sym e));
-        };
+              (λ i. (due (class_of heads (argument_of nodes arguments h i)) ≡ 0) ⊎ (class_of heads (argument_of nodes arguments h i) ≡ g.0)) j
+              w (inr (sym e));
+        });
       }
 
   -- it does not
-  onward_over : due g ≡ 0 → Onward nodes arguments due heads h (j + 1) found
+  onward_over : due g.0 ≡ 0 → Onward nodes arguments due heads h (j + 1) found
   onward_over z =
       record {
-        none = λ n. below_more (λ i. due (class_of heads (argument_of nodes arguments h i)) ≡ 0) j (o.none n) here;
-        one = λ d. let t = o.one d in record {
+        none = λ n. below_more (λ i. due (class_of heads (argument_of nodes arguments h i)) ≡ 0) j (o.none n) (rw (← e) z);
+        one = λ k n. let t = o.one k n in record {
           node = t.node;
           leads = t.leads;
           only =
               below_more
-              (λ i. (due (class_of heads (argument_of nodes arguments h i)) ≡ 0) ⊎ (class_of heads (argument_of nodes arguments h i) ≡ found)) j
-              t.only (inl here);
+              (λ i. (due (class_of heads (argument_of nodes arguments h i)) ≡ 0) ⊎ (class_of heads (argument_of nodes arguments h i) ≡ k.0)) j
+              t.only (inl (rw (← e) z));
         };
       }
-    where
-      here : due (class_of heads (argument_of nodes arguments h j)) ≡ 0
-      here = rw (← e) z
 
   -- one more argument, where they do not lead on to several heads
-  pub onward_next : {r : ℕ} → Led due found g r → (r ≡ several_heads → ⊥) → Onward nodes arguments due heads h (j + 1) r
-  onward_next (led_no z) d = onward_over z
-  onward_next (led_first z) d = onward_to (λ i b. inl (o.none z i b))
-  onward_next (led_same z) d = onward_to (rw z at (o.one (λ n. omega (arith, n, z, inside, few))).only)
-  onward_next led_several d = absurd (d refl)
-
--- every argument is looked at
-pub onward_all : {nodes arguments heads : List ℕ} {due : ℕ → ℕ} {h j found : ℕ} → Onward nodes arguments due heads h j found → j ≤ due h → due h ≤ j →
-    Onward nodes arguments due heads h (due h) found
-onward_all {nodes} {arguments} {heads} {due} {h} {j} {found} o l m = let e : j ≡ due h = omega arith in rw e at o
+  pub onward_next : {r : Option Node} → Led due found g r → Onward nodes arguments due heads h (j + 1) r
+  onward_next (led_no z) = onward_over z
+  onward_next (led_first z) = onward_to (λ i b. inl (o.none z i b)) g refl
+  onward_next (led_same f z d) = rw z (onward_to (rw d at (o.one f z).only) f d)
 
 -- at the start
 pub followed_start : {nodes arguments heads : List ℕ} {due : ℕ → ℕ} {h : ℕ} → h < node_count nodes → Followed nodes arguments due heads h h
 followed_start l = record { node = l; leads = inl refl; back = λ o. o }
 
--- Node g is come to, and what its arguments lead on to is found.
-module _ {nodes arguments heads : List ℕ} {due : ℕ → ℕ} {h g found : ℕ} (f : Followed nodes arguments due heads h g)
-    (o : Onward nodes arguments due heads g (due g) found) where
+-- Node g is come to.
+module _ {nodes arguments heads : List ℕ} {due : ℕ → ℕ} {h g : ℕ} (f : Followed nodes arguments due heads h g) where
   -- what node g leads to, node h does
   leads_on : {k : ℕ} → Leads nodes arguments due heads g k → Leads nodes arguments due heads h k
   leads_on {k} l = go f.leads
@@ -218,27 +207,27 @@ module _ {nodes arguments heads : List ℕ} {due : ℕ → ℕ} {h g found : ℕ
       go (inl e) = rw e at l
       go (inr p) = further p l
 
-  -- nothing: there is an order
-  pub followed_end : found ≡ no_head → {a : ℕ} → h ≡ class_of heads a → Searched nodes arguments due heads a false
-  followed_end z e =
-      let t = f.back (shut_ordered g f.node (o.none z)) in
+  -- its arguments lead on to nothing: there is an order
+  pub followed_end : ((i : ℕ) → i < due g → due (class_of heads (argument_of nodes arguments g i)) ≡ 0) → {a : ℕ} → h ≡ class_of heads a → Searched nodes arguments due heads a false
+  followed_end o e =
+      let t = f.back (shut_ordered g f.node o) in
       searched_order (record { order = t.order; listed = t.listed; from = rw (← e) t.met })
 
-  -- the start: it leads to itself
-  pub followed_back : (found ≡ no_head → ⊥) → found ≡ h → {a : ℕ} → Searched nodes arguments due heads a true
-  followed_back d e = searched_cycle (h, rw e at (o.one d).node, leads_on (rw e at (o.one d).leads))
+  -- Its arguments lead on to one head.
+  module _ {k : ℕ} (o : OnlyTo nodes arguments due heads g (due g) k) where
+    -- the start: it leads to itself
+    pub followed_back : k ≡ h → {a : ℕ} → Searched nodes arguments due heads a true
+    followed_back e = searched_cycle (h, rw e at o.node, leads_on (rw e at o.leads))
 
-  -- another head
-  pub followed_next : (found ≡ no_head → ⊥) → Followed nodes arguments due heads h found
-  followed_next d =
-      let t = o.one d in
-      record { node = t.node; leads = inr (leads_on t.leads); back = λ p. f.back (only_ordered f.node t p) }
+    -- another
+    pub followed_next : Followed nodes arguments due heads h k
+    followed_next = record { node = o.node; leads = inr (leads_on o.leads); back = λ p. f.back (only_ordered f.node o p) }
 
 -- the head that is come to is noted as a start, or not
-pub followed_noted : {nodes arguments heads : List ℕ} {due : ℕ → ℕ} {h g k : ℕ} {A B : Type 0} → Followed nodes arguments due heads h g →
-    (A × (k ≡ g)) ⊎ (B × (k ≡ h)) → Followed nodes arguments due heads k g
-followed_noted {g = g} f (inl e) = rw e.1 (followed_start f.node)
-followed_noted f (inr e) = rw e.1 f
+pub followed_noted : {nodes arguments heads : List ℕ} {due : ℕ → ℕ} {h g k : ℕ} → Followed nodes arguments due heads h g → (k ≡ g) ⊎ (k ≡ h) →
+    Followed nodes arguments due heads k g
+followed_noted f (inl e) = rw e (followed_start f.node)
+followed_noted f (inr e) = rw e f
 
 -- the head of a node is its own
 pub head_own : {n : ℕ} {heads : List ℕ} {a h : ℕ} → Partition n heads → a < n → h ≡ class_of heads a → h ≡ class_of heads h

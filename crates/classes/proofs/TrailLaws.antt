@@ -251,12 +251,12 @@ module _ (n : ℕ) (heads next : List ℕ) (g h : ℕ) (heads' next' : List ℕ)
   merged_gone = ap gone m.linked ∙ after_gone n heads next g h m.two m.trailed
 
   -- the last noted is the one that went
-  merged_from : (k : ℕ) → k ≡ gone next' → word next' (256 + k) ≡ g
+  merged_from : (k : ℕ) → k + 1 ≡ gone next' → word next' (257 + k) ≡ g
   merged_from k e =
       let s = gone_same n heads next g h m.two m.trailed in
       let l = note_room n heads next g h m.two m.trailed in
       let a = merged_gone in
-      let d : 256 + k ≡ 256 + suc (gone (exchanged next g h)) = omega (arith, a, e, s) in
+      let d : 257 + k ≡ 256 + suc (gone (exchanged next g h)) = omega (arith, a, e, s) in
       ap (word next') d
       ∙ ap (λ (x : List ℕ). word x (256 + suc (gone (exchanged next g h)))) m.linked
       ∙ noted_last (exchanged next g h) g (linked_long n heads next g h m.two m.trailed) (omega (arith, s, l))
@@ -269,34 +269,34 @@ module _ (n : ℕ) (heads next : List ℕ) (g h : ℕ) (heads' next' : List ℕ)
       ∙ renamed_here g h (class_of heads g) m.two.first_own
 
   -- the note taken back
-  merged_unnoted : (k : ℕ) → k ≡ gone next' → set (set next' (256 + k) 0) 256 (k - 1) ≡ exchanged next g h
+  merged_unnoted : (k : ℕ) → k + 1 ≡ gone next' → set (set next' (257 + k) 0) 256 k ≡ exchanged next g h
   merged_unnoted k e =
       let s = gone_same n heads next g h m.two m.trailed in
       let a = merged_gone in
-      let d : 256 + k ≡ 256 + suc (gone (exchanged next g h)) = omega (arith, a, e, s) in
-      let p : k - 1 ≡ gone (exchanged next g h) = omega (arith, a, e, s) in
+      let d : 257 + k ≡ 256 + suc (gone (exchanged next g h)) = omega (arith, a, e, s) in
+      let p : k ≡ gone (exchanged next g h) = omega (arith, a, e, s) in
       let q = m.trailed.few in
       let z : word (exchanged next g h) (256 + suc (gone (exchanged next g h))) ≡ 0 =
       behind_same n heads next g h m.two m.trailed (256 + suc (gone (exchanged next g h))) (omega (arith, q))
       ∙ m.trailed.clear (256 + suc (gone (exchanged next g h))) (omega (arith, s)) in
-      ap (λ (x : ℕ). set (set next' x 0) 256 (k - 1)) d
+      ap (λ (x : ℕ). set (set next' x 0) 256 k) d
       ∙ ap (set (set next' (256 + suc (gone (exchanged next g h))) 0) 256) p
       ∙ ap (λ (x : List ℕ). set (set x (256 + suc (gone (exchanged next g h))) 0) 256 (gone (exchanged next g h))) m.linked
       ∙ noted_back (exchanged next g h) g (linked_long n heads next g h m.two m.trailed) z
 
--- The node that went last, where k have gone.
+-- The node that went last, where k had gone before it.
 abbrev went : List ℕ → ℕ → ℕ
-went next' k = word next' (256 + k)
+went next' k = word next' (257 + k)
 
 -- The circles without the last note.
 abbrev unnoted : List ℕ → ℕ → List ℕ
-unnoted next' k = set (set next' (256 + k) 0) 256 (k - 1)
+unnoted next' k = set (set next' (257 + k) 0) 256 k
 
 -- The circles before the last head went.
 abbrev unlinked : List ℕ → List ℕ → ℕ → List ℕ
 unlinked heads' next' k = exchanged (unnoted next' k) (went next' k) (class_of heads' (went next' k))
 
-module _ (n : ℕ) (heads next : List ℕ) (g h : ℕ) (heads' next' : List ℕ) (m : Merged n heads next g h heads' next') (k : ℕ) (e : k ≡ gone next') where
+module _ (n : ℕ) (heads next : List ℕ) (g h : ℕ) (heads' next' : List ℕ) (m : Merged n heads next g h heads' next') (k : ℕ) (e : k + 1 ≡ gone next') where
   -- the class of the node that went
   went_class : class_of heads' (went next' k) ≡ h
   went_class = ap (class_of heads') (merged_from n heads next g h heads' next' m k e) ∙ merged_to n heads next g h heads' next' m
@@ -323,16 +323,21 @@ one_way_back : {n : ℕ} {heads next heads₁ next₁ heads' next' : List ℕ} �
 one_way_back {n = n} {heads = heads} {next = next} {heads₁ = heads₁} {next₁ = next₁} {heads' = heads'} {next' = next'} (g, h, m) (g₁, h₁, m₁) = (
   classes_back n heads next g h m.two heads₁ m₁.two.partition.size
       (λ k l f. first_follows n heads₁ next₁ g₁ h₁ m₁.two k (over f) ∙ sym g≡)
-      (λ k l f. other_back n heads₁ next₁ g₁ h₁ heads' next' m₁ (gone next') refl k l (λ d. f (back d)) ∙
+      (λ k l f. other_back n heads₁ next₁ g₁ h₁ heads' next' m₁ (gone next) before k l (λ d. f (back d)) ∙
       ap (λ (x : List ℕ). class_of x k) m.renames),
   n≡,
 )
   where
+    before : gone next + 1 ≡ gone next'
+    before =
+        let a = merged_gone n heads next g h heads' next' m in
+        omega (arith, a)
+
     g≡ : g ≡ g₁
-    g≡ = sym (merged_from n heads next g h heads' next' m (gone next') refl) ∙ merged_from n heads₁ next₁ g₁ h₁ heads' next' m₁ (gone next') refl
+    g≡ = sym (merged_from n heads next g h heads' next' m (gone next) before) ∙ merged_from n heads₁ next₁ g₁ h₁ heads' next' m₁ (gone next) before
 
     n≡ : next₁ ≡ next
-    n≡ = sym (next_back n heads₁ next₁ g₁ h₁ heads' next' m₁ (gone next') refl) ∙ next_back n heads next g h heads' next' m (gone next') refl
+    n≡ = sym (next_back n heads₁ next₁ g₁ h₁ heads' next' m₁ (gone next) before) ∙ next_back n heads next g h heads' next' m (gone next) before
 
     over : {k : ℕ} → Follows next g k → Follows next₁ g₁ k
     over {k} f = subst₂ (λ (x : List ℕ) (y : ℕ). Follows x y k) (sym n≡) g≡ f
@@ -386,15 +391,9 @@ pub merges_back : {n : ℕ} {heads next heads₁ next₁ heads' next' : List ℕ
     ComesFrom (length heads') (gone next) heads₁ next₁ heads' next' → (heads₁ ≡ heads) × (next₁ ≡ next)
 merges_back e m b = undone_same refl m (rw e at b)
 
-module _ (n : ℕ) (heads' next' : List ℕ) (l : Last n heads' next') (k : ℕ) (e : k ≡ gone next') where
-  -- some head has gone
-  pub last_some : 0 < k
-  last_some =
-      let a : gone next' ≡ suc (gone l.next) = one_gone l.merged in
-      omega (arith, a, e)
-
-  -- and it is noted
-  pub last_inside : 256 + k < length next'
+module _ (n : ℕ) (heads' next' : List ℕ) (l : Last n heads' next') (k : ℕ) (e : k + 1 ≡ gone next') where
+  -- the last head that has gone is noted
+  pub last_inside : 257 + k < length next'
   last_inside =
       let m = l.merged.2 in
       let a : gone next' ≡ suc (gone l.next) = one_gone l.merged in
@@ -423,8 +422,8 @@ module _ (n : ℕ) (heads' next' : List ℕ) (l : Last n heads' next') (k : ℕ)
   last_size =
       let a = (merged_trailed l.merged.2).size in
       let b = (merged_trailed l.merged.2).few in
-      let c = length-set next' (256 + k) 0 in
-      let d = length-set (set next' (256 + k) 0) 256 (k - 1) in
+      let c = length-set next' (257 + k) 0 in
+      let d = length-set (set next' (257 + k) 0) 256 k in
       omega (arith, a, b, c, d)
 
   -- the one that went can be come back to
@@ -496,19 +495,23 @@ undoing_none mark heads next s = record { size = refl; long = refl; count = refl
 
 module _ {n mark k : ℕ} {heads next heads₀ next₀ : List ℕ} (u : Undoing n mark k heads next heads₀ next₀) where
   -- all are
-  pub undoing_done : k ≡ mark → ComesFrom n mark heads next heads₀ next₀
-  undoing_done e = record { merges = u.merges; marked = sym u.count ∙ e }
+  pub undoing_done : k ≤ mark → ComesFrom n mark heads next heads₀ next₀
+  undoing_done l =
+      let a = merges_gone u.since.before.merges in
+      let b = u.since.before.marked in
+      let c = u.count in
+      record { merges = u.merges; marked = omega (arith, a, b, c, l) }
 
-  module _ (d : k ≡ mark → ⊥) where
-    -- there is a last one
-    pub undoing_last : Last (length heads) heads next
-    undoing_last = rw u.size (since_last u.since (λ z. d (u.count ∙ z)))
+  module _ (d : mark < k) where
+    -- the last one is still to be
+    still : gone next ≡ mark → ⊥
+    still z = let c = u.count in omega (arith, c, d, z)
 
-    -- one is left
-    pub undoing_some : 0 < k
-    undoing_some = last_some (length heads) heads next undoing_last k u.count
+    -- it can be undone
+    pub undoing_last : Last (length heads) heads next × (k - 1 + 1 ≡ gone next)
+    undoing_last = let c = u.count in (rw u.size (since_last u.since still), omega (arith, c, d))
 
-    -- it is undone
+    -- it is
     pub undoing_on : {heads₁ next₁ : List ℕ} → OneMerged (length heads) heads₁ next₁ heads next → Undoing n mark (k - 1) heads₁ next₁ heads₀ next₀
     undoing_on {heads₁} {next₁} o =
         let p : OneMerged n heads₁ next₁ heads next = rw u.size at o in
@@ -519,6 +522,6 @@ module _ {n mark k : ℕ} {heads next heads₀ next₀ : List ℕ} (u : Undoing 
           size = m.two.partition.size;
           long = m.trailed.size ∙ sym (merged_trailed m).size ∙ u.long;
           count = omega (arith, a, b);
-          since = since_back u.since (λ z. d (u.count ∙ z)) p;
+          since = since_back u.since still p;
           merges = merges_on (one_merged m) u.merges;
         }

@@ -1,7 +1,7 @@
 // The closure of a list of pairs of nodes, with one pair more.
 ghost use Rattle.std.specs.Prelude.{◌≡◌, true, false, ◌⊎◌, ℕ, ◌<◌, ◌≤◌, length};
 ghost use Rattle.table.specs.Layout.{node_count};
-ghost use Rattle.classes.specs.Code.Closure.{Joinable, Joins, JoinsAtOnce};
+ghost use Rattle.classes.specs.Code.Closure.{level, Joinable, Joins, JoinsAtOnce};
 ghost use Rattle.nodes.specs.Code.Uniting.{strength_of, Circling, TwoHeads};
 ghost use Rattle.nodes.specs.Code.Trail.{Trailed, Goes};
 
@@ -23,18 +23,26 @@ fn is_shorter(next: &[u8], g: u8, h: u8) -> bool
 }
 
 // How strong a head is: an application stays before a variable, a closed one before an open one.
-fn strength(nodes: &[u32], counts: &[u8], h: Node) -> u8
+#[derive(Clone, Copy, PartialEq, Eq, PartialOrd, Ord)]
+enum Strength {
+    Variable,
+    Open,
+    Closed,
+}
+
+// The strength of a head.
+fn strength_of(nodes: &[u32], counts: &[u8], h: Node) -> Strength
     requires { (h.0 < node_count nodes.now) × (node_count nodes.now ≤ length counts.now) }
-    ensures { result ≡ strength_of nodes.now counts.now h.0 }
+    ensures { level result ≡ strength_of nodes.now counts.now h.0 }
 {
     if sections::is_variable(nodes, h) {
-        return 0;
+        return Strength::Variable;
     }
     let i = h.0 as usize;
     if counts[i] != 0 {
-        return 1;
+        return Strength::Open;
     }
-    2
+    Strength::Closed
 }
 
 // Whether head g goes before head h: the weaker does, and of two that are as strong that of the smaller class.
@@ -43,8 +51,8 @@ fn goes_first(nodes: &[u32], counts: &[u8], next: &[u8], g: u8, h: u8) -> bool
     requires circling { Circling (node_count nodes.now) next.now g }
     ensures { (result ≡ true → strength_of nodes.now counts.now g ≤ strength_of nodes.now counts.now h) × (result ≡ false → strength_of nodes.now counts.now h ≤ strength_of nodes.now counts.now g) }
 {
-    let x = strength(nodes, counts, lists::node(g));
-    let y = strength(nodes, counts, lists::node(h));
+    let x = strength_of(nodes, counts, lists::node(g));
+    let y = strength_of(nodes, counts, lists::node(h));
     if x == y {
         return is_shorter(next, g, h);
     }
@@ -129,8 +137,7 @@ pub fn join(
     }
     unite(nodes, counts, heads, next, g, h);
     let count = sections::arity(nodes, arguments, first);
-    let mut k: usize = 0;
-    while k < count {
+    for k in 0..count {
         let x = sections::argument(nodes, arguments, first, k);
         let y = sections::argument(nodes, arguments, second, k);
         if !join_at_once(nodes, arguments, counts, heads, next, x, y) {
@@ -138,7 +145,6 @@ pub fn join(
                 return false;
             }
         }
-        k += 1;
     }
     true
 }

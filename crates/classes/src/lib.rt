@@ -12,11 +12,3 @@ pub mod order;
 
 // The classes of a list of pairs, extended by one pair more: `extend`.
 pub mod settle;
-
-// What extending classes by a pair comes to.
-#[derive(Clone, Copy)]
-pub enum Extended {
-    Unified,
-    Clash,
-    Occurs,
-}

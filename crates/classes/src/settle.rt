@@ -8,10 +8,12 @@ ghost use Rattle.nodes.specs.Code.Formed.{Formed};
 ghost use Rattle.classes.specs.Code.Stands.{Extends};
 
 use crate::trail::{GONE, undo};
-use crate::{Extended, closure, order};
+use crate::{closure, order};
 use table::Node;
+use unification::Unification;
 
-// Extends the classes of a list of pairs by the pair of a and b, which can be undone. Where the answer is not unified they are as before.
+// Extends the classes of a list of pairs by the pair of a and b, which can be undone, and answers what unifying the longer list comes to. Where
+// that is not unified they are as before.
 pub fn extend(
     nodes: &[u32],
     arguments: &[u32],
@@ -20,7 +22,7 @@ pub fn extend(
     next: &mut [u8],
     a: Node,
     b: Node,
-) -> Extended
+) -> Unification
     requires sections { Sections nodes.now arguments.now × Counts nodes.now arguments.now counts.now (node_count nodes.now) }
     requires formed { Formed nodes.now arguments.now counts.now heads.old × Trailed (node_count nodes.now) heads.old next.old }
     requires a_bound { (a.0 < node_count nodes.now) × (b.0 < node_count nodes.now) }
@@ -29,11 +31,11 @@ pub fn extend(
     let mark = next[GONE];
     if !closure::join(nodes, arguments, counts, heads, next, a, b) {
         undo(heads, next, mark);
-        return Extended::Clash;
+        return Unification::Clash;
     }
     if order::leads_back(nodes, arguments, counts, heads, a) {
         undo(heads, next, mark);
-        return Extended::Occurs;
+        return Unification::Occurs;
     }
-    Extended::Unified
+    Unification::Unified
 }

@@ -1,6 +1,6 @@
 // Joins that can be undone. The members of a class stand in a circle: each node has the next one. Behind the circles stands how many heads
 // have gone, and behind that which ones, in their order.
-ghost use Rattle.std.specs.Prelude.{◌≡◌, ◌<◌, length};
+ghost use Rattle.std.specs.Prelude.{◌≡◌, ◌+◌, ◌<◌, length};
 ghost use Rattle.table.specs.Layout.{word};
 ghost use Rattle.nodes.specs.Code.Uniting.{Circling, Relabels, TwoHeads, exchanged};
 ghost use Rattle.nodes.specs.Code.Trail.{links, gone, noted_gone, Trailed, Merged, OneMerged, Last, ComesFrom, Since};
@@ -61,15 +61,15 @@ pub fn merge(heads: &mut [u8], next: &mut [u8], from: u8, to: u8)
     note(next, from);
 }
 
-// Undoes the last join, of k: the head that went has its circle again.
+// Undoes the last join, before which k heads had gone: the head that went has its circle again.
 fn unmerge(heads: &mut [u8], next: &mut [u8], k: u8)
-    requires { Last (length heads.old) heads.old next.old × (k ≡ gone next.old) }
+    requires { Last (length heads.old) heads.old next.old × (k + 1 ≡ gone next.old) }
     ensures { OneMerged (length heads.old) heads.new next.new heads.old next.old }
 {
-    let p = GONE + k as usize;
+    let p = GONE + 1 + k as usize;
     let from = next[p];
     next[p] = 0;
-    next[GONE] = k - 1;
+    next[GONE] = k;
     let i = from as usize;
     let to = heads[i];
     let j = to as usize;
@@ -83,9 +83,7 @@ pub fn undo(heads: &mut [u8], next: &mut [u8], mark: u8)
     requires { Since (length heads.old) mark heads.old next.old × (length next.old ≡ links) }
     ensures { ComesFrom (length heads.old) mark heads.new next.new heads.old next.old }
 {
-    let mut k = next[GONE];
-    while k != mark {
+    for k in (mark..next[GONE]).rev() {
         unmerge(heads, next, k);
-        k -= 1;
     }
 }

@@ -19,8 +19,8 @@ pub fn closes(table: &[u32]) -> bool
 {
     let mut none = [0u32; 1];
     match listing::list(table, &mut none[0..0]) {
-        Listing::Finished(entries) => entries == 0,
-        Listing::Full(_) => false,
-        Listing::Refused(_) => false,
+        Ok(Listing::Finished(entries)) => entries == 0,
+        Ok(Listing::Full(_)) => false,
+        Err(_) => false,
     }
 }

@@ -7,11 +7,12 @@ use native.Mathlib.Nat.{zero-mul, suc-mul, zero-add, suc-add, div-mul-le_self, l
 use native.Mathlib.Numerals.{add-one}
 use native.Mathlib.Omega.{arith}
 use borrow.Author.Tests.{le-leb, lt-leb}
-use lib.ListN.{length, get_or, take, drop, set, length-append, length-drop, length-set, take-append-drop, get_or-append}
-use lib.Seq.{length-take-le, take-nil, drop_at, drop-drop, take-take, take-add, take-append-le, take-append_seam, set-append_left, get_or-take, get_or-drop, paste}
+use lib.ListN.{length, take, drop, set, length-append, length-drop, length-set, take-append-drop, get_or, get_or-append}
+use lib.Seq.{length-take-le, take-nil, drop_at, drop-drop, take-take, take-add, take-append-le, take-append_seam, set-append_left, paste, get_or-take, get_or-drop}
+use Rattle.std.specs.Prelude.{Ok, Err}
 use Rattle.multiset_unification.specs.Answer.{fitting}
 use Rattle.entries.specs.Code.Writing.{put, full, Writes, Remains, Block, repeated}
-use Rattle.entries.proofs.WritingLaws.{flatten_append, head_long, put_long, put_there, copied_next, remains_whole, remains_next, remains_full, remains_done, writes_none, writes_all, writes_cut}
+use Rattle.entries.proofs.WritingLaws.{flatten_append, head_long, put_long, put_there, copied_next, remains_next, remains_full, remains_done, writes_none, writes_all, writes_cut}
 
 -- the words before those that are put
 put_before : (at : ℕ) (xs lent : List ℕ) (n : ℕ) → n ≤ at → at ≤ length lent → take n (put at xs lent) ≡ take n lent
@@ -307,12 +308,12 @@ repeated_end p d last es h = let n : last + 1 - d ≡ 0 = omega arith in rw n re
 
 -- fewer words than an entry has are no entry's
 pub repeats_none : {es : List (List ℕ)} {width : ℕ} {lent : List ℕ} {from to : ℕ} → Block es width lent from to → (p d c : ℕ) → to - from < width →
-    Writes (repeated p d c es) lent to lent to
+    Writes (repeated p d c es) lent to lent (Ok to)
 unfolding flatten
 repeats_none {es} {width} {lent} {from} {to} b p d c h = go es b.wide b.end
   where
     go : (es : List (List ℕ)) → ((e : List ℕ) → Memᴰ e es → length e ≡ width) → to ≡ from + length (flatten es) →
-        Writes (repeated p d c es) lent to lent to
+        Writes (repeated p d c es) lent to lent (Ok to)
     go [] w e = rw (repeated_none p d c) (writes_none lent to b.within)
     go (x ∷ es) w e = absurd (omega (arith, h, e, w x (mathlib.Core.List.Memᴰ.head refl), length-append x (flatten es)))
 
@@ -320,16 +321,6 @@ repeats_none {es} {width} {lent} {from} {to} b p d c h = go es b.wide b.end
 pub record Repeating (es : List (List ℕ)) (width p first last from to : ℕ) (lent₀ : List ℕ) (d : ℕ) (lent : List ℕ) (used : ℕ) : Type 0 where
   pub block : Block es width lent from to
   pub remains : Remains (repeated p (first + 1) (last - first) es) lent₀ to (repeated p d (last + 1 - d) es) lent used
-
--- at the start all remain
-pub repeats_first : {es : List (List ℕ)} {width : ℕ} {lent : List ℕ} {from to : ℕ} → Block es width lent from to → (p first last : ℕ) →
-    Repeating es width p first last from to lent (first + 1) lent to
-repeats_first {es} {width} {lent} {from} {to} b p first last =
-    let n : last + 1 - (first + 1) ≡ last - first = omega arith in
-    record {
-      block = b;
-      remains = rw n (remains_whole (repeated p (first + 1) (last - first) es) lent to b.within);
-    }
 
 module _ {es : List (List ℕ)} {width p first last from to : ℕ} {lent₀ : List ℕ} {d : ℕ} {lent : List ℕ} {used : ℕ}
     (g : Repeating es width p first last from to lent₀ d lent used) where
@@ -339,9 +330,9 @@ module _ {es : List (List ℕ)} {width p first last from to : ℕ} {lent₀ : Li
   repeats_turn h = rw (← repeated_next p d last es h) g.remains
 
   -- a turn writes these
-  pub repeats_next : d ≤ last → length lent < full → to ≤ used → to - from ≤ length lent - used → {lent' : List ℕ} →
+  pub repeats_next : d ≤ last → to ≤ used → to - from ≤ length lent - used → {lent' : List ℕ} →
       lent' ≡ put used (flatten (with_digit p d es)) lent → Repeating es width p first last from to lent₀ (d + 1) lent' (used + (to - from))
-  repeats_next h b t l {lent'} e =
+  repeats_next h t l {lent'} e =
       let n = block_count g.block in
       let m = digit_long p d es in
       let u = g.remains.within in
@@ -349,23 +340,23 @@ module _ {es : List (List ℕ)} {width p first last from to : ℕ} {lent₀ : Li
       let w = writes_all (with_digit p d es) lent used (omega (arith, l, n, m)) e in
       record {
         block = block_kept g.block used (flatten (with_digit p d es)) t (omega (arith, l, n, m, u)) e;
-        remains = remains_next (with_digit p d es) (repeats_turn h) lent' (used + (to - from)) (rw k at w) (λ z. omega (arith, z, l, u, b));
+        remains = remains_next (with_digit p d es) (repeats_turn h) (rw k at w);
       }
 
   -- where they do not all fit, those that do are written
-  pub repeats_full : d ≤ last → length lent < full → 0 < width → length lent - used < to - from → {lent' : List ℕ} →
+  pub repeats_full : d ≤ last → 0 < width → length lent - used < to - from → {lent' : List ℕ} →
       lent' ≡ put used (flatten (with_digit p d (take ((length lent - used) / width) es))) lent →
-      Writes (repeated p (first + 1) (last - first) es) lent₀ to lent' full
-  repeats_full h b z l {lent'} e =
+      Writes (repeated p (first + 1) (last - first) es) lent₀ to lent' (Err full)
+  repeats_full h z l {lent'} e =
       let n = block_count g.block in
       let m = digit_long p d es in
       let f = cut_fits g.block (length lent - used) p d z in
       let w = writes_cut (with_digit p d es) lent used (omega (arith, l, n, m)) (e ∙ ap (λ (zs : List (List ℕ)). put used (flatten zs) lent) (sym f))
       in
-      remains_full (with_digit p d es) (repeated p (d + 1) (last + 1 - (d + 1)) es) (repeats_turn h) b lent' full w refl
+      remains_full (with_digit p d es) (repeated p (d + 1) (last + 1 - (d + 1)) es) (repeats_turn h) w
 
   -- after the last digit all is written
-  pub repeats_last : last < d → Writes (repeated p (first + 1) (last - first) es) lent₀ to lent used
+  pub repeats_last : last < d → Writes (repeated p (first + 1) (last - first) es) lent₀ to lent (Ok used)
   repeats_last h = remains_done (rw (repeated_end p d last es h) at g.remains)
 
   -- the entries of which there is room for all words

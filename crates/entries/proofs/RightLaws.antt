@@ -13,10 +13,12 @@ use borrow.Author.Tests.{eq-eqb, ne_eqb}
 use lib.Dec.{eqb}
 use lib.ListN.{length, get_or, take, drop, set, length-append, length-drop, take-append-drop}
 use lib.Seq.{drop-cons, length-take-le, drop_at, take-suc, set_at, set-append_left}
+use Rattle.std.specs.Prelude.{Result, Ok, Err}
 use Rattle.unification.proofs.ListLaws.{map_same}
 use Rattle.multiset_unification.specs.Computed.Choices.{branch}
+use Rattle.entries.specs.declared.writing.Full.{Full}
 use Rattle.entries.specs.Code.Writing.{put, full, Writes, Block, repeated, marked, marks_from, right_entries, Least}
-use Rattle.entries.proofs.WritingLaws.{entry_fits, none_fits, writes_block, writes_full, repeat_writes}
+use Rattle.entries.proofs.WritingLaws.{entry_fits, writes_block, writes_full, repeat_writes}
 
 -- the marks from a place on are its word and those after it
 marks_cons : (e : List ℕ) (p end : ℕ) → p < end → end ≤ length e → marks_from e p end ≡ get_or e p 0 ∷ marks_from e (p + 1) end
@@ -223,65 +225,45 @@ rights_kept k e p end h l f i =
     let b = length-take-le (end - p) (drop p e) (omega (arith, length-drop p e, l)) in
     rw (← r.2) (with_words e p end r.0 h l (a ∙ b))
 
--- those of n left digits and m right ones
-pub right_words : (k : ℕ) (e : List ℕ) (n m : ℕ) → n + m ≤ length e → (f : List ℕ) → Memᴰ f (right_entries k e n (n + m)) →
-    (length f ≡ length e) × (drop (n + m) f ≡ drop (n + m) e)
-right_words k e n m l f i = rights_kept k e n (n + m) (omega arith) l f i
-
 -- at the end of the places the entry is written
 pub rights_first : (k : ℕ) (e : List ℕ) (end : ℕ) (lent : List ℕ) (at : ℕ) {lent' : List ℕ} → at + length e ≤ length lent → lent' ≡ put at e lent →
-    Writes (right_entries k e end end) lent at lent' (at + length e)
+    Writes (right_entries k e end end) lent at lent' (Ok (at + length e))
 rights_first k e end lent at h q = rw (rights_end k e end end refl) (entry_fits e lent at (omega (arith, h)) q)
 
 -- with fewer than two labels it is all
 pub rights_few : (k : ℕ) (e : List ℕ) (p end : ℕ) (lent : List ℕ) (at : ℕ) {lent' : List ℕ} → k < 2 → p ≤ end → end ≤ length e → Least k e p end →
-    at + length e ≤ length lent → lent' ≡ put at e lent → Writes (right_entries k e p end) lent at lent' (at + length e)
+    at + length e ≤ length lent → lent' ≡ put at e lent → Writes (right_entries k e p end) lent at lent' (Ok (at + length e))
 rights_few k e p end lent at b h l g m q = rw (rights_one k e p end b h l g) (entry_fits e lent at (omega (arith, m)) q)
 
--- where the entry does not fit, none of them does
-pub rights_over : (k : ℕ) (e : List ℕ) (p end : ℕ) (lent : List ℕ) (at : ℕ) → p ≤ end → end ≤ length e → Least k e p end →
-    length lent - at < length e → Writes (right_entries k e p end) lent at lent full
-rights_over k e p end lent at h l g o =
-    let s = rights_rest k e p end g l end h (omega arith) in
-    let z : 0 < length (right_entries k e p end) = omega (
-      arith,
-      ap length s.1,
-      ap length (rights_end k e end end refl),
-      length-append
-          (right_entries k e end end) s.0,
-    ) in
-    none_fits (right_entries k e p end) lent at z (λ f i. let n = rights_kept k e p end h l f i in omega (arith, o, n.0))
-
 module _ (k : ℕ) (e : List ℕ) (p q end : ℕ) (h : p < q) (m : q ≤ end) (l : end ≤ length e) {lent : List ℕ} {at : ℕ} {lent₁ : List ℕ} {r₁ : ℕ}
-    (w : Writes (right_entries k e q end) lent at lent₁ r₁) where
+    (w : Writes (right_entries k e q end) lent at lent₁ (Ok r₁)) where
   -- a place with 0 changes nothing
-  pub rights_skip : get_or e (q - 1) 0 ≡ 0 → Writes (right_entries k e (q - 1) end) lent at lent₁ r₁
+  pub rights_skip : get_or e (q - 1) 0 ≡ 0 → Writes (right_entries k e (q - 1) end) lent at lent₁ (Ok r₁)
   rights_skip z =
       let n : q - 1 + 1 ≡ q = omega (arith, h) in
       rw (rights_paired k e (q - 1) end (omega (arith, h, m)) l z, n) w
 
-  module _ (b : at ≤ length lent) (f : r₁ ≡ full → ⊥) where
+  module _ (b : at ≤ length lent) where
     -- the entries that are written stand there
     pub rights_block : Block (right_entries k e q end) (length e) lent₁ at r₁
-    rights_block = writes_block (length e) b w f (λ x i. (rights_kept k e q end m l x i).0)
+    rights_block = writes_block (length e) b w (λ x i. (rights_kept k e q end m l x i).0)
 
     -- at a place with 1 they are repeated
-    pub rights_repeat : Least k e p end → (get_or e (q - 1) 0 ≡ 0 → ⊥) → {lent₂ : List ℕ} {r₂ : ℕ} →
+    pub rights_repeat : Least k e p end → (get_or e (q - 1) 0 ≡ 0 → ⊥) → {lent₂ : List ℕ} {r₂ : Result ℕ Full} →
         Writes (repeated (q - 1) 2 (k - 1) (right_entries k e q end)) lent₁ r₁ lent₂ r₂ → Writes (right_entries k e (q - 1) end) lent at lent₂ r₂
     rights_repeat g z v =
         let n : q - 1 + 1 ≡ q = omega (arith, h) in
         let o = mark_one g (q - 1) (omega (arith, h)) (omega (arith, h, m)) z in
-        rw (rights_marked k e (q - 1) end (omega (arith, h, m)) l o.0 o.1, n) (repeat_writes (right_entries k e q end) (q - 1) 2 (k - 1) b w f v)
+        rw (rights_marked k e (q - 1) end (omega (arith, h, m)) l o.0 o.1, n) (repeat_writes (right_entries k e q end) (q - 1) 2 (k - 1) b w v)
 
-    -- where they do not all fit, full is answered
-    pub rights_full : Least k e p end → (get_or e (q - 1) 0 ≡ 0 → ⊥) → length lent < full → {lent₂ : List ℕ} {r₂ : ℕ} →
-        Writes (repeated (q - 1) 2 (k - 1) (right_entries k e q end)) lent₁ r₁ lent₂ r₂ → r₂ ≡ full →
-        Writes (right_entries k e p end) lent at lent₂ full
-    rights_full g z u v t =
+    -- where they do not all fit, not all of the entries do
+    pub rights_full : Least k e p end → (get_or e (q - 1) 0 ≡ 0 → ⊥) → {lent₂ : List ℕ} {f : Full} →
+        Writes (repeated (q - 1) 2 (k - 1) (right_entries k e q end)) lent₁ r₁ lent₂ (Err f) → Writes (right_entries k e p end) lent at lent₂ (Err full)
+    rights_full g z v =
         let s = rights_rest k e p end g l (q - 1) (omega (arith, h)) (omega (arith, m)) in
-        rw s.1 (writes_full (right_entries k e (q - 1) end) s.0 b u (rights_repeat g z v) t)
+        rw s.1 (writes_full (right_entries k e (q - 1) end) s.0 (rights_repeat g z v))
 
 -- at the first place all is written
-pub rights_last : (k : ℕ) (e : List ℕ) (p q end : ℕ) {lent : List ℕ} {at : ℕ} {lent' : List ℕ} {r : ℕ} → q ≡ p →
+pub rights_last : (k : ℕ) (e : List ℕ) (p q end : ℕ) {lent : List ℕ} {at : ℕ} {lent' : List ℕ} {r : Result ℕ Full} → q ≡ p →
     Writes (right_entries k e q end) lent at lent' r → Writes (right_entries k e p end) lent at lent' r
 rights_last k e p q end z w = rw (← z) w

@@ -6,12 +6,15 @@ use mathlib.Core.List.{List, [], ◌∷◌, ◌++◌, flatten, append_assoc, app
 use mathlib.Core.Path.{◌≡◌, refl, sym, ap, ◌∙◌}
 use native.Mathlib.Numerals.{add-one}
 use native.Mathlib.Omega.{arith}
+use borrow.Rule.Slice.PartMut.{put_mid}
 use borrow.Author.Tests.{lt-ltb, le-ltb, ltb-true, ltb-false, le-leb, lt-leb, leb-true}
 use lib.Dec.{leb, ltb}
-use lib.ListN.{length, get_or, take, drop, set, length-append, length-drop, take-append-drop}
-use lib.Seq.{length-take-le, take-length, take_at, drop_at, drop-drop, paste, paste-suc, take-append_seam}
+use lib.ListN.{length, take, drop, length-append, length-drop, take-append-drop, get_or, set}
+use lib.Seq.{length-take-le, take_at, drop_at, drop-drop, take-append_seam, paste, paste-suc, take-length}
+use Rattle.std.specs.Prelude.{Result, Ok, Err}
 use Rattle.multiset_unification.specs.Answer.{fitting}
 use Rattle.multiset_unification.proofs.AnswerLaws.{fitting_all, fitting_fits}
+use Rattle.entries.specs.declared.writing.Full.{Full}
 use Rattle.entries.specs.Code.Writing.{put, full, Writes, Remains, Block, repeated}
 
 -- the words of entries behind entries
@@ -103,71 +106,70 @@ pub remains_whole : (es : List (List ℕ)) (lent : List ℕ) (at : ℕ) → at �
 remains_whole es lent at h = record { size = refl; within = h; closes = λ lent' r w. w }
 
 -- how many words are used where b words are not too many for a
-used_all : (a b n : ℕ) → b ≤ a → cond (ltb a b) full n ≡ n
-used_all a b n h = ap (λ (t : Bool). cond t full n) (le-ltb a b h)
+used_all : (a b n : ℕ) → b ≤ a → cond (ltb a b) (Err full) (Ok n) ≡ Ok n
+used_all a b n h = ap (λ (t : Bool). cond t (Err full) (Ok n)) (le-ltb a b h)
 
 -- and where they are
-used_over : (a b n : ℕ) → a < b → cond (ltb a b) full n ≡ full
-used_over a b n h = ap (λ (t : Bool). cond t full n) (lt-ltb a b h)
+used_over : (a b n : ℕ) → a < b → cond (ltb a b) (Err full) (Ok n) ≡ Err full
+used_over a b n h = ap (λ (t : Bool). cond t (Err full) (Ok n)) (lt-ltb a b h)
 
--- where full is not answered, they are not too many
-all_used : (a b n : ℕ) → (cond (ltb a b) full n ≡ full → ⊥) → b ≤ a
-all_used a b n q = pick (ltb a b) refl q
+-- where so many words are used, they are not too many
+all_used : (a b n : ℕ) {u : ℕ} → Ok u ≡ cond (ltb a b) (Err full) (Ok n) → (b ≤ a) × (u ≡ n)
+all_used a b n {u} q = pick (ltb a b) refl q
   where
-    pick : (t : Bool) → ltb a b ≡ t → (cond t full n ≡ full → ⊥) → b ≤ a
-    pick true e m = absurd (m refl)
-    pick false e m = ltb-false a b e
+    pick : (t : Bool) → ltb a b ≡ t → Ok u ≡ cond t (Err full) (Ok n) → (b ≤ a) × (u ≡ n)
+    pick true e m = cc
+    pick false e m = (ltb-false a b e, cc)
 
--- where it is, they are
-over_used : (a b n : ℕ) → (b ≤ a → n < full) → cond (ltb a b) full n ≡ full → a < b
-over_used a b n l q = pick (ltb a b) refl q
+-- where none are told, they are
+over_used : (a b n : ℕ) {f : Full} → Err f ≡ cond (ltb a b) (Err full) (Ok n) → a < b
+over_used a b n {f} q = pick (ltb a b) refl q
   where
-    pick : (t : Bool) → ltb a b ≡ t → cond t full n ≡ full → a < b
+    pick : (t : Bool) → ltb a b ≡ t → Err f ≡ cond t (Err full) (Ok n) → a < b
     pick true e m = ltb-true a b e
-    pick false e m = let z = l (ltb-false a b e) in absurd (omega (arith, z, m))
+    pick false e m = cc
 
-module _ {es : List (List ℕ)} {lent : List ℕ} {at : ℕ} {lent' : List ℕ} {r : ℕ} (w : Writes es lent at lent' r) where
-  -- where full is not answered, all entries fit
-  writes_fits : (r ≡ full → ⊥) → length (flatten es) ≤ length lent - at
-  writes_fits n = all_used (length lent - at) (length (flatten es)) (at + length (flatten es)) (λ z. n (w.used ∙ z))
+module _ {es : List (List ℕ)} {lent : List ℕ} {at : ℕ} {lent' : List ℕ} {u : ℕ} (w : Writes es lent at lent' (Ok u)) where
+  -- where it is told how many words are used, all entries fit
+  pub writes_fits : length (flatten es) ≤ length lent - at
+  writes_fits = (all_used (length lent - at) (length (flatten es)) (at + length (flatten es)) w.used).0
 
   -- and as many words are used as they have
-  writes_used : (r ≡ full → ⊥) → r ≡ at + length (flatten es)
-  writes_used n = w.used ∙ used_all (length lent - at) (length (flatten es)) (at + length (flatten es)) (writes_fits n)
+  pub writes_used : u ≡ at + length (flatten es)
+  writes_used = (all_used (length lent - at) (length (flatten es)) (at + length (flatten es)) w.used).1
 
   -- and they are put
-  writes_words : (r ≡ full → ⊥) → lent' ≡ put at (flatten es) lent
-  writes_words n =
-      w.words ∙ ap (λ (zs : List (List ℕ)). put at (flatten zs) lent) (fitting_all (length lent - at) es (writes_fits n))
+  writes_words : lent' ≡ put at (flatten es) lent
+  writes_words =
+      w.words ∙ ap (λ (zs : List (List ℕ)). put at (flatten zs) lent) (fitting_all (length lent - at) es writes_fits)
 
-  -- where it is, they do not
-  writes_over : at ≤ length lent → length lent < full → r ≡ full → length lent - at < length (flatten es)
-  writes_over h l q =
-      over_used
-      (length lent - at)
-      (length (flatten es))
-      (at + length (flatten es))
-      (λ m. omega (arith, m, h, l))
-      (sym w.used ∙ q)
+-- where it is not, they do not all fit
+pub writes_over : {es : List (List ℕ)} {lent : List ℕ} {at : ℕ} {lent' : List ℕ} {f : Full} → Writes es lent at lent' (Err f) →
+    length lent - at < length (flatten es)
+writes_over {es} {lent} {at} w = over_used (length lent - at) (length (flatten es)) (at + length (flatten es)) w.used
 
--- what is written leaves as many words, and uses no more
-pub writes_room : {es : List (List ℕ)} {lent : List ℕ} {at : ℕ} {lent' : List ℕ} {r : ℕ} → at ≤ length lent → Writes es lent at lent' r →
-    (length lent' ≡ length lent) × ((r ≡ full → ⊥) → (at ≤ r) × (r ≤ length lent))
-writes_room {es} {lent} {at} {lent'} {r} h w =
+-- what is written leaves as many words
+pub writes_long : {es : List (List ℕ)} {lent : List ℕ} {at : ℕ} {lent' : List ℕ} {r : Result ℕ Full} → at ≤ length lent →
+    Writes es lent at lent' r → length lent' ≡ length lent
+writes_long {es} {lent} {at} h w =
     let f = fitting_fits (length lent - at) es in
-    let l = put_long at (flatten (fitting (length lent - at) es)) lent (omega (arith, h, f)) in
-    (ap length w.words ∙ l, λ n. (omega (arith, writes_used w n), omega (arith, writes_used w n, writes_fits w n, h)))
+    ap length w.words ∙ put_long at (flatten (fitting (length lent - at) es)) lent (omega (arith, h, f))
+
+-- and uses no more
+pub writes_room : {es : List (List ℕ)} {lent : List ℕ} {at : ℕ} {lent' : List ℕ} {u : ℕ} → at ≤ length lent → Writes es lent at lent' (Ok u) →
+    (at ≤ u) × (u ≤ length lent)
+writes_room h w = (omega (arith, writes_used w), omega (arith, writes_used w, writes_fits w, h))
 
 -- no entries are written by doing nothing
-pub writes_none : (lent : List ℕ) (at : ℕ) → at ≤ length lent → Writes [] lent at lent at
+pub writes_none : (lent : List ℕ) (at : ℕ) → at ≤ length lent → Writes [] lent at lent (Ok at)
 unfolding flatten fitting
 writes_none lent at h =
     let z : at ≡ at + 0 = omega arith in
-    record { words = sym (put_none at lent); used = z ∙ sym (used_all (length lent - at) 0 (at + 0) (omega arith)) }
+    record { words = sym (put_none at lent); used = ap Ok z ∙ sym (used_all (length lent - at) 0 (at + 0) (omega arith)) }
 
 -- entries that fit are written
 pub writes_all : (es : List (List ℕ)) (lent : List ℕ) (at : ℕ) {lent' : List ℕ} → length (flatten es) ≤ length lent - at →
-    lent' ≡ put at (flatten es) lent → Writes es lent at lent' (at + length (flatten es))
+    lent' ≡ put at (flatten es) lent → Writes es lent at lent' (Ok (at + length (flatten es)))
 writes_all es lent at h q =
     let f = fitting_all (length lent - at) es h in
     record {
@@ -177,7 +179,7 @@ writes_all es lent at h q =
 
 -- an entry that fits is written
 pub entry_fits : (e lent : List ℕ) (at : ℕ) {lent' : List ℕ} → length e ≤ length lent - at → lent' ≡ put at e lent →
-    Writes (e ∷ []) lent at lent' (at + length e)
+    Writes (e ∷ []) lent at lent' (Ok (at + length e))
 unfolding flatten
 entry_fits e lent at {lent'} h q =
     let a : e ++ [] ≡ e = append-nil e in
@@ -185,13 +187,13 @@ entry_fits e lent at {lent'} h q =
 
 -- of entries that do not all fit those that do are written
 pub writes_cut : (es : List (List ℕ)) (lent : List ℕ) (at : ℕ) {lent' : List ℕ} → length lent - at < length (flatten es) →
-    lent' ≡ put at (flatten (fitting (length lent - at) es)) lent → Writes es lent at lent' full
+    lent' ≡ put at (flatten (fitting (length lent - at) es)) lent → Writes es lent at lent' (Err full)
 writes_cut es lent at h q =
     record { words = q; used = sym (used_over (length lent - at) (length (flatten es)) (at + length (flatten es)) h) }
 
 -- where there are entries and each is longer than the room, none is
 pub none_fits : (es : List (List ℕ)) (lent : List ℕ) (at : ℕ) → 0 < length es → ((e : List ℕ) → Memᴰ e es → length lent - at < length e) →
-    Writes es lent at lent full
+    Writes es lent at lent (Err full)
 unfolding flatten fitting
 none_fits [] lent at z h = absurd (omega (arith, z))
 none_fits (e ∷ es) lent at z h =
@@ -201,8 +203,8 @@ none_fits (e ∷ es) lent at z h =
     (sym (put_none at lent) ∙ ap (λ (zs : List (List ℕ)). put at (flatten zs) lent) (sym f))
 
 -- where all that remained is written, all of the entries are
-pub remains_done : {es : List (List ℕ)} {lent₀ lent : List ℕ} {at₀ at : ℕ} → Remains es lent₀ at₀ [] lent at → Writes es lent₀ at₀ lent at
-remains_done {es} {lent₀} {lent} {at₀} {at} r = r.closes lent at (writes_none lent at r.within)
+pub remains_done : {es : List (List ℕ)} {lent₀ lent : List ℕ} {at₀ at : ℕ} → Remains es lent₀ at₀ [] lent at → Writes es lent₀ at₀ lent (Ok at)
+remains_done {es} {lent₀} {lent} {at₀} {at} r = r.closes lent (Ok at) (writes_none lent at r.within)
 
 -- what is taken off on one side is put to the other
 less_shift : (a b c : ℕ) → b ≤ a → ltb (a - b) c ≡ ltb a (b + c)
@@ -213,15 +215,15 @@ less_shift a b c h = pick (ltb (a - b) c) refl
     pick false q = sym (le-ltb a (b + c) (omega (arith, h, ltb-false (a - b) c q)))
 
 -- entries that fit, and then the rest
-pub writes_append : (xs ys : List (List ℕ)) {lent : List ℕ} {at : ℕ} {lent₁ : List ℕ} {r₁ : ℕ} {lent₂ : List ℕ} {r₂ : ℕ} → at ≤ length lent →
-    Writes xs lent at lent₁ r₁ → (r₁ ≡ full → ⊥) → Writes ys lent₁ r₁ lent₂ r₂ → Writes (xs ++ ys) lent at lent₂ r₂
-writes_append xs ys {lent} {at} {lent₁} {r₁} {lent₂} {r₂} h w q s =
+pub writes_append : (xs ys : List (List ℕ)) {lent : List ℕ} {at : ℕ} {lent₁ : List ℕ} {r₁ : ℕ} {lent₂ : List ℕ} {r₂ : Result ℕ Full} →
+    at ≤ length lent → Writes xs lent at lent₁ (Ok r₁) → Writes ys lent₁ r₁ lent₂ r₂ → Writes (xs ++ ys) lent at lent₂ r₂
+writes_append xs ys {lent} {at} {lent₁} {r₁} {lent₂} {r₂} h w s =
     let room = length lent - at in
-    let fits = writes_fits w q in
+    let fits = writes_fits w in
     let a = fitting_after room xs ys fits in
     let whole : at + length (flatten xs) ≤ length lent = omega (arith, h, fits) in
-    let u = writes_used w q in
-    let p = writes_words w q in
+    let u = writes_used w in
+    let p = writes_words w in
     let l : length lent₁ ≡ length lent = ap length p ∙ put_long at (flatten xs) lent whole in
     let n : length lent₁ - r₁ ≡ room - length (flatten xs) = omega (arith, l, u) in
     let zs = fitting (room - length (flatten xs)) ys in
@@ -236,20 +238,21 @@ writes_append xs ys {lent} {at} {lent₁} {r₁} {lent₂} {r₂} h w q s =
       words = s.words ∙ ap (λ (vs : List ℕ). put r₁ vs lent₁) g ∙ ap (λ (k : ℕ). put k (flatten zs) lent₁) u
           ∙ ap (put (at + length (flatten xs)) (flatten zs)) p ∙ put_put at (flatten xs) (flatten zs) lent whole
           ∙ ap (λ (vs : List ℕ). put at vs lent) (sym f);
-      used = s.used ∙ ap (λ (k : ℕ). cond (ltb (length lent₁ - r₁) (length (flatten ys))) full k) m
-          ∙ ap (λ (c : Bool). cond c full (at + length (flatten (xs ++ ys)))) b;
+      used = s.used ∙ ap (λ (k : ℕ). cond (ltb (length lent₁ - r₁) (length (flatten ys))) (Err full) (Ok k)) m
+          ∙ ap (λ (c : Bool). cond c (Err full) (Ok (at + length (flatten (xs ++ ys))))) b;
     }
 
 -- entries, and then the same with other digits at a place
-pub repeat_writes : (es : List (List ℕ)) (p d c : ℕ) {lent : List ℕ} {at : ℕ} {lent₁ : List ℕ} {r₁ : ℕ} {lent₂ : List ℕ} {r₂ : ℕ} → at ≤ length lent →
-    Writes es lent at lent₁ r₁ → (r₁ ≡ full → ⊥) → Writes (repeated p d c es) lent₁ r₁ lent₂ r₂ → Writes (es ++ repeated p d c es) lent at lent₂ r₂
-repeat_writes es p d c h w q s = writes_append es (repeated p d c es) h w q s
+pub repeat_writes : (es : List (List ℕ)) (p d c : ℕ) {lent : List ℕ} {at : ℕ} {lent₁ : List ℕ} {r₁ : ℕ} {lent₂ : List ℕ} {r₂ : Result ℕ Full} →
+    at ≤ length lent → Writes es lent at lent₁ (Ok r₁) → Writes (repeated p d c es) lent₁ r₁ lent₂ r₂ →
+    Writes (es ++ repeated p d c es) lent at lent₂ r₂
+repeat_writes es p d c h w s = writes_append es (repeated p d c es) h w s
 
 -- entries of which one does not fit: the rest changes nothing
-pub writes_full : (xs rest : List (List ℕ)) {lent : List ℕ} {at : ℕ} {lent' : List ℕ} {r : ℕ} → at ≤ length lent → length lent < full →
-    Writes xs lent at lent' r → r ≡ full → Writes (xs ++ rest) lent at lent' full
-writes_full xs rest {lent} {at} {lent'} {r} h l w q =
-    let over = writes_over w h l q in
+pub writes_full : (xs rest : List (List ℕ)) {lent : List ℕ} {at : ℕ} {lent' : List ℕ} {f : Full} → Writes xs lent at lent' (Err f) →
+    Writes (xs ++ rest) lent at lent' (Err full)
+writes_full xs rest {lent} {at} {lent'} w =
+    let over = writes_over w in
     let b = sym (fitting_before (length lent - at) xs rest over) in
     let t : length (flatten (xs ++ rest)) ≡ length (flatten xs) + length (flatten rest) = ap length (flatten_append xs rest)
     ∙ length-append (flatten xs) (flatten rest) in
@@ -257,20 +260,19 @@ writes_full xs rest {lent} {at} {lent'} {r} h l w q =
 
 -- where the next entries are written and fit, the rest remains
 pub remains_next : {es rest : List (List ℕ)} {lent₀ lent : List ℕ} {at₀ at : ℕ} (xs : List (List ℕ)) → Remains es lent₀ at₀ (xs ++ rest) lent at →
-    (lent' : List ℕ) (r : ℕ) → Writes xs lent at lent' r → (r ≡ full → ⊥) → Remains es lent₀ at₀ rest lent' r
-remains_next {es} {rest} {lent₀} {lent} {at₀} {at} xs m lent' r w q =
-    let n = writes_room m.within w in
+    {lent' : List ℕ} {u : ℕ} → Writes xs lent at lent' (Ok u) → Remains es lent₀ at₀ rest lent' u
+remains_next {es} {rest} {lent₀} {lent} {at₀} {at} xs m w =
+    let l = writes_long m.within w in
     record {
-      size = n.0 ∙ m.size;
-      within = omega (arith, n.0, (n.1 q).1);
-      closes = λ lent'' v z. m.closes lent'' v (writes_append xs rest m.within w q z);
+      size = l ∙ m.size;
+      within = omega (arith, l, (writes_room m.within w).1);
+      closes = λ lent'' v z. m.closes lent'' v (writes_append xs rest m.within w z);
     }
 
 -- where one of the next entries does not fit, all is written that fits
 pub remains_full : {es : List (List ℕ)} {lent₀ lent : List ℕ} {at₀ at : ℕ} (xs rest : List (List ℕ)) → Remains es lent₀ at₀ (xs ++ rest) lent at →
-    length lent < full → (lent' : List ℕ) (r : ℕ) → Writes xs lent at lent' r → r ≡ full → Writes es lent₀ at₀ lent' full
-remains_full {es} {lent₀} {lent} {at₀} {at} xs rest m l lent' r w q =
-    m.closes lent' full (writes_full xs rest m.within l w q)
+    {lent' : List ℕ} {f : Full} → Writes xs lent at lent' (Err f) → Writes es lent₀ at₀ lent' (Err full)
+remains_full {es} {lent₀} {lent} {at₀} {at} xs rest m {lent'} w = m.closes lent' (Err full) (writes_full xs rest w)
 
 -- words put behind the first `at` words, and in front of others
 pub put_there : (at : ℕ) (xs lent : List ℕ) → at + length xs ≤ length lent → take (length xs) (drop at (put at xs lent)) ≡ xs
@@ -282,14 +284,14 @@ put_there at xs lent h =
     ∙ take-append_seam xs (drop (at + length xs) lent)
 
 -- entries of one width that are written stand there
-pub writes_block : {es : List (List ℕ)} {lent : List ℕ} {at : ℕ} {lent' : List ℕ} {r : ℕ} (width : ℕ) → at ≤ length lent → Writes es lent at lent' r →
-    (r ≡ full → ⊥) → ((e : List ℕ) → Memᴰ e es → length e ≡ width) → Block es width lent' at r
-writes_block {es} {lent} {at} {lent'} {r} width h w q k =
-    let n = writes_room h w in
-    let whole : at + length (flatten es) ≤ length lent = omega (arith, h, writes_fits w q) in
+pub writes_block : {es : List (List ℕ)} {lent : List ℕ} {at : ℕ} {lent' : List ℕ} {u : ℕ} (width : ℕ) → at ≤ length lent →
+    Writes es lent at lent' (Ok u) → ((e : List ℕ) → Memᴰ e es → length e ≡ width) → Block es width lent' at u
+writes_block {es} {lent} {at} {lent'} {u} width h w k =
+    let l = writes_long h w in
+    let whole : at + length (flatten es) ≤ length lent = omega (arith, h, writes_fits w) in
     record {
       wide = k;
-      end = writes_used w q;
-      within = omega (arith, n.0, (n.1 q).1);
-      there = ap (λ (zs : List ℕ). take (length (flatten es)) (drop at zs)) (writes_words w q) ∙ put_there at (flatten es) lent whole;
+      end = writes_used w;
+      within = omega (arith, l, (writes_room h w).1);
+      there = ap (λ (zs : List ℕ). take (length (flatten es)) (drop at zs)) (writes_words w) ∙ put_there at (flatten es) lent whole;
     }

@@ -4,30 +4,27 @@ ghost use mathlib.Core.List.{List, map, flatten};
 ghost use Rattle.table.specs.Limits.{max_labels};
 ghost use Rattle.entries.specs.Code.Writing.{put, Writes, Block, repeated, right_entries, Least};
 
-// What is answered in the place of how many words are used, where an entry did not fit.
-pub const FULL: usize = 18446744073709551615;
+// An entry did not fit into the lent words.
+#[derive(Clone, Copy, Debug, PartialEq, Eq)]
+pub struct Full;
 
-// Copies words into the lent words from `at` on.
+// Copies words into the lent words from `at` on. (Entries are short, and a call of `copy_from_slice` costs more than they do.)
 fn copy(words: &[u32], out: &mut [u32], at: usize)
     requires { at + length words.now ≤ length out.old }
     ensures { out.new ≡ put at words.now out.old }
 {
-    let mut i: usize = 0;
-    while i < words.len() {
+    for i in 0..words.len() {
         out[at + i] = words[i];
-        i += 1;
     }
 }
 
 // Copies so many of the lent words, from `from` on, to place `at` behind them.
-fn copy_within(out: &mut [u32], from: usize, count: usize, at: usize)
+fn copy_behind(out: &mut [u32], from: usize, count: usize, at: usize)
     requires { (from + count ≤ at) × (at + count ≤ length out.old) }
     ensures { out.new ≡ put at (take count (drop from out.old)) out.old }
 {
-    let mut i: usize = 0;
-    while i < count {
+    for i in 0..count {
         out[at + i] = out[from + i];
-        i += 1;
     }
 }
 
@@ -56,7 +53,7 @@ fn copy_with(
     requires { (p < width) × (width ≤ length out.old) × (from + count ≤ at) × (at + count ≤ length out.old) × (d < 4294967296) }
     ensures { (es : List (List ℕ)) → Block es width out.old from (from + count) → out.new ≡ put at (flatten (map (λ e. set e p d) es)) out.old }
 {
-    copy_within(out, from, count, at);
+    copy_behind(out, from, count, at);
     put_digits(out, at, count, width, p, d);
 }
 
@@ -70,27 +67,25 @@ pub fn repeat(
     p: usize,
     first: usize,
     last: usize,
-) -> usize
+) -> Result<usize, Full>
     requires { (0 < width) × (p < width) × (from ≤ to) × (to ≤ length out.old) × (first ≤ last) × (last < 4294967296) }
     ensures { (es : List (List ℕ)) → Block es width out.old from to → Writes (repeated p (first + 1) (last - first) es) out.old to out.new result }
 {
     let count = to - from;
     if count < width {
-        return to;
+        return Ok(to);
     }
     let mut used = to;
-    let mut d = first + 1;
-    while d <= last {
+    for d in first + 1..=last {
         let room = out.len() - used;
         if room < count {
             copy_with(out, width, from, room / width * width, used, p, d);
-            return FULL;
+            return Err(Full);
         }
         copy_with(out, width, from, count, used, p, d);
         used += count;
-        d += 1;
     }
-    used
+    Ok(used)
 }
 
 // Writes an entry and, for each other string of right digits from place p up to `end`, the entry with these: a digit 0 stays, any other goes
@@ -102,7 +97,7 @@ pub fn write_rights(
     end: usize,
     out: &mut [u32],
     at: usize,
-) -> usize
+) -> Result<usize, Full>
     requires k_le_max_labels { (k ≤ max_labels) × (p ≤ end) × (end ≤ length entry.now) × (at + length entry.now ≤ length out.old) }
     requires nonzero { (0 < length entry.now) × Least k entry.now p end }
     ensures { Writes (right_entries k entry.now p end) out.old at out.new result }
@@ -110,17 +105,12 @@ pub fn write_rights(
     copy(entry, out, at);
     let mut used = at + entry.len();
     if k < 2 {
-        return used;
+        return Ok(used);
     }
-    let mut q = end;
-    while p < q {
-        q -= 1;
+    for q in (p..end).rev() {
         if entry[q] != 0 {
-            used = repeat(out, entry.len(), at, used, q, 1, k);
-            if used == FULL {
-                return FULL;
-            }
+            used = repeat(out, entry.len(), at, used, q, 1, k)?;
         }
     }
-    used
+    Ok(used)
 }

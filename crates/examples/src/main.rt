@@ -2,12 +2,10 @@
 // A name that begins `unify A B with L lent` asks for a unification and one that begins `list with L lent` for a listing, with L words lent; they are printed after the answer.
 #![tactic(auto)]
 
-ghost use Rattle.std.specs.Prelude.{◌≡◌, ◌+◌, ◌≤◌, ◌<◌, length};
-
 use multiset_unification::Listing;
 use std::io;
 use std::io::Write;
-use table::{Checked, Node, Refusal};
+use table::{Node, Refusal};
 use text::reading::read_full;
 use unification::Unification;
 
@@ -20,273 +18,133 @@ const MOST_WORDS: usize = 2048;
 // The most words that are lent.
 const MOST_LENT: usize = 2048;
 
-// A number that was read, and where the text goes on.
-#[derive(Clone, Copy)]
-struct Digits {
-    value: u32,
-    next: usize,
+// The word that digits spell. (What is beyond 32 bits is dropped.)
+fn parse_word(digits: &[u8]) -> u32 {
+    digits.iter().fold(0u32, |word, digit| {
+        word.wrapping_mul(10)
+            .wrapping_add(u32::from(digit.wrapping_sub(b'0')))
+    })
 }
 
-// A place of a text, and how many numbers stand before it.
-#[derive(Clone, Copy)]
-struct Place {
-    at: usize,
-    count: usize,
-}
-
-fn is_digit(byte: u8) -> bool {
-    (b'0' <= byte) & (byte <= b'9')
-}
-
-// A number's value with one more digit. (The input's numbers are words.)
-fn with_digit(value: u32, digit: u8) -> u32 {
-    // The digits stand at b'0' to b'0' + 9, so this is 0 to 9.
-    let ones = (digit % b'0') as u64;
-    (((value as u64) * 10 + ones) % 4294967296) as u32
-}
-
-// Where `byte` first stands at or after a place, or the end.
-fn find(text: &[u8], from: usize, byte: u8) -> usize
-    requires { from ≤ length text.now }
-    ensures { (from ≤ result) × (result ≤ length text.now) }
-{
-    let mut at = from;
-    while at < text.len() {
-        if text[at] == byte {
-            return at;
+// Puts the words that a text spells, with anything but digits between them, into lent words, and answers how many there are. Those without room are only counted.
+fn parse_words(text: &[u8], words: &mut [u32]) -> usize {
+    let mut count: usize = 0;
+    let spelt = text
+        .split(|byte| !byte.is_ascii_digit())
+        .filter(|digits| !digits.is_empty());
+    for digits in spelt {
+        if let Some(word) = words.get_mut(count) {
+            *word = parse_word(digits);
         }
-        at += 1;
+        count = count.saturating_add(1);
     }
-    at
+    count
 }
 
-// The number whose digits start at a place.
-fn number(text: &[u8], from: usize) -> Digits
-    requires { from ≤ length text.now }
-    ensures { (from ≤ result.next) × (result.next ≤ length text.now) }
-{
-    let mut value: u32 = 0;
-    let mut at = from;
-    while at < text.len() {
-        let byte = text[at];
-        if !is_digit(byte) {
-            return Digits { value, next: at };
-        }
-        value = with_digit(value, byte);
-        at += 1;
+// Words to lend, with numbers that are no nodes, all different.
+fn words_to_lend() -> [u32; MOST_LENT] {
+    let mut words = [0u32; MOST_LENT];
+    for (i, word) in words.iter_mut().enumerate() {
+        *word = 9000 + i as u32;
     }
-    Digits { value, next: at }
-}
-
-// Stores a word where there is room for it.
-fn store(words: &mut [u32], i: usize, word: u32)
-    ensures { length words.new ≡ length words.old }
-{
-    if i < words.len() {
-        words[i] = word;
-    }
-}
-
-// Reads on at a place: past a byte that is no digit, or past a number and the byte after it.
-fn read_on(text: &[u8], words: &mut [u32], from: Place) -> Place
-    requires { (from.at < length text.now) × (from.count ≤ from.at) }
-    ensures at_lt_at { (from.at < result.at) × (result.at ≤ length text.now + 1) × (result.count ≤ result.at) }
-    ensures words_len_unchanged { length words.new ≡ length words.old }
-{
-    let at = from.at;
-    let count = from.count;
-    if !is_digit(text[at]) {
-        return Place { at: at + 1, count };
-    }
-    let read = number(text, at);
-    store(words, count, read.value);
-    Place {
-        at: read.next + 1,
-        count: count + 1,
-    }
-}
-
-// Puts the numbers of a text into words, and answers how many there are. Those without room are only counted.
-fn read_words(text: &[u8], words: &mut [u32]) -> usize
-    ensures { length words.new ≡ length words.old }
-{
-    let mut place = Place { at: 0, count: 0 };
-    while place.at < text.len() {
-        place = read_on(text, words, place);
-    }
-    place.count
-}
-
-// Fills words with numbers that are no nodes, all different.
-fn fill(words: &mut [u32])
-    requires { length words.old ≤ 10000 }
-    ensures { length words.new ≡ length words.old }
-{
-    let mut i: usize = 0;
-    while i < words.len() {
-        words[i] = 9000 + (i as u32);
-        i += 1;
-    }
-}
-
-fn begins_with(text: &[u8], beginning: &[u8]) -> bool {
-    if text.len() < beginning.len() {
-        return false;
-    }
-    let mut i: usize = 0;
-    while i < beginning.len() {
-        if text[i] != beginning[i] {
-            return false;
-        }
-        i += 1;
-    }
-    true
-}
-
-fn print(out: &mut impl Write, text: &[u8]) -> io::Result<()> {
-    out.write_all(text)
-}
-
-fn print_number(out: &mut impl Write, number: u64) -> io::Result<()> {
-    write!(out, "{number}")
+    words
 }
 
 fn print_refusal(out: &mut impl Write, refusal: Refusal) -> io::Result<()> {
-    print(out, b": refused ")?;
-    print_number(out, refusal.number() as u64)
+    write!(out, ": refused {}", refusal.number())
 }
 
-fn print_checked(out: &mut impl Write, checked: Checked) -> io::Result<()> {
+fn print_checked(out: &mut impl Write, checked: Result<(), Refusal>) -> io::Result<()> {
     match checked {
-        Checked::Accepted => print(out, b": accepted")?,
-        Checked::Refused(refusal) => print_refusal(out, refusal)?,
+        Ok(()) => write!(out, ": accepted"),
+        Err(refusal) => print_refusal(out, refusal),
     }
-    print(out, b"\n")
 }
 
-fn print_unification(out: &mut impl Write, unification: Unification) -> io::Result<()> {
+fn print_unification(
+    out: &mut impl Write,
+    unification: Result<Unification, Refusal>,
+) -> io::Result<()> {
     match unification {
-        Unification::Unified => print(out, b": unified"),
-        Unification::Clash => print(out, b": clash"),
-        Unification::Occurs => print(out, b": occurs"),
-        Unification::Refused(refusal) => print_refusal(out, refusal),
+        Ok(Unification::Unified) => write!(out, ": unified"),
+        Ok(Unification::Clash) => write!(out, ": clash"),
+        Ok(Unification::Occurs) => write!(out, ": occurs"),
+        Err(refusal) => print_refusal(out, refusal),
     }
 }
 
-fn print_entries(out: &mut impl Write, word: &[u8], entries: usize) -> io::Result<()> {
-    print(out, word)?;
-    print_number(out, entries as u64)
-}
-
-fn print_listing(out: &mut impl Write, listing: Listing) -> io::Result<()> {
+fn print_listing(out: &mut impl Write, listing: Result<Listing, Refusal>) -> io::Result<()> {
     match listing {
-        Listing::Finished(entries) => print_entries(out, b": entries ", entries),
-        Listing::Full(entries) => print_entries(out, b": full ", entries),
-        Listing::Refused(refusal) => print_refusal(out, refusal),
+        Ok(Listing::Finished(entries)) => write!(out, ": entries {entries}"),
+        Ok(Listing::Full(entries)) => write!(out, ": full {entries}"),
+        Err(refusal) => print_refusal(out, refusal),
     }
-}
-
-// Prints a comma, if any words follow it.
-fn print_comma(out: &mut impl Write, words: &[u32]) -> io::Result<()> {
-    if words.len() > 0 {
-        print(out, b",")?;
-    }
-    Ok(())
-}
-
-fn print_word(out: &mut impl Write, word: u32) -> io::Result<()> {
-    print(out, b" ")?;
-    print_number(out, word as u64)
-}
-
-fn print_words(out: &mut impl Write, words: &[u32]) -> io::Result<()> {
-    let mut i: usize = 0;
-    while i < words.len() {
-        print_word(out, words[i])?;
-        i += 1;
-    }
-    Ok(())
 }
 
 fn print_lent(out: &mut impl Write, lent: &[u32]) -> io::Result<()> {
-    print_comma(out, lent)?;
-    print_words(out, lent)?;
-    print(out, b"\n")
+    if !lent.is_empty() {
+        write!(out, ",")?;
+    }
+    for word in lent {
+        write!(out, " {word}")?;
+    }
+    Ok(())
 }
 
-// Unifies two nodes, and prints the answer and the lent words after it.
-fn unify_nodes(
-    out: &mut impl Write,
-    table: &[u32],
-    a: u32,
-    b: u32,
-    lent: &mut [u32],
-) -> io::Result<()> {
+// Unifies two nodes of a table, and prints the answer and the lent words after it. The name has the nodes' numbers and how many words are lent.
+fn answer_unification(out: &mut impl Write, name: &[u8], table: &[u32]) -> io::Result<()> {
+    let mut given = [0u32; 3];
+    parse_words(name, &mut given);
+    let [a, b, count] = given;
+    let mut words = words_to_lend();
+    let Some(lent) = words.get_mut(..count as usize) else {
+        return write!(out, ": too many lent");
+    };
     print_unification(out, unify::unify(table, Node(a), Node(b), lent))?;
     print_lent(out, lent)
 }
 
-// Unifies two nodes of a table. The name has their numbers and how many words are lent.
-fn run_unification(out: &mut impl Write, name: &[u8], table: &[u32]) -> io::Result<()> {
-    let mut given = [0u32; 3];
-    read_words(name, &mut given);
-    if given[2] > MOST_LENT as u32 {
-        return print(out, b": too many lent\n");
-    }
-    let n = given[2] as usize;
-    let mut lent = [0u32; MOST_LENT];
-    fill(&mut lent);
-    unify_nodes(out, table, given[0], given[1], &mut lent[0..n])
-}
-
-// Lists a table, and prints the answer and the lent words after it.
-fn list_table(out: &mut impl Write, table: &[u32], lent: &mut [u32]) -> io::Result<()> {
+// Lists a table, and prints the answer and the lent words after it. The name has how many words are lent.
+fn answer_listing(out: &mut impl Write, name: &[u8], table: &[u32]) -> io::Result<()> {
+    let mut given = [0u32; 1];
+    parse_words(name, &mut given);
+    let [count] = given;
+    let mut words = words_to_lend();
+    let Some(lent) = words.get_mut(..count as usize) else {
+        return write!(out, ": too many lent");
+    };
     print_listing(out, listing::list(table, lent))?;
     print_lent(out, lent)
 }
 
-// Lists a table. The name has how many words are lent.
-fn run_listing(out: &mut impl Write, name: &[u8], table: &[u32]) -> io::Result<()> {
-    let mut given = [0u32; 1];
-    read_words(name, &mut given);
-    if given[0] > MOST_LENT as u32 {
-        return print(out, b": too many lent\n");
-    }
-    let n = given[0] as usize;
-    let mut lent = [0u32; MOST_LENT];
-    fill(&mut lent);
-    list_table(out, table, &mut lent[0..n])
-}
-
 // Answers what a name asks of a table.
 fn answer(out: &mut impl Write, name: &[u8], table: &[u32]) -> io::Result<()> {
-    if begins_with(name, b"list with ") {
-        return run_listing(out, name, table);
+    if name.starts_with(b"list with ") {
+        return answer_listing(out, name, table);
     }
-    if begins_with(name, b"unify ") {
-        return run_unification(out, name, table);
+    if name.starts_with(b"unify ") {
+        return answer_unification(out, name, table);
     }
     print_checked(out, checking::check(table))
 }
 
 // Prints the name of one line and the answer to it.
 fn run_line(out: &mut impl Write, line: &[u8]) -> io::Result<()> {
-    let colon = find(line, 0, b':');
-    print(out, &line[0..colon])?;
+    let colon = line.iter().position(|byte| *byte == b':');
+    let (name, table) = line.split_at(colon.unwrap_or(line.len()));
+    out.write_all(name)?;
     let mut words = [0u32; MOST_WORDS];
-    let n = read_words(&line[colon..], &mut words);
-    if n > MOST_WORDS {
-        return print(out, b": too many words\n");
+    let count = parse_words(table, &mut words);
+    match words.get(..count) {
+        Some(table) => answer(out, name, table)?,
+        None => write!(out, ": too many words")?,
     }
-    answer(out, &line[0..colon], &words[0..n])
+    writeln!(out)
 }
 
 fn run(out: &mut impl Write, input: &[u8]) -> io::Result<()> {
-    let mut at: usize = 0;
-    while at < input.len() {
-        let end = find(input, at, b'\n');
-        run_line(out, &input[at..end])?;
-        at = end + 1;
+    for line in input.split_inclusive(|byte| *byte == b'\n') {
+        run_line(out, line.strip_suffix(b"\n").unwrap_or(line))?;
     }
     Ok(())
 }
@@ -296,7 +154,7 @@ fn main(rt: HostRuntime) -> io::Result<()> {
     let n = read_full(&mut rt.reader(), &mut input)?;
     let mut out = io::writer(&rt);
     if n == MOST_BYTES {
-        return print(&mut out, b"too much input\n");
+        return writeln!(out, "too much input");
     }
-    run(&mut out, &input[0..n])
+    run(&mut out, &input[..n])
 }

@@ -25,7 +25,7 @@ use Rattle.branches.proofs.KnownLaws.{left_long, right_long, left_word, right_wo
 use Rattle.branches.proofs.PairLaws.{pair_inside, pair_answers, pair_pairing}
 use Rattle.ahead.specs.Code.Struck.{RowsTo}
 use Rattle.ahead.proofs.StruckLaws.{rows_pairs}
-use Rattle.forcing.specs.Code.Forced.{OneTaker, FirstTaker, Forces}
+use Rattle.forcing.specs.Code.Forced.{OneTaker, NoTaker, FirstTaker, Forces}
 
 -- a set of one right term has no other
 only_bit : (j k : ℕ) → has (2 ^ j) k ≡ true → k ≡ j
@@ -124,30 +124,36 @@ module _ {nodes arguments known : List ℕ} (k : KnownOf nodes arguments known) 
         let d = x.2 in
         omega (arith, y, d)
 
-    -- without left labels a right term is paired with one that may take it; where only one may, with that
-    only_right : left_labels known ≡ 0 → (i j : ℕ) → j < right_count known → OneTaker known j → FirstTaker known j i →
-        (ds : List ℕ) (σ : Substitution) → Admits ds σ → (i < left_count known) × (word ds i ≡ j + 1)
-    only_right z i j g o f ds σ c =
+    -- without left labels a right term is paired with one that may take it
+    right_has : left_labels known ≡ 0 → (j : ℕ) → j < right_count known → (ds : List ℕ) (σ : Substitution) → Admits ds σ →
+        (i : ℕ) × (i < left_count known) × (word ds i ≡ suc j) × (has (word known (600 + i)) j ≡ true)
+    right_has z j g ds σ c =
         let l = left_long k in
         let r = right_long k in
         let w = c.choice.right_digits j (omega (arith, g, r)) in
         let x = (c.choice.paired j (omega (arith, g, r))).0 (omega (arith, w, z)) in
         let u : x.0 < left_count known = omega (arith, x.1, l) in
-        go x.0 u x.2 (row_has ds σ c x.0 j u g x.2) (dec_lt x.0 i) (dec_lt i x.0)
+        (x.0, u, x.2, row_has ds σ c x.0 j u g x.2)
+
+    -- where only one may, with that
+    only_right : left_labels known ≡ 0 → (i j : ℕ) → j < right_count known → OneTaker known j → FirstTaker known j i →
+        (ds : List ℕ) (σ : Substitution) → Admits ds σ → word ds i ≡ j + 1
+    only_right z i j g o f ds σ c =
+        let x = right_has z j g ds σ c in
+        go x.0 x.1 x.2 x.3 (dec_lt x.0 i) (dec_lt i x.0)
       where
         go : (q : ℕ) → q < left_count known → word ds q ≡ suc j → has (word known (600 + q)) j ≡ true → Dec (q < i) → Dec (i < q) →
-            (i < left_count known) × (word ds i ≡ j + 1)
+            word ds i ≡ j + 1
         go q u e t (yes a) d = absurd (false≢true (sym (f.before q a) ∙ t))
-        go q u e t (no a) (yes d) = absurd (false≢true (sym (o.one i q d u (f.takes (omega (arith, d, u)))) ∙ t))
+        go q u e t (no a) (yes d) = absurd (false≢true (sym (o.one i q d u f.takes) ∙ t))
         go q u e t (no a) (no d) =
             let y : q ≡ i = omega (arith, a, d) in
-            (omega (arith, y, u), ap (λ (p : ℕ). word ds p) (sym y) ∙ e ∙ omega arith)
+            ap (λ (p : ℕ). word ds p) (sym y) ∙ e ∙ omega arith
 
     -- where none may, no choice is admissible
-    pub none_right : left_labels known ≡ 0 → (i j : ℕ) → j < right_count known → OneTaker known j → FirstTaker known j i → i ≡ left_count known →
-        NoneOfKnown nodes arguments known
-    none_right z i j g o f e =
-        record { never = λ ds σ c. let x = only_right z i j g o f ds σ c in omega (arith, e, x.0) }
+    pub none_right : left_labels known ≡ 0 → (j : ℕ) → j < right_count known → NoTaker known j → NoneOfKnown nodes arguments known
+    none_right z j g n =
+        record { never = λ ds σ c. let x = right_has z j g ds σ c in false≢true (sym (n.none x.0 x.1) ∙ x.3) }
 
     -- A pair that every choice has.
     module _ (i d : ℕ) (h : i < left_count known) (p : 0 < d) (g : d ≤ right_count known)
@@ -199,22 +205,13 @@ module _ {nodes arguments known : List ℕ} (k : KnownOf nodes arguments known) 
         joins_forced i (j + 1) h (omega arith) (omega (arith, g)) (only_left z i j h e)
 
     -- a right term that one may take is joined with that
-    pub forced_right : left_labels known ≡ 0 → (i j : ℕ) → i < left_count known → j < right_count known → OneTaker known j → FirstTaker known j i →
+    pub forced_right : left_labels known ≡ 0 → (i j : ℕ) → j < right_count known → OneTaker known j → FirstTaker known j i →
         {r : Bool} {heads' next' : List ℕ} →
         JoinsPair nodes arguments known heads next (word known (584 + i)) (word known (592 + (j + 1 - 1))) r heads' next' →
         Forces nodes arguments known r heads' next'
-    forced_right z i j h g o f =
-        joins_forced i (j + 1) h (omega arith) (omega (arith, g)) (λ ds σ c. (only_right z i j g o f ds σ c).1)
-
-    -- nothing is to be joined
-    pub forced_none : Forces nodes arguments known true heads next
-    forced_none = record { based = λ e. b; none = λ e. absurd (false≢true (sym e)) }
+    forced_right z i j g o f =
+        joins_forced i (j + 1) f.within (omega arith) (omega (arith, g)) (only_right z i j g o f)
 
 -- no choice is admissible
 pub forced_never : {nodes arguments known heads next : List ℕ} → NoneOfKnown nodes arguments known → Forces nodes arguments known false heads next
 forced_never n = record { based = λ e. absurd (false≢true e); none = λ e. n }
-
--- as one pair of several shows
-pub forced_failed : {nodes arguments known heads next : List ℕ} {r : Bool} → r ≡ false → Forces nodes arguments known r heads next →
-    Forces nodes arguments known false heads next
-forced_failed e f = forced_never (f.none e)

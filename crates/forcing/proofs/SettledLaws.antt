@@ -1,68 +1,35 @@
 -- What looking ahead comes to: rows with every pair leave all bits 1, rows that lost pairs and classes that gained some stay right, and where
 -- the bits leave no choice, there is no entry. By the laws of what cannot be completed. Assumes nothing.
-use Prim.Native.Nat.{ℕ, ◌+◌, ◌≤◌, ◌<◌}
-use mathlib.Core.Bool.{Bool, true, false, ◌||◌, false≢true}
+use Prim.Native.Nat.{ℕ, ◌+◌, ◌<◌}
+use mathlib.Core.Bool.{Bool, true, false, false≢true}
 use mathlib.Core.List.Memᴰ
 use mathlib.Core.List.{List, []}
 use mathlib.Core.Path.{◌≡◌, refl, sym, ap, ◌∙◌}
-use native.Mathlib.Decide.{ℕ_discrete}
 use native.Mathlib.Omega.{arith}
-use borrow.Author.Tests.{ltb-false}
-use lib.Dec.{ltb}
-use lib.ListN.{length, set, replicate, length-replicate}
-use lib.Seq.{get_or-set_same, get_or-set_other}
-use Rattle.table.specs.Layout.{word, node_count}
-use Rattle.table.proofs.BoolLaws.{or_false_left}
+use lib.ListN.{set, replicate, length-replicate}
+use lib.Seq.{get_or-set_same}
+use Rattle.std.specs.declared.option.Option.{Option}
+use Rattle.std.specs.declared.option.Option.TheVariants.{None, Some}
+use Rattle.table.specs.Layout.{node_count}
 use Rattle.nodes.specs.Code.Trail.{Trailed}
 use Rattle.nodes.specs.Code.Formed.{Formed}
-use Rattle.branches.specs.Code.Known.{left_count, right_count, right_labels, every_in, KnownOf, KeepsKnown}
-use Rattle.branches.specs.Code.Ahead.{has, completes_from, MayPair, Completable}
+use Rattle.branches.specs.Code.Known.{left_count, right_count, right_labels, KnownOf, KeepsKnown}
+use Rattle.branches.specs.Code.Ahead.{completes_from, MayPair, Completable}
 use Rattle.branches.specs.Code.Walk.{all_entries, Standing, NoneOfKnown, Based, BasesAhead}
-use Rattle.branches.proofs.SetLaws.{has_every, paired_first}
-use Rattle.branches.proofs.KnownLaws.{known_kept, formed_kept, left_kept, right_kept, keeps_all, keeps_twice}
+use Rattle.branches.proofs.SetLaws.{paired_first}
+use Rattle.branches.proofs.KnownLaws.{known_kept, formed_kept, left_kept, right_kept, keeps_twice}
 use Rattle.branches.proofs.CompleteLaws.{below_cannot}
 use Rattle.branches.proofs.BasedLaws.{never_entries, based_entries}
 use Rattle.ahead.specs.Code.Plan.{Sized, Ready, Plans}
 use Rattle.ahead.specs.Code.Struck.{RowTo, RowsTo}
+use Rattle.ahead.proofs.AheadLaws.{known_sized, whole_pairs, ready_again}
 use Rattle.ahead.proofs.PlanLaws.{full_ready, full_completable}
 use Rattle.ahead.proofs.StruckLaws.{rows_pairs, rows_end, rows_again, keeps_row, pairs_rows}
-use Rattle.forcing.specs.Code.Forced.{Planned, no_choice, Settles, Settling}
-use Rattle.ahead.specs.Code.Whole.{WholeTo, WholeRows}
+use Rattle.forcing.specs.Code.Forced.{Planned, Settles, Settling}
+use Rattle.ahead.specs.Code.Whole.{WholeRows}
 use Rattle.forcing.proofs.ForcedLaws.{based_kept, never_kept, none_left}
 
--- at first no row is needed
-pub whole_first : (known : List ℕ) → WholeTo known known 0
-whole_first known = record { keeps = keeps_all known; rows = λ q h. absurd (omega (arith, h)) }
-
--- then one more has every pair
-pub whole_turn : {known₀ known : List ℕ} {i v : ℕ} → 600 + i < length known → v ≡ every_in known₀ → WholeTo known₀ known i →
-    WholeTo known₀ (set known (600 + i) v) (i + 1)
-whole_turn {known₀} {known} {i} {v} l e w =
-    record { keeps = keeps_twice w.keeps (keeps_row known i v); rows = λ q h. go q h (ℕ_discrete q i) }
-  where
-    go : (q : ℕ) → q < i + 1 → Dec (q ≡ i) → word (set known (600 + i) v) (600 + q) ≡ every_in known₀
-    go q h (yes d) = ap (λ (x : ℕ). word (set known (600 + i) v) (600 + x)) d ∙ get_or-set_same known (600 + i) v 0 l ∙ e
-    go q h (no d) = get_or-set_other known (600 + i) (600 + q) v 0 (λ z. d (omega (arith, z))) ∙ w.rows q (omega (arith, h, d))
-
--- until all have
-pub whole_end : {known₀ known : List ℕ} {i n : ℕ} → n ≤ i → WholeTo known₀ known i → WholeTo known₀ known n
-whole_end h w = record { keeps = w.keeps; rows = λ q l. w.rows q (omega (arith, h, l)) }
-
 module _ {nodes arguments known : List ℕ} (k : KnownOf nodes arguments known) where
-  -- what the bits need to know
-  known_sized : 0 < left_count known → Sized known
-  known_sized h = record { size = k.size; some = h; left_few = k.left_few; right_few = k.right_few; every = k.every }
-
-  -- every pair may be where all rows have every pair
-  whole_pairs : {known' : List ℕ} → WholeRows known known' → (ps : List (ℕ × ℕ)) → MayPair nodes arguments known' ps
-  whole_pairs {known'} w ps = record { never = λ i j h l o. absurd (false≢true (sym o ∙ all i j h l)) }
-    where
-      all : (i j : ℕ) → i < left_count known' → j < right_count known' → has (word known' (600 + i)) j ≡ true
-      all i j h l =
-          let n = w.keeps.same 578 (omega arith) in
-          let m = w.keeps.same 579 (omega arith) in
-          ap (λ (x : ℕ). has x j) (w.rows i (omega (arith, h, n))) ∙ has_every (right_count known) (every_in known) j k.every (omega (arith, l, m))
-
   -- classes that stand for no pair, with rows that are right
   none_based : {known' heads next : List ℕ} → KeepsKnown known known' → Formed nodes arguments known heads → Trailed (node_count nodes) heads next →
       Standing nodes arguments heads [] → MayPair nodes arguments known' [] → Based nodes arguments known' heads next
@@ -131,24 +98,9 @@ module _ {nodes arguments known : List ℕ} (k : KnownOf nodes arguments known) 
       BasesAhead nodes arguments known known' can heads next true
   looks_whole {known'} {can} e f t g w =
       let x = known_kept k w.keeps in
-      looks_based w.keeps (none_based w.keeps f t g (whole_pairs w [])) (full_completable known' can e x.left_few x.right_few)
+      looks_based w.keeps (none_based w.keeps f t g (whole_pairs k w [])) (full_completable known' can e x.left_few x.right_few)
 
--- two terms on both sides are some
-some_left : (n m : ℕ) → (ltb n 2 || ltb m 2) ≡ false → 0 < n
-some_left n m e =
-    let l = ltb-false n 2 (or_false_left (ltb n 2) (ltb m 2) e) in
-    omega (arith, l)
-
--- the bits can be filled
-pub planning : {nodes arguments known known' can : List ℕ} → KnownOf nodes arguments known → KeepsKnown known known' →
-    can ≡ replicate 32 18446744073709551615 → (ltb (left_count known) 2 || ltb (right_count known) 2) ≡ false → Sized known' × Ready known' can
-planning {nodes} {arguments} {known} {known'} {can} k s e t =
-    let x = known_kept k s in
-    let n = s.same 578 (omega arith) in
-    let h = some_left (left_count known) (right_count known) t in
-    (known_sized x (omega (arith, n, h)), full_ready known' can e x.left_few)
-
--- all of them may stay 1
+-- all bits may stay 1
 pub plans_whole : {known can : List ℕ} → Sized known → can ≡ replicate 32 18446744073709551615 → Plans known can can true
 plans_whole {known} {can} z e =
     record {
@@ -157,22 +109,16 @@ plans_whole {known} {can} z e =
       none = λ w. absurd (false≢true (sym w));
     }
 
--- they are
+-- the bits are filled
 pub planned : {known can can' : List ℕ} {r : Bool} → Sized known → Plans known can can' r → Planned known can'
 planned z p = record { sized = z; ready = p.ready; completable = p.completable }
 
 -- they can be filled again, where all but the rows is as before
 pub planning_again : {nodes arguments known known' can : List ℕ} → KnownOf nodes arguments known → KeepsKnown known known' → Planned known can →
     Sized known' × Ready known' can
-planning_again {known = known} {known'} {can} k s p =
-    let x = known_kept k s in
+planning_again {known = known} k s p =
     let n = s.same 578 (omega arith) in
-    let u = s.same 580 (omega arith) in
-    let v = s.same 581 (omega arith) in
-    let y = p.ready in (
-      known_sized x (omega (arith, n, p.sized.some)),
-      record { size = y.size; ends = rw (u, n) y.ends; whole = rw (u, v) y.whole },
-    )
+    (known_sized (known_kept k s) (omega (arith, n, p.sized.some)), ready_again k s p.ready)
 
 -- the same classes by other names
 pub based_as : {nodes arguments known heads next heads' next' : List ℕ} → heads' ≡ heads → next' ≡ next → Based nodes arguments known heads next →
@@ -196,22 +142,15 @@ module _ {nodes arguments known heads next : List ℕ} (k : KnownOf nodes argume
       (rows_again known i v (omega (arith, h, k.size, k.left_few)) k.right_few r k.left_few based_rows)
       (omega (arith, n)))
 
-  -- nothing is done
-  pub settles_same : Settles nodes arguments known known heads next 0
-  settles_same =
-      record { keeps = keeps_all known; based = λ n. b; same = λ z. refl; none = λ z. absurd (omega (arith, z)) }
-
 -- A row was put.
 module _ {nodes arguments known : List ℕ} (k : KnownOf nodes arguments known) {known' : List ℕ} (s : KeepsKnown known known') where
   -- it has fewer pairs
-  pub settles_fewer : {heads next : List ℕ} → Based nodes arguments known' heads next → Settles nodes arguments known known' heads next 1
-  settles_fewer b =
-      record { keeps = s; based = λ n. b; same = λ z. absurd (omega (arith, z)); none = λ z. absurd (omega (arith, z)) }
+  pub settles_fewer : {heads next : List ℕ} → Based nodes arguments known' heads next → Settles nodes arguments known known' heads next (Some 1)
+  settles_fewer b = record { keeps = s; based = λ n z. b; same = λ z. absurd (cc); none = λ z. absurd (cc) }
 
   -- there is no choice
-  pub settles_none : {heads next : List ℕ} → NoneOfKnown nodes arguments known' → Settles nodes arguments known known' heads next no_choice
-  settles_none n =
-      record { keeps = s; based = λ x. absurd (x refl); same = λ z. absurd (omega (arith, z)); none = λ z. never_kept k s n }
+  pub settles_none : {heads next : List ℕ} → NoneOfKnown nodes arguments known' → Settles nodes arguments known known' heads next None
+  settles_none n = record { keeps = s; based = λ x z. absurd (cc); same = λ z. absurd (cc); none = λ z. never_kept k s n }
 
 -- A row of a left term that must be paired was put.
 module _ {nodes arguments known heads next : List ℕ} (k : KnownOf nodes arguments known) (b : Based nodes arguments known heads next) (i v : ℕ)
@@ -224,7 +163,7 @@ module _ {nodes arguments known heads next : List ℕ} (k : KnownOf nodes argume
 
   -- it is empty
   pub settles_empty : {heads' next' : List ℕ} → right_labels (set known (600 + i) v) ≡ 0 → v ≡ 0 →
-      Settles nodes arguments known (set known (600 + i) v) heads' next' no_choice
+      Settles nodes arguments known (set known (600 + i) v) heads' next' None
   settles_empty z e =
       settles_none k (keeps_row known i v)
       (none_left (known_kept k (keeps_row known i v)) (based_row k b i v h r) z i still_left
@@ -236,16 +175,6 @@ module _ {nodes arguments known heads next : List ℕ} (k : KnownOf nodes argume
       ((right_labels (set known (600 + i) v) ≡ 0) × (i < left_count (set known (600 + i) v))))
   forcing_row e d z = (known_kept k (keeps_row known i v), (based_as e d (based_row k b i v h r), (z, still_left)))
 
--- no choice is admissible, and nothing was put
-pub settles_never : {nodes arguments known heads next : List ℕ} → KnownOf nodes arguments known → NoneOfKnown nodes arguments known →
-    Settles nodes arguments known known heads next no_choice
-settles_never {known = known} k n = settles_none k (keeps_all known) n
-
--- at first there was no round
-pub settling_first : {nodes arguments known can heads next : List ℕ} → Based nodes arguments known heads next → Planned known can →
-    Settling nodes arguments known known can heads next
-settling_first {known = known} b p = record { keeps = keeps_all known; based = b; planned = p }
-
 -- Rounds have been made.
 module _ {nodes arguments known₀ known can heads next : List ℕ} (k : KnownOf nodes arguments known₀)
     (s : Settling nodes arguments known₀ known can heads next) where
@@ -253,32 +182,30 @@ module _ {nodes arguments known₀ known can heads next : List ℕ} (k : KnownOf
   pub settling_known : KnownOf nodes arguments known
   settling_known = known_kept k s.keeps
 
-  -- there is no further one
-  pub settling_end : BasesAhead nodes arguments known₀ known can heads next true
-  settling_end = looks_based k s.keeps s.based s.planned.completable
-
   -- one more was made
-  module _ {known' heads' next' : List ℕ} {r : ℕ} (t : Settles nodes arguments known known' heads' next' r) where
+  module _ {known' heads' next' : List ℕ} {r : Option ℕ} (t : Settles nodes arguments known known' heads' next' r) where
     kept_since : KeepsKnown known₀ known'
     kept_since = keeps_twice s.keeps t.keeps
 
     -- there is no choice
-    pub settling_none : {can' : List ℕ} → r ≡ no_choice → BasesAhead nodes arguments known₀ known' can' heads' next' false
+    pub settling_none : {can' : List ℕ} → r ≡ None → BasesAhead nodes arguments known₀ known' can' heads' next' false
     settling_none e = looks_never k kept_since (never_kept k s.keeps (t.none e))
 
     -- nothing was struck out
-    pub settling_same : (r ≡ no_choice → ⊥) → r ≡ 0 → BasesAhead nodes arguments known₀ known' can heads' next' true
-    settling_same n e = looks_based k kept_since (t.based n) (rw (t.same e) s.planned.completable)
+    pub settling_same : {n : ℕ} → r ≡ Some n → n ≡ 0 → BasesAhead nodes arguments known₀ known' can heads' next' true
+    settling_same o z =
+        let e : r ≡ Some 0 = o ∙ ap Some z in
+        looks_based k kept_since (t.based 0 e) (rw (t.same e) s.planned.completable)
 
     -- the bits are filled again
     pub settling_plan : Sized known' × Ready known' can
     settling_plan = planning_again settling_known t.keeps s.planned
 
-    module _ {can' : List ℕ} {q : Bool} (p : Plans known' can can' q) (n : r ≡ no_choice → ⊥) where
+    module _ {can' : List ℕ} {q : Bool} {n : ℕ} (p : Plans known' can can' q) (o : r ≡ Some n) where
       -- no choice can be completed
       pub settling_cannot : q ≡ false → BasesAhead nodes arguments known₀ known' can' heads' next' false
-      settling_cannot e = looks_cannot k kept_since (t.based n) (p.none e)
+      settling_cannot e = looks_cannot k kept_since (t.based n o) (p.none e)
 
       -- or there may be another round
       pub settling_again : Settling nodes arguments known₀ known' can' heads' next'
-      settling_again = record { keeps = kept_since; based = t.based n; planned = planned settling_plan.0 p }
+      settling_again = record { keeps = kept_since; based = t.based n o; planned = planned settling_plan.0 p }

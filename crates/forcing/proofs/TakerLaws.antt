@@ -7,21 +7,27 @@ use mathlib.Core.Path.{◌≡◌, refl, sym, ap, ◌∙◌}
 use native.Mathlib.Decide.{ℕ_discrete}
 use native.Mathlib.Omega.{arith}
 use lib.Bits.{bit_and, bit_or}
+use lib.ListN.{length, take, drop, length-drop}
+use lib.Seq.{length-take-le, get_or-take, get_or-drop}
+use Rattle.std.specs.declared.option.Option.{Option}
+use Rattle.std.specs.declared.option.Option.TheVariants.{None, Some}
+use Rattle.std.specs.List.{AllWithin, HoldsAt}
+use Rattle.std.specs.Option.{MatchOption}
 use Rattle.table.specs.Layout.{word}
 use Rattle.branches.specs.Code.Known.{left_count}
 use Rattle.branches.specs.Code.Ahead.{has}
 use Rattle.branches.proofs.BitLaws.{has_true, has_false}
 use Rattle.ahead.proofs.BitLaws.{or_left, or_right, and_both}
-use Rattle.forcing.specs.Code.Forced.{TakenBefore, Contested, FirstTaker}
+use Rattle.forcing.specs.Code.Forced.{TakenBefore, NoTaker, FirstTaker}
 
 -- what another follows from does not hold where that does not
 not_either : (a b : Bool) → (a ≡ true → b ≡ true) → b ≡ false → a ≡ false
 not_either true b f e = absurd (false≢true (sym e ∙ f refl))
 not_either false b f e = refl
 
--- at first there are no rows
-pub taken_first : (known : List ℕ) → TakenBefore known 0 0 0
-taken_first known = record { none = λ j q h. absurd (omega (arith, h)); one = λ j p q l h. absurd (omega (arith, h)) }
+-- a row is read where it stands
+row_at : (known : List ℕ) (n q : ℕ) → q < n → word known (600 + q) ≡ word (take n (drop 600 known)) q
+row_at known n q h = sym (get_or-take n (drop 600 known) q 0 h ∙ get_or-drop 600 known q 0)
 
 -- one row more
 pub taken_turn : {known : List ℕ} {i once twice row : ℕ} → row ≡ word known (600 + i) → TakenBefore known i once twice →
@@ -50,33 +56,20 @@ taken_turn {known} {i} {once} {twice} {row} r t =
         t.one j p q l (omega (arith, h, d))
         (not_either (has twice j) (has (bit_or twice (bit_and once row)) j) (or_left twice (bit_and once row) j) e) o
 
--- after all rows
-pub taken_end : {known : List ℕ} {i once twice : ℕ} → left_count known ≤ i → TakenBefore known i once twice → Contested known twice
-taken_end n t = record { others = λ j e. record { one = λ p q l h. t.one j p q l (omega (arith, h, n)) e } }
-
--- No left term before term i may take right term j.
-pub record NoneTakes (known : List ℕ) (j i : ℕ) : Type 0 where
-  pub before : (q : ℕ) → q < i → has (word known (600 + q)) j ≡ false
-
--- at first there are none before
-pub takes_first : (known : List ℕ) (j : ℕ) → NoneTakes known j 0
-takes_first known j = record { before = λ q h. absurd (omega (arith, h)) }
-
--- a left term whose row is looked at
-module _ {known : List ℕ} {j i row : ℕ} (r : row ≡ word known (600 + i)) (f : NoneTakes known j i) where
-  -- it may not take it
-  pub takes_next : (row / 2 ^ j % 2 ≡ 1 → ⊥) → NoneTakes known j (i + 1)
-  takes_next n = record { before = λ q h. go q h (ℕ_discrete q i) }
-    where
-      go : (q : ℕ) → q < i + 1 → Dec (q ≡ i) → has (word known (600 + q)) j ≡ false
-      go q h (yes d) = ap (λ (x : ℕ). has (word known (600 + x)) j) d ∙ ap (λ (x : ℕ). has x j) (sym r) ∙ has_false row j n
-      go q h (no d) = f.before q (omega (arith, h, d))
-
-  -- it is the first that may
-  pub takes_here : i < left_count known → row / 2 ^ j % 2 ≡ 1 → FirstTaker known j i
-  takes_here h e =
-      record { within = omega (arith, h); before = f.before; takes = λ l. ap (λ (x : ℕ). has x j) (sym r) ∙ has_true row j e }
-
--- none may take it
-pub takes_none : {known : List ℕ} {j i : ℕ} → i ≡ left_count known → NoneTakes known j i → FirstTaker known j i
-takes_none e f = record { within = omega (arith, e); before = f.before; takes = λ l. absurd (omega (arith, e, l)) }
+-- the first row that has a right term is that of the first left term that may take it
+pub first_taker : (known : List ℕ) (j n : ℕ) (r : Option ℕ) → n ≡ left_count known → 600 + n ≤ length known →
+    MatchOption r (AllWithin (λ x. x / 2 ^ j % 2 ≡ 1 → ⊥) (take n (drop 600 known)) 0 (length (take n (drop 600 known))))
+    (λ i. (i < length (take n (drop 600 known))) × HoldsAt (λ x. x / 2 ^ j % 2 ≡ 1) (take n (drop 600 known)) i ×
+    AllWithin (λ x. x / 2 ^ j % 2 ≡ 1 → ⊥) (take n (drop 600 known)) 0 i) → MatchOption r (NoTaker known j) (FirstTaker known j)
+first_taker known j n None e h m =
+    record {
+      none = λ q l. let k = length-take-le n (drop 600 known) (omega (arith, length-drop 600 known, h)) in
+          ap (λ (x : ℕ). has x j) (row_at known n q (omega (arith, l, e))) ∙ has_false _ j (m q 0 (omega arith) (omega (arith, k, l, e)));
+    }
+first_taker known j n (Some i) e h m =
+    let k = length-take-le n (drop 600 known) (omega (arith, length-drop 600 known, h)) in
+    record {
+      within = omega (arith, m.0, k, e);
+      before = λ q l. ap (λ (x : ℕ). has x j) (row_at known n q (omega (arith, l, m.0, k))) ∙ has_false _ j (m.2 q 0 (omega arith) l);
+      takes = ap (λ (x : ℕ). has x j) (row_at known n i (omega (arith, m.0, k))) ∙ has_true _ j (m.1 0);
+    }

@@ -1,28 +1,28 @@
 // Pairs that every choice has: a left term with one partner left, where there are no right labels to put it in, and a right term that one left
 // term only may take, where there are no left labels. They are unified on top of the classes.
-ghost use Rattle.std.specs.Prelude.{◌≡◌, ◌^◌, ◌≤◌, ◌<◌, length};
+ghost use Rattle.std.specs.Prelude.{◌≡◌, ◌^◌, ◌≤◌, ◌<◌, length, IfSome, MatchOption};
 ghost use Rattle.table.specs.Limits.{max_terms};
 ghost use Rattle.branches.specs.Code.Known.{known_bytes, left_count, right_count, left_labels, right_labels, KnownOf};
 ghost use Rattle.branches.specs.Code.Walk.{Based};
-ghost use Rattle.forcing.specs.Code.Forced.{Contested, FirstTaker, Forces};
+ghost use Rattle.forcing.specs.Code.Forced.{Contested, NoTaker, FirstTaker, Forces};
 
 use branches::known::{LEFT_COUNT, LEFT_LABELS, RIGHT_COUNT, RIGHT_LABELS, ROWS};
 use branches::{branch, known};
 
-// The only right term of a set, or 8.
-fn only(row: usize) -> usize
-    ensures { result < 8 → row ≡ 2 ^ result }
+// The only right term of a set, if there is one only.
+fn only(row: usize) -> Option<usize>
+    ensures { IfSome result (λ j. row ≡ 2 ^ j) }
 {
     match row {
-        1 => 0,
-        2 => 1,
-        4 => 2,
-        8 => 3,
-        16 => 4,
-        32 => 5,
-        64 => 6,
-        128 => 7,
-        _ => 8,
+        1 => Some(0),
+        2 => Some(1),
+        4 => Some(2),
+        8 => Some(3),
+        16 => Some(4),
+        32 => Some(5),
+        64 => Some(6),
+        128 => Some(7),
+        _ => None,
     }
 }
 
@@ -40,7 +40,9 @@ pub fn force_left(
     requires known_value { (right_labels known.now ≡ 0) × (i < left_count known.now) }
     ensures { Forces nodes.now arguments.now known.now result heads.new next.new }
 {
-    let j = only(known::at(known, ROWS + i));
+    let Some(j) = only(known::at(known, ROWS + i)) else {
+        return true;
+    };
     if known::at(known, RIGHT_COUNT) <= j {
         return true;
     }
@@ -63,12 +65,10 @@ fn force_lefts(
         return true;
     }
     let n = known::at(known, LEFT_COUNT);
-    let mut i: usize = 0;
-    while i < n {
+    for i in 0..n {
         if !force_left(nodes, arguments, known, heads, next, i) {
             return false;
         }
-        i += 1;
     }
     true
 }
@@ -79,33 +79,25 @@ fn contested(known: &[u8]) -> usize
     ensures { Contested known.now result }
 {
     let n = known::at(known, LEFT_COUNT);
-    let mut once: usize = 0;
-    let mut twice: usize = 0;
-    let mut i: usize = 0;
-    while i < n {
+    let mut once = 0;
+    let mut twice = 0;
+    for i in 0..n {
         let row = known::at(known, ROWS + i);
-        twice = twice | once & row;
-        once = once | row;
-        i += 1;
+        twice |= once & row;
+        once |= row;
     }
     twice
 }
 
-// The first left term that may take right term j, or their number.
-fn taker(known: &[u8], j: usize) -> usize
+// The first left term that may take right term j, if one may.
+fn taker(known: &[u8], j: usize) -> Option<usize>
     requires { (length known.now ≡ known_bytes) × (left_count known.now ≤ max_terms) × (j < max_terms) }
-    ensures { FirstTaker known.now j result }
+    ensures { MatchOption result (NoTaker known.now j) (FirstTaker known.now j) }
 {
     let n = known::at(known, LEFT_COUNT);
-    let mut i: usize = 0;
-    while i < n {
-        let row = known::at(known, ROWS + i);
-        if (row >> j) % 2 == 1 {
-            return i;
-        }
-        i += 1;
-    }
-    i
+    known[ROWS..ROWS + n]
+        .iter()
+        .position(|row| (*row >> j) % 2 == 1)
 }
 
 // Unifies right term j, unless it is in the set `twice`, with the only left term that may take it; false where that cannot be.
@@ -126,10 +118,9 @@ fn force_right(
     if (twice >> j) % 2 == 1 {
         return true;
     }
-    let i = taker(known, j);
-    if i == known::at(known, LEFT_COUNT) {
+    let Some(i) = taker(known, j) else {
         return false;
-    }
+    };
     branch::join_pair(nodes, arguments, known, heads, next, i, j + 1)
 }
 
@@ -150,12 +141,10 @@ fn force_rights(
     }
     let m = known::at(known, RIGHT_COUNT);
     let twice = contested(known);
-    let mut j: usize = 0;
-    while j < m {
+    for j in 0..m {
         if !force_right(nodes, arguments, known, heads, next, twice, j) {
             return false;
         }
-        j += 1;
     }
     true
 }

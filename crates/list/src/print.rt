@@ -33,12 +33,11 @@ fn print_listing(table: &[u32], lent: &mut [u32], out: &mut [u8]) -> usize
     requires { (length lent.old ≡ 16384) × (most_printed ≤ length out.old) }
     ensures { Wrote out.old 0 (printed_table table.now) out.new result }
 {
-    let answer = listing::list(table, lent);
     let width = entry_words(table);
-    match answer {
-        Listing::Refused(refusal) => write_title(b"refused ", refusal.number(), out, 0),
-        Listing::Full(count) => write_entries(b"full ", count, lent, width, out),
-        Listing::Finished(count) => write_entries(b"entries ", count, lent, width, out),
+    match listing::list(table, lent) {
+        Err(refusal) => write_title(b"refused ", refusal.number(), out, 0),
+        Ok(Listing::Full(count)) => write_entries(b"full ", count, lent, width, out),
+        Ok(Listing::Finished(count)) => write_entries(b"entries ", count, lent, width, out),
     }
 }
 

@@ -1,17 +1,16 @@
 -- A call by its parts: the answer and the lent words are those of the entries that the walk writes, and all that `list` promises follows.
 -- All entries have one length, so the words used tell how many there are. Assumes nothing.
 use Prim.Native.Nat.{ℕ, zero, suc, ◌+◌, ◌-◌, ◌*◌, ◌/◌, ◌≤◌, ◌<◌}
-use mathlib.Core.Bool.{Bool, true, false, cond}
+use mathlib.Core.Bool.{Bool, true, false}
 use mathlib.Core.List.Memᴰ
 use mathlib.Core.List.{List, [], ◌∷◌, flatten, Memᴰ}
 use mathlib.Core.Path.{◌≡◌, refl, sym, ap, ◌∙◌}
 use native.Mathlib.Nat.{div-mul-le_self, lt-div-mul-add, div-lt_iff_lt-mul}
 use native.Mathlib.Omega.{arith}
-use borrow.Author.Tests.{ltb-true, ltb-false}
 use lib.Arith.{digits_div}
-use lib.Dec.{ltb}
 use lib.ListN.{length, take, drop, set, replicate, length-replicate, get_or-replicate, replicate-append-replicate}
 use lib.Seq.{drop_at, length-take-le}
+use Rattle.std.specs.Prelude.{Result, Ok, Err}
 use Rattle.table.specs.declared.Refusal.{Refusal}
 use Rattle.table.specs.Limits.{max_nodes}
 use Rattle.table.specs.Layout.{word, node_count, nodes_of, arguments_of, left_terms_of, left_labels_of, right_terms_of, right_labels_of}
@@ -34,9 +33,9 @@ use Rattle.nodes.specs.Code.Open.{Counts, OpenListed}
 use Rattle.nodes.specs.Code.Trail.{Trailed}
 use Rattle.nodes.specs.Code.Formed.{Formed}
 use Rattle.values.specs.Code.Begins.{BeginsShared}
-use Rattle.multiset_unification.specs.declared.Listing.TheVariants.{Finished, Full, Refused}
+use Rattle.multiset_unification.specs.declared.Listing.TheVariants.{Finished, Full}
 use Rattle.multiset_unification.specs.Problem.{half_at, problem_of}
-use Rattle.multiset_unification.specs.Answer.{Told, told, fitting, lent_after}
+use Rattle.multiset_unification.specs.Answer.{Told, told, told_listing, fitting, lent_after}
 use Rattle.multiset_unification.specs.Computed.Listing.{complete_listing}
 use Rattle.multiset_unification.specs.Code.LeavesEntries.{LeavesEntries}
 use Rattle.multiset_unification.specs.Code.InEvery.{NoneAdmissible}
@@ -46,8 +45,9 @@ use Rattle.multiset_unification.proofs.PromiseLaws.{ListingPromised, refused_pro
 use Rattle.multiset_unification.proofs.CompleteLaws.{complete_admissible}
 use Rattle.multiset_unification.proofs.OneHalfLaws.{one_posed}
 use Rattle.multiset_unification.proofs.TableLaws.{posed, none_held, held_posed, table_refusals}
+use Rattle.entries.specs.declared.writing.Full.{Full as Unfit}
 use Rattle.entries.specs.Code.Writing.{put, full, Writes, marked}
-use Rattle.entries.proofs.WritingLaws.{writes_room}
+use Rattle.entries.proofs.WritingLaws.{writes_fits, writes_used, writes_over, writes_long}
 use Rattle.entries.proofs.BlockLaws.{fitting_wide}
 use Rattle.symbols.specs.Code.Symbols.{SideOf}
 use Rattle.branches.specs.Code.Known.{known_bytes, left_count, right_count, left_labels, right_labels, width_in, left_in, right_in, AllBytes, Listable, KnownOf, KeepsKnown, PutSides}
@@ -73,70 +73,43 @@ fitting_room width lent es h l m =
     let q : lent / width < length es = (div-lt_iff_lt-mul h).1 (omega (arith, m, t)) in
     ap length f ∙ length-take-le (lent / width) es (omega (arith, q))
 
-module _ {es : List (List ℕ)} {lent lent' : List ℕ} {r : ℕ} (x : Writes es lent 0 lent' r) (b : length lent < full) (width : ℕ) (h : 0 < width)
-    (l : (e : List ℕ) → Memᴰ e es → length e ≡ width) where
-  -- the lent words begin with the entries that fit
-  written_words : lent' ≡ lent_after [] es lent
-  unfolding put lent_after
-  written_words =
-      let z : length lent - 0 ≡ length lent = omega arith in
-      let o : 0 + length (flatten (fitting (length lent) es)) ≡ length (flatten (fitting (length lent) es)) = omega arith in
-      let q = x.words in
-      rw (fitting_left [] es (length lent) nothing_held) (rw (z, o) at q)
+-- the lent words begin with the entries that fit
+written_words : {es : List (List ℕ)} {lent lent' : List ℕ} {r : Result ℕ Unfit} → Writes es lent 0 lent' r → lent' ≡ lent_after [] es lent
+unfolding put lent_after
+written_words {es} {lent} x =
+    let z : length lent - 0 ≡ length lent = omega arith in
+    let o : 0 + length (flatten (fitting (length lent) es)) ≡ length (flatten (fitting (length lent) es)) = omega arith in
+    let q = x.words in
+    rw (fitting_left [] es (length lent) nothing_held) (rw (z, o) at q)
 
-  -- the words used tell whether all entries fit
-  used_told : r ≡ cond (ltb (length lent) (length (flatten es))) full (length (flatten es))
-  used_told =
-      let z : length lent - 0 ≡ length lent = omega arith in
-      let o : 0 + length (flatten es) ≡ length (flatten es) = omega arith in
-      let q = x.used in
-      rw (z, o) at q
-
+module _ {es : List (List ℕ)} {lent lent' : List ℕ} (width : ℕ) (h : 0 < width) (l : (e : List ℕ) → Memᴰ e es → length e ≡ width) where
   -- an entry did not fit
-  pub written_full : r ≡ full → LeavesEntries es lent (told (Full (length lent' / width))) lent'
-  written_full f = record {
-    answer = rw ((writes_room (omega arith) x).0, ← fitting_room width (length lent) es h l less)
-        (sym (answered_full [] es (length lent) nothing nothing_held less));
-    words = written_words;
-  }
-    where
-      pick : (t : Bool) → ltb (length lent) (length (flatten es)) ≡ t → cond t full (length (flatten es)) ≡ full → length lent < length (flatten es)
-      pick true q n = ltb-true (length lent) (length (flatten es)) q
-      pick false q n = omega (arith, n, b)
-
-      less : length lent < length (flatten es)
-      less = pick (ltb (length lent) (length (flatten es))) refl (sym used_told ∙ f)
+  pub written_full : Writes es lent 0 lent' (Err full) → LeavesEntries es lent (told_listing (Full (length lent' / width))) lent'
+  written_full x =
+      let less : length lent < length (flatten es) = omega (arith, writes_over x) in
+      record {
+        answer = rw (writes_long (omega arith) x, ← fitting_room width (length lent) es h l less)
+            (sym (answered_full [] es (length lent) nothing nothing_held less));
+        words = written_words x;
+      }
 
   -- all entries did
-  pub written_finished : (r ≡ full → ⊥) → LeavesEntries es lent (told (Finished (r / width))) lent'
-  written_finished f =
+  pub written_finished : {used : ℕ} → Writes es lent 0 lent' (Ok used) → LeavesEntries es lent (told_listing (Finished (used / width))) lent'
+  written_finished {used} x =
+      let fits : length (flatten es) ≤ length lent = omega (arith, writes_fits x) in
+      let e : used ≡ length es * width + 0 = omega (arith, writes_used x, flatten_long width es l) in
+      let counted : used / width ≡ length es = ap (λ (n : ℕ). n / width) e ∙ digits_div (length es) h in
       record {
         answer = rw counted (sym (answered_finished [] es (length lent) nothing nothing_held fits));
-        words = written_words;
+        words = written_words x;
       }
-    where
-      pick : (t : Bool) → ltb (length lent) (length (flatten es)) ≡ t → (cond t full (length (flatten es)) ≡ full → ⊥) →
-          (length (flatten es) ≤ length lent) × (cond t full (length (flatten es)) ≡ length (flatten es))
-      pick true q n = absurd (n refl)
-      pick false q n = (ltb-false (length lent) (length (flatten es)) q, refl)
-
-      picked : (length (flatten es) ≤ length lent) × (cond (ltb (length lent) (length (flatten es))) full (length (flatten es)) ≡ length (flatten es))
-      picked = pick (ltb (length lent) (length (flatten es))) refl (λ z. f (used_told ∙ z))
-
-      fits : length (flatten es) ≤ length lent
-      fits = picked.0
-
-      counted : r / width ≡ length es
-      counted =
-          let q : r ≡ length es * width + 0 = used_told ∙ picked.1 ∙ flatten_long width es l ∙ omega arith in
-          ap (λ (n : ℕ). n / width) q ∙ digits_div (length es) h
 
 -- an entry of no words
 abbrev empty : List (List ℕ)
 empty = [] ∷ []
 
 -- always fits
-written_empty : (es : List (List ℕ)) (lent : List ℕ) → es ≡ empty → LeavesEntries es lent (told (Finished 1)) lent
+written_empty : (es : List (List ℕ)) (lent : List ℕ) → es ≡ empty → LeavesEntries es lent (told_listing (Finished 1)) lent
 unfolding flatten lent_after
 written_empty es lent e =
     let m : length (flatten empty) ≤ length lent = omega arith in
@@ -147,7 +120,7 @@ written_empty es lent e =
     })
 
 -- no entries leave nothing
-pub written_none : (es : List (List ℕ)) (lent : List ℕ) → es ≡ [] → LeavesEntries es lent (told (Finished 0)) lent
+pub written_none : (es : List (List ℕ)) (lent : List ℕ) → es ≡ [] → LeavesEntries es lent (told_listing (Finished 0)) lent
 unfolding flatten lent_after
 written_none es lent e =
     let m : length (flatten {A = ℕ} []) ≤ length lent = omega arith in
@@ -216,7 +189,7 @@ drop_replicate n m x = ap (drop n) (sym (replicate-append-replicate n m x)) ∙ 
 module _ {nodes arguments left right : List ℕ} {k l : ℕ} {heads next known : List ℕ} {width : ℕ}
     (g : Begun nodes arguments left right k l heads next known width) where
   -- an entry of no words is the only one
-  pub begun_empty : width ≡ 0 → (lent : List ℕ) → LeavesEntries (side_entries nodes arguments left right k l) lent (told (Finished 1)) lent
+  pub begun_empty : width ≡ 0 → (lent : List ℕ) → LeavesEntries (side_entries nodes arguments left right k l) lent (told_listing (Finished 1)) lent
   begun_empty e lent =
       written_empty (side_entries nodes arguments left right k l) lent
       (all_empty nodes arguments left right k l (omega (arith, e, g.width_is, g.sides.width_is)))
@@ -310,7 +283,7 @@ module _ {nodes arguments left right : List ℕ} {k l : ℕ} {heads next known :
     -- it was looked ahead, and the classes are as before
     module _ {can : List ℕ} {r : Bool} (a : LooksAhead nodes arguments heads known known' can r) where
       -- there is no entry
-      pub ahead_none : r ≡ false → (lent : List ℕ) → LeavesEntries (side_entries nodes arguments left right k l) lent (told (Finished 0)) lent
+      pub ahead_none : r ≡ false → (lent : List ℕ) → LeavesEntries (side_entries nodes arguments left right k l) lent (told_listing (Finished 0)) lent
       ahead_none e lent = written_none (side_entries nodes arguments left right k l) lent (sym known_entries ∙ a.none e [] g.standing)
 
       -- there may be some
@@ -324,14 +297,14 @@ module _ {nodes arguments left right : List ℕ} {k l : ℕ} {heads next known :
             pairs_walking (a.completable e) (formed_kept g.sides.knows keeps g.formed) g.trailed [] first_pairing n lent
 
         -- it writes the entries of the sides
-        pub first_walked : {lent entry' lent' : List ℕ} {w : ℕ} → Walked nodes arguments known' heads first_entry lent 0 1 0 entry' lent' w →
+        pub first_walked : {lent entry' lent' : List ℕ} {w : Result ℕ Unfit} → Walked nodes arguments known' heads first_entry lent 0 1 0 entry' lent' w →
             Writes (side_entries nodes arguments left right k l) lent 0 lent' w
         first_walked y = rw (first_branch [] ∙ same_entries) at (y.writes [] first_pairing)
 
   -- it was looked ahead, and pairs that every choice has are unified
   module _ {known' can heads' next' : List ℕ} {r : Bool} (a : BasesAhead nodes arguments known known' can heads' next' r) where
     -- there is no entry
-    pub based_none : r ≡ false → (lent : List ℕ) → LeavesEntries (side_entries nodes arguments left right k l) lent (told (Finished 0)) lent
+    pub based_none : r ≡ false → (lent : List ℕ) → LeavesEntries (side_entries nodes arguments left right k l) lent (told_listing (Finished 0)) lent
     based_none e lent = written_none (side_entries nodes arguments left right k l) lent (sym known_entries ∙ a.none e)
 
     -- there may be some
@@ -345,7 +318,7 @@ module _ {nodes arguments left right : List ℕ} {k l : ℕ} {heads next known :
       based_walking lent = pairs_walking a.keeps (a.completable e) base.formed base.trailed base.pairs base.pairing n lent
 
       -- it writes the entries of the sides
-      pub based_walked : {lent entry' lent' : List ℕ} {w : ℕ} → Walked nodes arguments known' heads' first_entry lent 0 1 0 entry' lent' w →
+      pub based_walked : {lent entry' lent' : List ℕ} {w : Result ℕ Unfit} → Walked nodes arguments known' heads' first_entry lent 0 1 0 entry' lent' w →
           Writes (side_entries nodes arguments left right k l) lent 0 lent' w
       based_walked y =
           rw (first_branch a.keeps base.pairs ∙ based_entries (knows a.keeps) base ∙ same_entries a.keeps) at (y.writes base.pairs base.pairing)
@@ -433,7 +406,7 @@ module _ {nodes arguments left right : List ℕ} {k l : ℕ} (g : Listable nodes
 
   -- then there is no entry
   pub never_listed : NoneAdmissible (nodes_from nodes arguments) left right k l → (lent : List ℕ) →
-      LeavesEntries (side_entries nodes arguments left right k l) lent (told (Finished 0)) lent
+      LeavesEntries (side_entries nodes arguments left right k l) lent (told_listing (Finished 0)) lent
   never_listed n lent =
       written_none (side_entries nodes arguments left right k l) lent
       (below_never (nodes_from nodes arguments) (sections_well_formed nodes arguments g.sections) left right
@@ -445,7 +418,7 @@ module _ (t lent lent' : List ℕ) (w : Told) where
   Promises = ListingPromised (problem_of t) (conditions t) lent lent' w
 
   -- a refused table
-  pub refused_table : (r : Refusal) → number_of r ≡ refusal t → w ≡ told (Refused r) → lent' ≡ lent → Promises
+  pub refused_table : (r : Refusal) → number_of r ≡ refusal t → w ≡ told (Err r) → lent' ≡ lent → Promises
   unfolding refusal
   refused_table r n =
       refused_promised (problem_of t) (conditions t) lent lent' w (table_refusals t) (held_posed t) (number_of r) (number_above r) (sym n)

@@ -9,18 +9,19 @@ use borrow.Rule.Slice.PartMut.{mid_of, put_mid, Post-is, put_same}
 use lib.ListN.{length, take, drop, set, length-drop, drop_of_length-le}
 use lib.Seq.{drop-drop, take_all}
 use Rattle.table.specs.Answer.{number_of}
+use Rattle.std.specs.Prelude.{Result, Ok, Err}
 use Rattle.table.specs.declared.Refusal.{Refusal}
 use Rattle.unification.specs.Node.{Node}
 use Rattle.unification.specs.Outcome.{Outcome, unified, clash, occurs}
 use Rattle.unification.specs.Computed.Variables.{variables_of}
 use Rattle.unification.specs.Computed.Unifying.{outcome, words_of}
 use Rattle.unification.specs.declared.Unification.{Unification}
-use Rattle.unification.specs.declared.Unification.TheVariants.{Unified, Clash, Occurs, Refused}
+use Rattle.unification.specs.declared.Unification.TheVariants.{Unified, Clash, Occurs}
 use Rattle.unification.specs.Answer as unifying
 use Rattle.unification.specs.Answer.{ended, refused, words_after}
 use Rattle.unification.proofs.AnswerLaws.{words_counted}
 use Rattle.unify.specs.Code.Calling.{called, AnswersByNodes}
-use Rattle.multiset_unification.specs.Answer.{Told, told, lent_after}
+use Rattle.multiset_unification.specs.Answer.{Told, told_listing, lent_after}
 use Rattle.multiset_unification.specs.declared.Listing.TheVariants.{Finished}
 use Rattle.multiset_unification.specs.Computed.Choices.{branch}
 use Rattle.multiset_unification.specs.Code.LeavesEntries.{LeavesEntries}
@@ -31,7 +32,7 @@ use Rattle.branches.proofs.BelowLaws.{not_unified}
 use Rattle.listing.proofs.CallingLaws.{written_none}
 
 -- one entry that fits
-written_one : (e lent : List ℕ) → length e ≤ length lent → LeavesEntries (e ∷ []) lent (told (Finished 1)) (e ++ drop (length e) lent)
+written_one : (e lent : List ℕ) → length e ≤ length lent → LeavesEntries (e ∷ []) lent (told_listing (Finished 1)) (e ++ drop (length e) lent)
 unfolding flatten lent_after
 written_one e lent h =
     let n = append-nil e in
@@ -80,7 +81,7 @@ module _ (ns : List Node) (a b : ℕ) where
   single_entries_lem = append-nil _
 
   -- The two terms are unified, in the lent words behind two digits.
-  module _ (lent : List ℕ) {part' : List ℕ} {r : Unification} (x : AnswersByNodes ns a b (mid_of 2 (length lent - 2) lent) r part')
+  module _ (lent : List ℕ) {part' : List ℕ} {r : Result Unification Refusal} (x : AnswersByNodes ns a b (mid_of 2 (length lent - 2) lent) r part')
       (p : a < length ns) (q : b < length ns) (few : length (variables_of ns) ≤ 64) (room : 66 ≤ length lent) where
     -- what is lent for the words is all behind the digits
     part_is : mid_of 2 (length lent - 2) lent ≡ drop 2 lent
@@ -116,8 +117,8 @@ module _ (ns : List Node) (a b : ℕ) where
         single_entries_lem ∙ ap (λ (w : Outcome). if_unified w ((1 ∷ 0 ∷ words_of ns ((a, b) ∷ [])) ∷ [])) z
 
     -- there is a unifier: two digits and its words
-    pub single_finished : r ≡ Unified →
-        LeavesEntries single_entries lent (told (Finished 1)) (set (set (put_mid 2 (length lent - 2) lent part') 0 1) 1 0)
+    pub single_finished : r ≡ Ok Unified →
+        LeavesEntries single_entries lent (told_listing (Finished 1)) (set (set (put_mid 2 (length lent - 2) lent part') 0 1) 1 0)
     unfolding if_unified words_after
     single_finished u =
         let d : unifying.told r ≡ ended unified = ap unifying.told u in
@@ -128,25 +129,33 @@ module _ (ns : List Node) (a b : ℕ) where
 
     -- there is none: the lent words are as before
     single_none : (o : Outcome) → (o ≡ unified → ⊥) → unifying.told r ≡ ended o → part' ≡ mid_of 2 (length lent - 2) lent →
-        LeavesEntries single_entries lent (told (Finished 0)) (put_mid 2 (length lent - 2) lent part')
+        LeavesEntries single_entries lent (told_listing (Finished 0)) (put_mid 2 (length lent - 2) lent part')
     single_none o n d e =
         rw (e, put_same 2 (length lent - 2) lent) (written_none single_entries lent (entries_by o d ∙ not_unified o _ n))
 
-    pub single_clash : r ≡ Clash → LeavesEntries single_entries lent (told (Finished 0)) (put_mid 2 (length lent - 2) lent part')
+    single_clash : r ≡ Ok Clash → LeavesEntries single_entries lent (told_listing (Finished 0)) (put_mid 2 (length lent - 2) lent part')
     unfolding words_after
     single_clash u =
         let d : unifying.told r ≡ ended clash = ap unifying.told u in
         single_none clash (λ z. let o : ◌≡◌ {A = ℕ} 0 1 = cc in omega arith) d (part_words clash d)
 
-    pub single_occurs : r ≡ Occurs → LeavesEntries single_entries lent (told (Finished 0)) (put_mid 2 (length lent - 2) lent part')
+    single_occurs : r ≡ Ok Occurs → LeavesEntries single_entries lent (told_listing (Finished 0)) (put_mid 2 (length lent - 2) lent part')
     unfolding words_after
     single_occurs u =
         let d : unifying.told r ≡ ended occurs = ap unifying.told u in
         single_none occurs (λ z. let o : ◌≡◌ {A = ℕ} 0 1 = cc in omega arith) d (part_words occurs d)
 
     -- there is no other answer
-    pub single_refused : (f : Refusal) → r ≡ Refused f → ⊥
+    single_refused : (f : Refusal) → r ≡ Err f → ⊥
     single_refused f u =
         let d : refused (number_of f) ≡ ended (outcome ns ((a, b) ∷ [])) = sym (ap unifying.told u) ∙ single_answer in
         let o : ◌≡◌ {A = ℕ} 0 1 = cc in
         omega (arith, o)
+
+    -- without a unifier there is no entry
+    pub single_failed : (s : Result Unification Refusal) → r ≡ s → (s ≡ Ok Unified → ⊥) →
+        LeavesEntries single_entries lent (told_listing (Finished 0)) (put_mid 2 (length lent - 2) lent part')
+    single_failed (Ok Unified) u n = absurd (n refl)
+    single_failed (Ok Clash) u n = single_clash u
+    single_failed (Ok Occurs) u n = single_occurs u
+    single_failed (Err f) u n = absurd (single_refused f u)

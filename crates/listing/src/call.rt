@@ -5,7 +5,7 @@ ghost use Rattle.table.specs.Code.Accepted.{Accepted};
 ghost use Rattle.unification.specs.Node.{nodes_from};
 ghost use Rattle.nodes.specs.Code.Trail.{links};
 ghost use Rattle.multiset_unification.specs.Problem.{problem_of};
-ghost use Rattle.multiset_unification.specs.Answer.{told};
+ghost use Rattle.multiset_unification.specs.Answer.{told_listing};
 ghost use Rattle.multiset_unification.specs.Computed.Listing.{complete_listing};
 ghost use Rattle.multiset_unification.specs.Code.LeavesEntries.{LeavesEntries};
 ghost use Rattle.branches.specs.Code.Known.{known_bytes, Listable};
@@ -14,7 +14,7 @@ ghost use Rattle.branches.specs.Code.Walk.{below, Begun};
 use crate::single::{is_single, list_single};
 use branches::known::{KNOWN, OPEN_COUNT, put_sides};
 use classes::trail::LINKS;
-use entries::writing::FULL;
+use entries::writing::Full;
 use forcing::settled::{ALL, SETS, look_ahead};
 use multiset_unification::Listing;
 use symbols::symbols::sides_may;
@@ -65,7 +65,7 @@ fn list_with_room(
 ) -> Listing
     requires listable { Listable nodes.now arguments.now left.now right.now k l }
     requires heads_len { (length heads.old ≡ node_count nodes.now) × (next.old ≡ replicate links 0) × (length known.old ≡ known_bytes) }
-    ensures { LeavesEntries (below (nodes_from nodes.now arguments.now) right.now k l left.now [] [] (replicate (length right.now) 1)) out.old (told result) out.new }
+    ensures { LeavesEntries (below (nodes_from nodes.now arguments.now) right.now k l left.now [] [] (replicate (length right.now) 1)) out.old (told_listing result) out.new }
 {
     let width = begin(nodes, arguments, left, right, k, l, heads, next, known);
     if width == 0 {
@@ -81,7 +81,7 @@ fn list_with_room(
         least: 1,
         paired: 0,
     };
-    let used = walk(
+    match walk(
         nodes,
         arguments,
         known,
@@ -92,11 +92,10 @@ fn list_with_room(
         out,
         first,
         0,
-    );
-    if used == FULL {
-        return Listing::Full(out.len() / width);
+    ) {
+        Ok(used) => Listing::Finished(used / width),
+        Err(Full) => Listing::Full(out.len() / width),
     }
-    Listing::Finished(used / width)
 }
 
 // Lists the sides of an accepted table, by its sections and the numbers of labels.
@@ -110,7 +109,7 @@ fn list_sides(
     out: &mut [u32],
 ) -> Listing
     requires { Listable nodes.now arguments.now left.now right.now k l }
-    ensures { LeavesEntries (below (nodes_from nodes.now arguments.now) right.now k l left.now [] [] (replicate (length right.now) 1)) out.old (told result) out.new }
+    ensures { LeavesEntries (below (nodes_from nodes.now arguments.now) right.now k l left.now [] [] (replicate (length right.now) 1)) out.old (told_listing result) out.new }
 {
     let n = index(layout::node_count(nodes));
     let mut heads = [0u8; MAX_NODES];
@@ -133,7 +132,7 @@ fn list_sides(
 // Lists an accepted table. Where its words show that no choice is admissible, nothing is set up.
 pub fn list_accepted(table: &[u32], out: &mut [u32]) -> Listing
     requires { Accepted table.now }
-    ensures { LeavesEntries (complete_listing (problem_of table.now)) out.old (told result) out.new }
+    ensures { LeavesEntries (complete_listing (problem_of table.now)) out.old (told_listing result) out.new }
 {
     let nodes = layout::section(table, layout::NODES);
     let arguments = layout::section(table, layout::ARGUMENTS);

@@ -4,7 +4,7 @@ ghost use Rattle.table.specs.Layout.{node_count};
 ghost use Rattle.unification.specs.Node.{nodes_from};
 ghost use Rattle.unification.specs.Computed.Variables.{variables_of};
 ghost use Rattle.unification.specs.Code.Sections.{Sections};
-ghost use Rattle.multiset_unification.specs.Answer.{told};
+ghost use Rattle.multiset_unification.specs.Answer.{told_listing};
 ghost use Rattle.multiset_unification.specs.Code.LeavesEntries.{LeavesEntries};
 ghost use Rattle.branches.specs.Code.Walk.{below};
 
@@ -20,19 +20,7 @@ pub const SINGLE_WORDS: usize = 66;
 pub fn is_single(left: &[u32], right: &[u32], k: usize, l: usize, lent: usize) -> bool
     ensures { result ≡ true → (length left.now ≡ 1) × (length right.now ≡ 1) × (k ≡ 0) × (l ≡ 0) × (66 ≤ lent) }
 {
-    if left.len() != 1 {
-        return false;
-    }
-    if right.len() != 1 {
-        return false;
-    }
-    if k != 0 {
-        return false;
-    }
-    if l != 0 {
-        return false;
-    }
-    SINGLE_WORDS <= lent
+    left.len() == 1 && right.len() == 1 && k == 0 && l == 0 && SINGLE_WORDS <= lent
 }
 
 // Lists two single terms, with room for an entry.
@@ -40,16 +28,14 @@ pub fn list_single(nodes: &[u32], arguments: &[u32], a: Node, b: Node, out: &mut
     requires sections { Sections nodes.now arguments.now }
     requires a_bound { (a.0 < node_count nodes.now) × (b.0 < node_count nodes.now) × (66 ≤ length out.old) }
     requires arguments_len_bound { length (variables_of (nodes_from nodes.now arguments.now)) ≤ 64 }
-    ensures { LeavesEntries (below (nodes_from nodes.now arguments.now) (b.0 ∷ []) 0 0 (a.0 ∷ []) [] [] (1 ∷ [])) out.old (told result) out.new }
+    ensures { LeavesEntries (below (nodes_from nodes.now arguments.now) (b.0 ∷ []) 0 0 (a.0 ∷ []) [] [] (1 ∷ [])) out.old (told_listing result) out.new }
 {
     match unify_nodes(nodes, arguments, a, b, &mut out[2..]) {
-        Unification::Unified => {
+        Ok(Unification::Unified) => {
             out[0] = 1;
             out[1] = 0;
             Listing::Finished(1)
         }
-        Unification::Clash => Listing::Finished(0),
-        Unification::Occurs => Listing::Finished(0),
-        Unification::Refused(_) => Listing::Finished(0),
+        _ => Listing::Finished(0),
     }
 }

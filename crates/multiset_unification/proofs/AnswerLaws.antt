@@ -11,6 +11,7 @@ use native.Mathlib.Omega.{arith}
 use borrow.Author.Tests.{lt-ltb, le-ltb, leb-true, leb-false, eq-eqb, ne_eqb, eqb-false, not-true}
 use lib.Dec.{eqb, leb}
 use lib.ListN.{length, take, drop, length-append, length-drop}
+use Rattle.std.specs.Prelude.{Result, Ok, Err}
 use lib.Seq.{take-length, take-append_seam, drop-append_seam}
 use Rattle.table.specs.declared.Refusal.{Refusal}
 use Rattle.table.specs.Answer.{number_of}
@@ -19,7 +20,7 @@ use Rattle.table.proofs.SomeLaws.{every}
 use Rattle.table.proofs.RefusalLaws.{first_means, first_before, first_after, condition_numbers, Numbered, held_has, not_held, held}
 use Rattle.table.proofs.AnswerLaws.{number_apart, number_above, number_not}
 use Rattle.multiset_unification.specs.declared.Listing.{Listing}
-use Rattle.multiset_unification.specs.declared.Listing.TheVariants.{Finished, Full, Refused}
+use Rattle.multiset_unification.specs.declared.Listing.TheVariants.{Finished, Full}
 use Rattle.multiset_unification.specs.Answer.{Told, told, list_conditions, fitting, entries_left, listed, lent_after}
 
 -- k is the greatest number such that the words of the first k entries fit.
@@ -266,13 +267,13 @@ module _ (cs : List (ℕ × Bool)) (es : List (List ℕ)) (lent : ℕ) where
         go (filling a l q) = inr (answer_is q)
 
     -- every call has an answer that stands for what it comes to, where each condition has a refusal
-    pub told_there : (0 < first_held cs → (r : Refusal) × (number_of r ≡ first_held cs)) → (r : Listing) × (told r ≡ listed cs es lent)
+    pub told_there : (0 < first_held cs → (r : Refusal) × (number_of r ≡ first_held cs)) → (r : Result Listing Refusal) × (told r ≡ listed cs es lent)
     told_there f = go (answered g)
       where
-        go : Answered → (r : Listing) × (told r ≡ listed cs es lent)
-        go (refusing h q) = let r = f h in (Refused r.0, ap (λ (n : ℕ). record { answer = n; entries = 0 }) r.1 ∙ sym q)
-        go (finishing a l q) = (Finished (length es), sym q)
-        go (filling a l q) = (Full (length (fitting lent es)), sym q)
+        go : Answered → (r : Result Listing Refusal) × (told r ≡ listed cs es lent)
+        go (refusing h q) = let r = f h in (Err r.0, ap (λ (n : ℕ). record { answer = n; entries = 0 }) r.1 ∙ sym q)
+        go (finishing a l q) = (Ok (Finished (length es)), sym q)
+        go (filling a l q) = (Ok (Full (length (fitting lent es))), sym q)
 
 -- where no condition holds, the answer is as if there were none
 pub answered_without : (cs : List (ℕ × Bool)) (es : List (List ℕ)) (lent : ℕ) → Refusals cs → first_held cs ≡ 0 →
@@ -326,16 +327,16 @@ module _ (cs : List (ℕ × Bool)) (es : List (List ℕ)) (lent : List ℕ) wher
   refused_nothing h = rw (none_left cs es (length lent) h)
 
 -- answers that stand for one thing are one answer
-pub told_apart : (r s : Listing) → told r ≡ told s → r ≡ s
+pub told_apart : (r s : Result Listing Refusal) → told r ≡ told s → r ≡ s
 told_apart r s e = go r s (ap (λ (w : Told). w.answer) e) (ap (λ (w : Told). w.entries) e)
   where
-    go : (r s : Listing) → (told r).answer ≡ (told s).answer → (told r).entries ≡ (told s).entries → r ≡ s
-    go (Finished j) (Finished k) n e = ap Finished e
-    go (Finished j) (Full k) n e = absurd (omega (arith, n))
-    go (Finished j) (Refused s) n e = absurd (omega (arith, n, number_above s))
-    go (Full j) (Finished k) n e = absurd (omega (arith, n))
-    go (Full j) (Full k) n e = ap Full e
-    go (Full j) (Refused s) n e = absurd (number_not 10 refl s (sym n))
-    go (Refused r) (Finished k) n e = absurd (omega (arith, n, number_above r))
-    go (Refused r) (Full k) n e = absurd (number_not 10 refl r n)
-    go (Refused r) (Refused s) n e = ap Refused (number_apart r s n)
+    go : (r s : Result Listing Refusal) → (told r).answer ≡ (told s).answer → (told r).entries ≡ (told s).entries → r ≡ s
+    go (Ok (Finished j)) (Ok (Finished k)) n e = ap (λ (m : ℕ). Ok (Finished m)) e
+    go (Ok (Finished j)) (Ok (Full k)) n e = absurd (omega (arith, n))
+    go (Ok (Finished j)) (Err s) n e = absurd (omega (arith, n, number_above s))
+    go (Ok (Full j)) (Ok (Finished k)) n e = absurd (omega (arith, n))
+    go (Ok (Full j)) (Ok (Full k)) n e = ap (λ (m : ℕ). Ok (Full m)) e
+    go (Ok (Full j)) (Err s) n e = absurd (number_not 10 refl s (sym n))
+    go (Err r) (Ok (Finished k)) n e = absurd (omega (arith, n, number_above r))
+    go (Err r) (Ok (Full k)) n e = absurd (number_not 10 refl r n)
+    go (Err r) (Err s) n e = ap Err (number_apart r s n)

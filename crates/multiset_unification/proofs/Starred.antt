@@ -3,6 +3,8 @@ use Prim.Native.Nat.{ℕ}
 use mathlib.Core.List.{List, [], ◌∷◌, map, flatten, flat_map, zip, zip_with}
 use mathlib.Core.Path.{◌≡◌, refl}
 use lib.ListN.{length}
+use Rattle.std.specs.Prelude.{Result, Ok, Err}
+use Rattle.table.specs.declared.Refusal.{Refusal}
 use native.Mathlib.Decide.{ℕ_discrete}
 use Rattle.table.specs.Layout.{counts_before}
 use Rattle.table.specs.Some.{some_below}
@@ -23,7 +25,7 @@ use Rattle.unification.specs.declared.Unification.TheVariants.{Unified, Clash, O
 use Rattle.unification.specs.Answer.{variable_count, unify_conditions, Answer, answer_after, unification, words_after}
 use Rattle.unification.proofs.Calls.{x_fx, y_x}
 use Rattle.multiset_unification.specs.declared.Listing.{Listing}
-use Rattle.multiset_unification.specs.declared.Listing.TheVariants.{Finished, Full, Refused}
+use Rattle.multiset_unification.specs.declared.Listing.TheVariants.{Finished, Full}
 use Rattle.multiset_unification.specs.Problem.{Problem, problem_of}
 use Rattle.multiset_unification.specs.Choice.{pairs}
 use Rattle.multiset_unification.specs.Entry.{shares, pairs_of, entry_of}
@@ -101,8 +103,8 @@ pub data Call : Type 0 where
 
 -- Its answer, as the operation gives it.
 pub data Given : Type 0 where
-  listing : Listing → Given
-  unifying : Unification → Given
+  listing : Result Listing Refusal → Given
+  unifying : Result Unification Refusal → Given
 
 -- What an answer stands for: a listing's number and entries, or what unifying comes to.
 pub data Meaning : Type 0 where
@@ -122,46 +124,46 @@ Example = Call × List ℕ × Given × List ℕ
 abbrev pub examples : List Example
 examples =
     -- 1: "entries 3", and then `1 2 0`, `2 1 0` and `2 2 1`
-    (list two_and_one, 7 ∷ 7 ∷ 7 ∷ 7 ∷ 7 ∷ 7 ∷ 7 ∷ 7 ∷ 7 ∷ 7 ∷ [], listing (Finished 3), 1 ∷ 2 ∷ 0 ∷ 2 ∷ 1 ∷ 0 ∷ 2 ∷ 2 ∷ 1 ∷ 7 ∷ []) ∷
+    (list two_and_one, 7 ∷ 7 ∷ 7 ∷ 7 ∷ 7 ∷ 7 ∷ 7 ∷ 7 ∷ 7 ∷ 7 ∷ [], listing (Ok (Finished 3)), 1 ∷ 2 ∷ 0 ∷ 2 ∷ 1 ∷ 0 ∷ 2 ∷ 2 ∷ 1 ∷ 7 ∷ []) ∷
     -- 2: "The same with 8 words lent: full, 2 entries, the last 2 words unchanged."
-    (list two_and_one, 7 ∷ 7 ∷ 7 ∷ 7 ∷ 7 ∷ 7 ∷ 8 ∷ 9 ∷ [], listing (Full 2), 1 ∷ 2 ∷ 0 ∷ 2 ∷ 1 ∷ 0 ∷ 8 ∷ 9 ∷ []) ∷
+    (list two_and_one, 7 ∷ 7 ∷ 7 ∷ 7 ∷ 7 ∷ 7 ∷ 8 ∷ 9 ∷ [], listing (Ok (Full 2)), 1 ∷ 2 ∷ 0 ∷ 2 ∷ 1 ∷ 0 ∷ 8 ∷ 9 ∷ []) ∷
     -- 3: "Both sides empty (12 words): 1 entry of 0 words", in one lent word and in none
-    (list nothing, 7 ∷ [], listing (Finished 1), 7 ∷ []) ∷
-    (list nothing, [], listing (Finished 1), []) ∷
+    (list nothing, 7 ∷ [], listing (Ok (Finished 1)), 7 ∷ []) ∷
+    (list nothing, [], listing (Ok (Finished 1)), []) ∷
     -- 4: "{a | M} and {}: 0 entries."
-    (list one_and_none, 7 ∷ [], listing (Finished 0), 7 ∷ []) ∷
+    (list one_and_none, 7 ∷ [], listing (Ok (Finished 0)), 7 ∷ []) ∷
     -- 5: "{a} and { | N}: 1 entry, `1`."
-    (list one_and_label, 7 ∷ 8 ∷ [], listing (Finished 1), 1 ∷ 8 ∷ []) ∷
+    (list one_and_label, 7 ∷ 8 ∷ [], listing (Ok (Finished 1)), 1 ∷ 8 ∷ []) ∷
     -- 6: "{ | M} and {}: 1 entry of 0 words."
-    (list label_and_none, 7 ∷ [], listing (Finished 1), 7 ∷ []) ∷
+    (list label_and_none, 7 ∷ [], listing (Ok (Finished 1)), 7 ∷ []) ∷
     -- 7: "`1 2 0 0 0 0` and `2 1 0 0 0 0`"
     (
       list two_and_two,
       7 ∷ 7 ∷ 7 ∷ 7 ∷ 7 ∷ 7 ∷ 7 ∷ 7 ∷ 7 ∷ 7 ∷ 7 ∷ 7 ∷ 8 ∷ [],
-      listing (Finished 2),
+      listing (Ok (Finished 2)),
       1 ∷ 2 ∷ 0 ∷ 0 ∷ 0 ∷ 0 ∷ 2 ∷ 1 ∷ 0 ∷ 0 ∷ 0 ∷ 0 ∷ 8 ∷ [],
     ) ∷
     -- 8: "x with f(x): occurs"
-    (unify x_fx 0 1, 7 ∷ 8 ∷ 9 ∷ [], unifying Occurs, 7 ∷ 8 ∷ 9 ∷ []) ∷
+    (unify x_fx 0 1, 7 ∷ 8 ∷ 9 ∷ [], unifying (Ok Occurs), 7 ∷ 8 ∷ 9 ∷ []) ∷
     -- 9: "f(x, a) with f(g(x), b): clash"
-    (unify clash_and_cycle 4 5, 7 ∷ 8 ∷ 9 ∷ [], unifying Clash, 7 ∷ 8 ∷ 9 ∷ []) ∷
+    (unify clash_and_cycle 4 5, 7 ∷ 8 ∷ 9 ∷ [], unifying (Ok Clash), 7 ∷ 8 ∷ 9 ∷ []) ∷
     -- 10: "p(x, x) with p(f(x), a): clash"
-    (unify p_terms 3 4, 7 ∷ 8 ∷ 9 ∷ [], unifying Clash, 7 ∷ 8 ∷ 9 ∷ []) ∷
+    (unify p_terms 3 4, 7 ∷ 8 ∷ 9 ∷ [], unifying (Ok Clash), 7 ∷ 8 ∷ 9 ∷ []) ∷
     -- 11: "f(a) with f(a, a): clash"
-    (unify two_counts 1 2, 7 ∷ 8 ∷ 9 ∷ [], unifying Clash, 7 ∷ 8 ∷ 9 ∷ []) ∷
+    (unify two_counts 1 2, 7 ∷ 8 ∷ 9 ∷ [], unifying (Ok Clash), 7 ∷ 8 ∷ 9 ∷ []) ∷
     -- 12: "Node 0 y, node 1 x; node 0 with node 1: words 1 1"
-    (unify y_x 0 1, 7 ∷ 8 ∷ 9 ∷ [], unifying Unified, 1 ∷ 1 ∷ 9 ∷ []) ∷
+    (unify y_x 0 1, 7 ∷ 8 ∷ 9 ∷ [], unifying (Ok Unified), 1 ∷ 1 ∷ 9 ∷ []) ∷
     -- beside document 01's: 1 with words that are just enough, and with too few for an entry
-    (list two_and_one, 7 ∷ 7 ∷ 7 ∷ 7 ∷ 7 ∷ 7 ∷ 7 ∷ 7 ∷ 7 ∷ [], listing (Finished 3), 1 ∷ 2 ∷ 0 ∷ 2 ∷ 1 ∷ 0 ∷ 2 ∷ 2 ∷ 1 ∷ []) ∷
-    (list two_and_one, 7 ∷ 8 ∷ [], listing (Full 0), 7 ∷ 8 ∷ []) ∷
+    (list two_and_one, 7 ∷ 7 ∷ 7 ∷ 7 ∷ 7 ∷ 7 ∷ 7 ∷ 7 ∷ 7 ∷ [], listing (Ok (Finished 3)), 1 ∷ 2 ∷ 0 ∷ 2 ∷ 1 ∷ 0 ∷ 2 ∷ 2 ∷ 1 ∷ []) ∷
+    (list two_and_one, 7 ∷ 8 ∷ [], listing (Ok (Full 0)), 7 ∷ 8 ∷ []) ∷
     -- "{x, x} and {a, b} has no entry"
-    (list x_twice_and_two, 7 ∷ 8 ∷ [], listing (Finished 0), 7 ∷ 8 ∷ []) ∷
+    (list x_twice_and_two, 7 ∷ 8 ∷ [], listing (Ok (Finished 0)), 7 ∷ 8 ∷ []) ∷
     -- {x} and {f(x)}: the occurs test is not skipped
-    (list x_and_fx, 7 ∷ 8 ∷ 9 ∷ [], listing (Finished 0), 7 ∷ 8 ∷ 9 ∷ []) ∷
+    (list x_and_fx, 7 ∷ 8 ∷ 9 ∷ [], listing (Ok (Finished 0)), 7 ∷ 8 ∷ 9 ∷ []) ∷
     -- a term that goes in either of two labels
-    (list one_and_labels, 7 ∷ 8 ∷ 9 ∷ [], listing (Finished 2), 1 ∷ 2 ∷ 9 ∷ []) ∷
+    (list one_and_labels, 7 ∷ 8 ∷ 9 ∷ [], listing (Ok (Finished 2)), 1 ∷ 2 ∷ 9 ∷ []) ∷
     -- a label that stands twice
-    (list label_twice, 7 ∷ 8 ∷ [], listing (Refused WrongLabel), 7 ∷ 8 ∷ []) ∷
+    (list label_twice, 7 ∷ 8 ∷ [], listing (Err WrongLabel), 7 ∷ 8 ∷ []) ∷
     []
 
 -- What the definitions compute for a call with lent words.

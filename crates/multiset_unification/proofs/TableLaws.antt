@@ -7,6 +7,8 @@ use mathlib.Core.Logic.{◌↔◌}
 use mathlib.Core.Path.{◌≡◌, refl}
 use native.Mathlib.Omega.{arith}
 use lib.ListN.{length}
+use Rattle.std.specs.Prelude.{Result}
+use Rattle.table.specs.declared.Refusal.{Refusal}
 use Rattle.table.specs.Layout.{left_terms_of, right_terms_of}
 use Rattle.table.specs.Refusal.{conditions, first_held, refusal}
 use Rattle.table.specs.Code.Sections.{left_terms, right_terms}
@@ -53,7 +55,7 @@ unfolding conditions
 table_refusals t = record { numbered = conditions_numbered t; not_full = refl }
 
 -- every call with a table has an answer that stands for what it comes to
-pub table_told : (t : List ℕ) (es : List (List ℕ)) (lent : ℕ) → (r : Listing) × (told r ≡ listed (conditions t) es lent)
+pub table_told : (t : List ℕ) (es : List (List ℕ)) (lent : ℕ) → (r : Result Listing Refusal) × (told r ≡ listed (conditions t) es lent)
 unfolding refusal
 table_told t es lent = told_there (conditions t) es lent (table_refusals t) (refusal_numbered t)
 

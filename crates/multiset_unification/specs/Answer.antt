@@ -1,12 +1,13 @@
 -- What a listing answers, and what it leaves in the lent words: of conditions, by which it may be refused, and entries, which it lists otherwise.
-use Rattle.std.specs.Prelude.{ℕ, ◌+◌, ◌-◌, ◌*◌, Bool, cond, eqb, leb, ltb, length, take, drop}
+use Rattle.std.specs.Prelude.{ℕ, ◌+◌, ◌-◌, ◌*◌, Bool, cond, eqb, leb, ltb, length, take, drop, Result, Ok, Err}
 use mathlib.Core.List.{List, [], ◌∷◌, ◌++◌, flatten}
+use Rattle.table.specs.declared.Refusal.{Refusal}
 use Rattle.table.specs.Refusal.{first_held}
 use Rattle.table.specs.Answer.{number_of}
 use Rattle.unification.specs.Node.{tabulate}
 use Rattle.unification.specs.Computed.Variables.{variables_of}
 use Rattle.multiset_unification.specs.declared.Listing.{Listing}
-use Rattle.multiset_unification.specs.declared.Listing.TheVariants.{Finished, Full, Refused}
+use Rattle.multiset_unification.specs.declared.Listing.TheVariants.{Finished, Full}
 use Rattle.multiset_unification.specs.Problem.{Problem}
 use Rattle.multiset_unification.specs.Entry.{digit_count}
 
@@ -15,11 +16,15 @@ pub record Told : Type 0 where
   pub answer : ℕ
   pub entries : ℕ
 
+-- What listing an accepted table stands for.
+abbrev pub told_listing : Listing → Told
+told_listing (Finished k) = record { answer = 0; entries = k }
+told_listing (Full k) = record { answer = 10; entries = k }
+
 -- What an answer of `list` stands for.
-abbrev pub told : Listing → Told
-told (Finished k) = record { answer = 0; entries = k }
-told (Full k) = record { answer = 10; entries = k }
-told (Refused r) = record { answer = number_of r; entries = 0 }
+abbrev pub told : Result Listing Refusal → Told
+told (Ok l) = told_listing l
+told (Err r) = record { answer = number_of r; entries = 0 }
 
 -- "1 to 7, then 10, full: the entries of the complete listing need more words than were lent."
 unfoldable pub list_conditions : List (ℕ × Bool) → List (List ℕ) → ℕ → List (ℕ × Bool)

@@ -10,7 +10,7 @@ use table::Node;
 pub fn node(x: u8) -> Node
     ensures { (result.0 ≡ x) × (result.0 < max_nodes) }
 {
-    Node(x as u32)
+    Node(u32::from(x))
 }
 
 // The node at a place of a list of nodes.
@@ -26,7 +26,7 @@ pub fn entry(list: &[u16], i: usize) -> usize
     requires { i < length list.now }
     ensures { result ≡ word list.now i }
 {
-    list[i] as usize
+    usize::from(list[i])
 }
 
 // The name of the value of a node, given the heads of the nodes and the names of heads.
@@ -34,7 +34,5 @@ pub fn value_name(heads: &[u8], names: &[u8], node: Node) -> Node
     requires { (node.0 < length heads.now) × (word heads.now node.0 < length names.now) }
     ensures { (result.0 ≡ value_name heads.now names.now node.0) × (result.0 < max_nodes) }
 {
-    let i = node.0 as usize;
-    let head = heads[i] as usize;
-    node_in(names, head)
+    node_in(names, usize::from(heads[node.0 as usize]))
 }

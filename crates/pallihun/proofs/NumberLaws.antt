@@ -4,10 +4,12 @@ use mathlib.Core.Path.{◌≡◌, refl, sym, ap, ◌∙◌}
 use mathlib.Core.Logic.{◌⊎◌, inl, inr}
 use mathlib.Core.List.{List, ◌∷◌, map, Memᴰ}
 use native.Mathlib.Omega.{arith}
+use Rattle.std.specs.Prelude.{Result, Ok, Err}
+use Rattle.table.specs.declared.Refusal.{Refusal}
 use Rattle.table.specs.Answer.{number_of as refusal_number}
 use Rattle.table.proofs.AnswerLaws.{refusals, numbered, number_apart, number_above, number_not}
 use Rattle.unification.specs.declared.Unification.{Unification}
-use Rattle.unification.specs.declared.Unification.TheVariants.{Unified, Clash, Occurs, Refused}
+use Rattle.unification.specs.declared.Unification.TheVariants.{Unified, Clash, Occurs}
 use Rattle.unification.specs.Outcome.{Outcome, unified, clash, occurs}
 use Rattle.unification.specs.Answer.{told, unification, Answer, ended, refused}
 use Rattle.unification.specs.Decided.{Decided}
@@ -15,30 +17,30 @@ use Rattle.unification.proofs.AnswerLaws.{told_there}
 use Rattle.pallihun.specs.Numbers.{number_of}
 
 -- answers of unifying that have one number are one answer
-pub number_of_one : (u w : Unification) → number_of (told u) ≡ number_of (told w) → u ≡ w
-number_of_one Unified Unified e = refl
-number_of_one Unified Clash e = absurd (omega (arith, e))
-number_of_one Unified Occurs e = absurd (omega (arith, e))
-number_of_one Unified (Refused s) e = absurd (omega (arith, e, number_above s))
-number_of_one Clash Unified e = absurd (omega (arith, e))
-number_of_one Clash Clash e = refl
-number_of_one Clash Occurs e = absurd (omega (arith, e))
-number_of_one Clash (Refused s) e = absurd (number_not 1000 refl s (sym e))
-number_of_one Occurs Unified e = absurd (omega (arith, e))
-number_of_one Occurs Clash e = absurd (omega (arith, e))
-number_of_one Occurs Occurs e = refl
-number_of_one Occurs (Refused s) e = absurd (number_not 1001 refl s (sym e))
-number_of_one (Refused r) Unified e = absurd (omega (arith, e, number_above r))
-number_of_one (Refused r) Clash e = absurd (number_not 1000 refl r e)
-number_of_one (Refused r) Occurs e = absurd (number_not 1001 refl r e)
-number_of_one (Refused r) (Refused s) e = ap Refused (number_apart r s e)
+pub number_of_one : (u w : Result Unification Refusal) → number_of (told u) ≡ number_of (told w) → u ≡ w
+number_of_one (Ok Unified) (Ok Unified) e = refl
+number_of_one (Ok Unified) (Ok Clash) e = absurd (omega (arith, e))
+number_of_one (Ok Unified) (Ok Occurs) e = absurd (omega (arith, e))
+number_of_one (Ok Unified) (Err s) e = absurd (omega (arith, e, number_above s))
+number_of_one (Ok Clash) (Ok Unified) e = absurd (omega (arith, e))
+number_of_one (Ok Clash) (Ok Clash) e = refl
+number_of_one (Ok Clash) (Ok Occurs) e = absurd (omega (arith, e))
+number_of_one (Ok Clash) (Err s) e = absurd (number_not 1000 refl s (sym e))
+number_of_one (Ok Occurs) (Ok Unified) e = absurd (omega (arith, e))
+number_of_one (Ok Occurs) (Ok Clash) e = absurd (omega (arith, e))
+number_of_one (Ok Occurs) (Ok Occurs) e = refl
+number_of_one (Ok Occurs) (Err s) e = absurd (number_not 1001 refl s (sym e))
+number_of_one (Err r) (Ok Unified) e = absurd (omega (arith, e, number_above r))
+number_of_one (Err r) (Ok Clash) e = absurd (number_not 1000 refl r e)
+number_of_one (Err r) (Ok Occurs) e = absurd (number_not 1001 refl r e)
+number_of_one (Err r) (Err s) e = ap Err (number_apart r s e)
 
 -- so what an answer decides is decided by its number: a refusal decides nothing
-pub decided_number : {t words : List ℕ} {a b : ℕ} (u : Unification) (n : ℕ) → n ≡ number_of (told u) → Decided t a b (told u) words →
+pub decided_number : {t words : List ℕ} {a b : ℕ} (u : Result Unification Refusal) (n : ℕ) → n ≡ number_of (told u) → Decided t a b (told u) words →
     (o : Answer) → n ≡ number_of o → Decided t a b o words
-decided_number u n e d (ended unified) z = rw (ap told (number_of_one u Unified (sym e ∙ z))) at d
-decided_number u n e d (ended clash) z = rw (ap told (number_of_one u Clash (sym e ∙ z))) at d
-decided_number u n e d (ended occurs) z = rw (ap told (number_of_one u Occurs (sym e ∙ z))) at d
+decided_number u n e d (ended unified) z = rw (ap told (number_of_one u (Ok Unified) (sym e ∙ z))) at d
+decided_number u n e d (ended clash) z = rw (ap told (number_of_one u (Ok Clash) (sym e ∙ z))) at d
+decided_number u n e d (ended occurs) z = rw (ap told (number_of_one u (Ok Occurs) (sym e ∙ z))) at d
 decided_number u n e d (refused k) z =
     record {
       readable = λ q. nothing unified q;
@@ -57,11 +59,11 @@ decided_number u n e d (refused k) z =
 abbrev pub Known : ℕ → Type 0
 Known n = Memᴰ n (0 ∷ 1000 ∷ 1001 ∷ map refusal_number refusals)
 
-number_told : (u : Unification) → Known (number_of (told u))
-number_told Unified = Memᴰ.head refl
-number_told Clash = Memᴰ.tail (Memᴰ.head refl)
-number_told Occurs = Memᴰ.tail (Memᴰ.tail (Memᴰ.head refl))
-number_told (Refused r) = Memᴰ.tail (Memᴰ.tail (Memᴰ.tail ((numbered (refusal_number r)).1 (r, refl))))
+number_told : (u : Result Unification Refusal) → Known (number_of (told u))
+number_told (Ok Unified) = Memᴰ.head refl
+number_told (Ok Clash) = Memᴰ.tail (Memᴰ.head refl)
+number_told (Ok Occurs) = Memᴰ.tail (Memᴰ.tail (Memᴰ.head refl))
+number_told (Err r) = Memᴰ.tail (Memᴰ.tail (Memᴰ.tail ((numbered (refusal_number r)).1 (r, refl))))
 
 -- no other number is answered
 pub number_known : (t : List ℕ) (a b lent : ℕ) → Known (number_of (unification t a b lent))

@@ -7,7 +7,7 @@ ghost use Rattle.pallihun.specs.Numbers.{number_of, numbers_of};
 
 use crate::PallihunListing;
 use multiset_unification::Listing;
-use table::Checked;
+use table::Refusal;
 use unification::Unification;
 
 // The work is done: a table is accepted, two nodes are unified, a listing is finished.
@@ -23,41 +23,38 @@ const CLASH: u32 = 1000;
 const OCCURS: u32 = 1001;
 
 // The number of what checking a table answers.
-pub fn of_checked(answer: Checked) -> u32
+pub fn of_checked(answer: Result<(), Refusal>) -> u32
     ensures { result ≡ checked_told answer }
 {
-    match answer {
-        Checked::Accepted => DONE,
-        Checked::Refused(refusal) => refusal.number(),
-    }
+    answer.map_or_else(Refusal::number, |()| DONE)
 }
 
 // The number of what unifying two nodes answers.
-pub fn of_unification(answer: Unification) -> u32
+pub fn of_unification(answer: Result<Unification, Refusal>) -> u32
     ensures { result ≡ number_of (unification_told answer) }
 {
     match answer {
-        Unification::Unified => DONE,
-        Unification::Clash => CLASH,
-        Unification::Occurs => OCCURS,
-        Unification::Refused(refusal) => refusal.number(),
+        Ok(Unification::Unified) => DONE,
+        Ok(Unification::Clash) => CLASH,
+        Ok(Unification::Occurs) => OCCURS,
+        Err(refusal) => refusal.number(),
     }
 }
 
 // The numbers of what listing a table answers.
-pub fn of_listing(answer: Listing) -> PallihunListing
+pub fn of_listing(answer: Result<Listing, Refusal>) -> PallihunListing
     ensures { numbers_of result ≡ listing_told answer }
 {
     match answer {
-        Listing::Finished(k) => PallihunListing {
+        Ok(Listing::Finished(k)) => PallihunListing {
             answer: DONE,
             entries: k as u64,
         },
-        Listing::Full(k) => PallihunListing {
+        Ok(Listing::Full(k)) => PallihunListing {
             answer: FULL,
             entries: k as u64,
         },
-        Listing::Refused(refusal) => PallihunListing {
+        Err(refusal) => PallihunListing {
             answer: refusal.number(),
             entries: 0,
         },

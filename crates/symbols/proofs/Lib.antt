@@ -1,4 +1,3 @@
 -- Laws that the proofs of the code need, from the bottom up.
 pub mod SymbolLaws
 pub mod UnpairedLaws
-pub mod SetLaws

@@ -1,15 +1,14 @@
 -- Two applications of different symbols are never equal, nor are two of one symbol with such arguments at one place: a substitution
 -- that made them equal would unify them as a pair, and the closure of that pair has a clash. Assumes nothing.
-use Prim.Native.Nat.{ℕ, ◌+◌, ◌<◌}
+use Prim.Native.Nat.{ℕ, ◌<◌}
 use mathlib.Core.Bool.{Bool, true, false, not, ◌&&◌, ◌||◌}
 use mathlib.Core.List.Memᴰ
 use mathlib.Core.List.{List, [], ◌∷◌}
 use mathlib.Core.Path.{◌≡◌, refl, sym, ap, ◌∙◌}
-use native.Mathlib.Decide.{ℕ_discrete}
 use native.Mathlib.Omega.{arith}
 use borrow.Author.Tests.{eqb-false, not-true}
 use lib.Dec.{eqb}
-use Rattle.table.specs.Layout.{word, kind_of, name_of, count_of, node_count, argument_of}
+use Rattle.table.specs.Layout.{kind_of, name_of, count_of, node_count, argument_of}
 use Rattle.table.proofs.BoolLaws.{and_true_left, and_true_right, or_false_left, or_false_right}
 use Rattle.terms.specs.Substitution.{Substitution}
 use Rattle.unification.specs.Node.{Node, nodes_from}
@@ -18,7 +17,7 @@ use Rattle.unification.specs.Closure.{Joined, given, arguments, Clash, different
 use Rattle.unification.specs.Code.Sections.{Sections, symbol_test, differ_test}
 use Rattle.unification.proofs.JoinedLaws.{inside_none, inside_more, clash_none}
 use Rattle.unification.proofs.SectionLaws.{is_node, application_from, run_long, symbols_differ, counted_application, pair_place, sections_well_formed}
-use Rattle.symbols.specs.Code.Symbols.{NeverEqual, NoneEqual}
+use Rattle.symbols.specs.Code.Symbols.{NeverEqual}
 
 module _ (nodes args : List ℕ) (s : Sections nodes args) (a b : ℕ) (p : a < node_count nodes) (q : b < node_count nodes) where
   -- The nodes.
@@ -85,19 +84,3 @@ module _ (nodes args : List ℕ) (s : Sections nodes args) (a b : ℕ) (p : a < 
       small i l z g m =
           let w = s.smaller i j l m in
           omega (arith, w, g, l)
-
-module _ {nodes args : List ℕ} {a : ℕ} {others : List ℕ} where
-  -- terms that are never equal to a node, and one term more
-  pub none_next : {n x : ℕ} → NoneEqual nodes args a others n → x ≡ word others n → NeverEqual nodes args a x → NoneEqual nodes args a others (n + 1)
-  none_next {n} {x} f e d = record { each = λ j h. go j h (ℕ_discrete j n) }
-    where
-      go : (j : ℕ) → j < n + 1 → Dec (j ≡ n) → NeverEqual nodes args a (word others j)
-      go j h (yes z) =
-          let w : x ≡ word others j = e ∙ ap (word others) (sym z) in
-          rw (← w) d
-      go j h (no z) = f.each j (omega (arith, h, z))
-
--- a node that is named in another way is the same
-pub none_named : {nodes args : List ℕ} {a b : ℕ} {others : List ℕ} {n m : ℕ} → a ≡ b → n ≡ m → NoneEqual nodes args a others n →
-    NoneEqual nodes args b others m
-none_named {nodes} {args} {a} {b} {others} e d f = rw (← e, ← d) f

@@ -1,5 +1,5 @@
 // Whether two sides can be equal by their numbers of terms and by symbols: those of the terms that must be paired, and of their arguments.
-ghost use Rattle.std.specs.Prelude.{◌≡◌, false, ◌≤◌, ◌<◌, length};
+ghost use Rattle.std.specs.Prelude.{◌≡◌, false, ◌<◌, length, IfSome, IsNone};
 ghost use Rattle.table.specs.Layout.{node_count, name_of, count_of};
 ghost use Rattle.unification.specs.Node.{nodes_from};
 ghost use Rattle.unification.specs.Code.Sections.{Sections};
@@ -7,10 +7,7 @@ ghost use Rattle.multiset_unification.specs.Code.InEvery.{NoneAdmissible};
 ghost use Rattle.symbols.specs.Code.Symbols.{NeverEqual, NoneEqual, SideOf, Unpaired};
 
 use nodes::sections;
-use table::{Node, layout};
-
-// In place of a set of right terms: some left term cannot be paired.
-const NONE: usize = 256;
+use table::Node;
 
 // Whether the arguments of two nodes of one symbol can be equal, each by its own symbol.
 fn arguments_may(nodes: &[u32], arguments: &[u32], a: Node, b: Node) -> bool
@@ -20,14 +17,12 @@ fn arguments_may(nodes: &[u32], arguments: &[u32], a: Node, b: Node) -> bool
     ensures { result ≡ false → NeverEqual nodes.now arguments.now a.0 b.0 }
 {
     let count = sections::arity(nodes, arguments, a);
-    let mut j: usize = 0;
-    while j < count {
+    for j in 0..count {
         let x = sections::argument(nodes, arguments, a, j);
         let y = sections::argument(nodes, arguments, b, j);
         if sections::differ(nodes, x, y) {
             return false;
         }
-        j += 1;
     }
     true
 }
@@ -44,42 +39,31 @@ fn may(nodes: &[u32], arguments: &[u32], a: Node, b: Node) -> bool
     sections::is_variable(nodes, a) | sections::is_variable(nodes, b)
 }
 
-// The first term of a side that can be equal to this one, or their number.
-fn first_may(nodes: &[u32], arguments: &[u32], a: Node, others: &[u32]) -> usize
+// The place of the first term of a side that can be equal to this one.
+fn first_may(nodes: &[u32], arguments: &[u32], a: Node, others: &[u32]) -> Option<usize>
     requires sections { Sections nodes.now arguments.now × SideOf nodes.now others.now }
     requires a_bound { a.0 < node_count nodes.now }
-    ensures { (result ≤ length others.now) × NoneEqual nodes.now arguments.now a.0 others.now result }
+    ensures none { IsNone result → NoneEqual nodes.now arguments.now a.0 others.now (length others.now) }
+    ensures some { IfSome result (λ j. j < length others.now × NoneEqual nodes.now arguments.now a.0 others.now j) }
 {
-    let mut j: usize = 0;
-    while j < others.len() {
-        if may(nodes, arguments, a, layout::node_at(others, j)) {
-            return j;
-        }
-        j += 1;
-    }
-    j
+    others
+        .iter()
+        .position(|&other| may(nodes, arguments, a, Node(other)))
 }
 
-// Whether each left term can be paired: a set of right terms that can be equal to one of them, or NONE.
-fn lefts_may(nodes: &[u32], arguments: &[u32], left: &[u32], right: &[u32]) -> usize
+// Whether each left term can be paired: a set of right terms that can be equal to one of them, or none.
+fn lefts_may(nodes: &[u32], arguments: &[u32], left: &[u32], right: &[u32]) -> Option<usize>
     requires { Sections nodes.now arguments.now × SideOf nodes.now left.now × SideOf nodes.now right.now }
-    ensures { result ≡ 256 → Unpaired nodes.now arguments.now left.now right.now }
+    ensures { IsNone result → Unpaired nodes.now arguments.now left.now right.now }
 {
-    let m = right.len();
-    if m < left.len() {
-        return NONE;
+    if right.len() < left.len() {
+        return None;
     }
-    let mut met: usize = 0;
-    let mut i: usize = 0;
-    while i < left.len() {
-        let j = first_may(nodes, arguments, layout::node_at(left, i), right);
-        if j == m {
-            return NONE;
-        }
-        met = met | (1 << j);
-        i += 1;
+    let mut met = 0;
+    for &term in left {
+        met |= 1 << first_may(nodes, arguments, Node(term), right)?;
     }
-    met
+    Some(met)
 }
 
 // Whether each right term can be paired. Those of a set can.
@@ -87,18 +71,13 @@ fn rights_may(nodes: &[u32], arguments: &[u32], left: &[u32], right: &[u32], met
     requires { Sections nodes.now arguments.now × SideOf nodes.now left.now × SideOf nodes.now right.now }
     ensures { result ≡ false → Unpaired nodes.now arguments.now right.now left.now }
 {
-    let n = left.len();
-    if n < right.len() {
+    if left.len() < right.len() {
         return false;
     }
-    let mut j: usize = 0;
-    while j < right.len() {
-        if (met >> j) % 2 == 0 {
-            if first_may(nodes, arguments, layout::node_at(right, j), left) == n {
-                return false;
-            }
+    for (j, &term) in right.iter().enumerate() {
+        if (met >> j) % 2 == 0 && first_may(nodes, arguments, Node(term), left).is_none() {
+            return false;
         }
-        j += 1;
     }
     true
 }
@@ -115,12 +94,12 @@ pub fn sides_may(
     requires { Sections nodes.now arguments.now × SideOf nodes.now left.now × SideOf nodes.now right.now }
     ensures { result ≡ false → NoneAdmissible (nodes_from nodes.now arguments.now) left.now right.now k l }
 {
-    let mut met: usize = 0;
+    let mut met = 0;
     if l == 0 {
-        met = lefts_may(nodes, arguments, left, right);
-        if met == NONE {
+        let Some(set) = lefts_may(nodes, arguments, left, right) else {
             return false;
-        }
+        };
+        met = set;
     }
     if k == 0 {
         return rights_may(nodes, arguments, left, right, met);

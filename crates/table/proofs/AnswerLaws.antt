@@ -10,10 +10,9 @@ use native.Mathlib.Omega.{arith}
 use borrow.Author.Tests.{ltb-true, eqb-false, not-true}
 use lib.Dec.{eqb, ltb}
 use lib.ListN.{drop}
+use Rattle.std.specs.Prelude.{Result, Ok, Err}
 use Rattle.table.specs.declared.Refusal.{Refusal}
 use Rattle.table.specs.declared.Refusal.TheVariants.{TooFewWords, BrokenPair, OverLimit, WrongNode, WrongArgument, WrongTerm, WrongLabel, NotANode, TooFewLent}
-use Rattle.table.specs.declared.Checked.{Checked}
-use Rattle.table.specs.declared.Checked.TheVariants.{Accepted, Refused}
 use Rattle.table.specs.Answer.{told, number_of}
 use Rattle.table.specs.Refusal.{conditions, refusal}
 use Rattle.table.proofs.SomeLaws.{every, every_has}
@@ -25,12 +24,12 @@ refusals =
     TooFewWords ∷ BrokenPair ∷ OverLimit ∷ WrongNode ∷ WrongArgument ∷ WrongTerm ∷ WrongLabel ∷ NotANode ∷ TooFewLent ∷ []
 
 -- The answer with a number, among these refusals.
-answer_at : List Refusal → ℕ → Checked
-answer_at [] n = Accepted
-answer_at (r ∷ rs) n = cond (eqb n (number_of r)) (Refused r) (answer_at rs n)
+answer_at : List Refusal → ℕ → Result (Unit {0}) Refusal
+answer_at [] n = Ok tt
+answer_at (r ∷ rs) n = cond (eqb n (number_of r)) (Err r) (answer_at rs n)
 
 -- every refusal is found by its number
-read_refusal : (r : Refusal) → answer_at refusals (number_of r) ≡ Refused r
+read_refusal : (r : Refusal) → answer_at refusals (number_of r) ≡ Err r
 unfolding answer_at
 read_refusal TooFewWords = refl
 read_refusal BrokenPair = refl
@@ -42,25 +41,25 @@ read_refusal WrongLabel = refl
 read_refusal NotANode = refl
 read_refusal TooFewLent = refl
 
-read_back : (a : Checked) → answer_at refusals (told a) ≡ a
+read_back : (a : Result (Unit {0}) Refusal) → answer_at refusals (told a) ≡ a
 unfolding answer_at
-read_back Accepted = refl
-read_back (Refused r) = read_refusal r
+read_back (Ok u) = refl
+read_back (Err r) = read_refusal r
 
 -- answers with one number are one answer
-pub told_apart : (a b : Checked) → told a ≡ told b → a ≡ b
+pub told_apart : (a b : Result (Unit {0}) Refusal) → told a ≡ told b → a ≡ b
 told_apart a b e = sym (read_back a) ∙ ap (answer_at refusals) e ∙ read_back b
 
 -- and refusals with one number are one refusal
 pub number_apart : (r s : Refusal) → number_of r ≡ number_of s → r ≡ s
-number_apart r s e = let q : Refused r ≡ Refused s = told_apart (Refused r) (Refused s) e in cc
+number_apart r s e = let q : Err r ≡ Err s = told_apart (Err r) (Err s) e in cc
 
-found_listed : (rs : List Refusal) (n : ℕ) (r : Refusal) → answer_at rs n ≡ Refused r → Memᴰ r rs
+found_listed : (rs : List Refusal) (n : ℕ) (r : Refusal) → answer_at rs n ≡ Err r → Memᴰ r rs
 unfolding answer_at
 found_listed [] n r e = let z : ◌≡◌ {A = ℕ} 0 1 = cc in absurd (omega arith)
 found_listed (s ∷ rs) n r e = pick (eqb n (number_of s)) e (found_listed rs n r)
   where
-    pick : (b : Bool) → cond b (Refused s) (answer_at rs n) ≡ Refused r → (answer_at rs n ≡ Refused r → Memᴰ r rs) → Memᴰ r (s ∷ rs)
+    pick : (b : Bool) → cond b (Err s) (answer_at rs n) ≡ Err r → (answer_at rs n ≡ Err r → Memᴰ r rs) → Memᴰ r (s ∷ rs)
     pick true q f = let i : r ≡ s = cc in Memᴰ.head i
     pick false q f = Memᴰ.tail (f q)
 

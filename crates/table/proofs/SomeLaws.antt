@@ -8,6 +8,10 @@ use mathlib.Core.Logic.{◌↔◌}
 use native.Mathlib.Decide.{dec_lt}
 use native.Mathlib.Numerals.{add-one}
 use native.Mathlib.Omega.{arith}
+use lib.ListN.{length, get_or}
+use Rattle.std.specs.List.{list_any}
+use Rattle.std.proofs.lemmas.List.Elements.{All-from_get_or}
+use Rattle.std.proofs.lemmas.List.Folds.{list_any_at, list_any_none}
 use Rattle.table.specs.Some.{some_below}
 use Rattle.table.proofs.BoolLaws.{or_false_left, or_false_right, or_both_false, and_true_left, and_true_right}
 
@@ -58,6 +62,16 @@ some_found p (suc n) e = go (some_below n p) refl (some_found p n)
 -- the test is true exactly if p holds of some number below n
 pub some_means : (p : ℕ → Bool) (n : ℕ) → some_below n p ≡ true ↔ ((i : ℕ) × (i < n) × (p i ≡ true))
 some_means p n = (some_found p n, (λ r. some_here p r.0 n r.1 r.2))
+
+-- a test of the elements of a list that is p's at each place is passed by one exactly if p holds of a place
+pub some_any : (test p : ℕ → Bool) (xs : List ℕ) → ((i : ℕ) → i < length xs → test (get_or xs i 0) ≡ p i) → list_any test xs ≡ some_below (length xs) p
+some_any test p xs h = go (some_below (length xs) p) refl
+  where
+    go : (b : Bool) → some_below (length xs) p ≡ b → list_any test xs ≡ some_below (length xs) p
+    go true e =
+        let f = some_found p (length xs) e in
+        list_any_at test xs f.0 0 f.1 (h f.0 f.1 ∙ f.2) ∙ sym e
+    go false e = list_any_none test xs (All-from_get_or (λ x. test x ≡ false) xs 0 (λ i l. h i l ∙ none_some p (length xs) e i l)) ∙ sym e
 
 -- Every number of a list has the property, as a test that computes.
 abbrev pub every : (ℕ → Bool) → List ℕ → Bool

@@ -23,7 +23,7 @@ pub struct Variable(pub u32);
 pub struct Label(pub u32);
 
 // Why a call is refused, in document 01's order: the first seven by any operation that takes a table.
-#[derive(Clone, Copy, PartialEq, Eq)]
+#[derive(Clone, Copy, Debug, PartialEq, Eq)]
 pub enum Refusal {
     TooFewWords,
     BrokenPair,
@@ -34,13 +34,6 @@ pub enum Refusal {
     WrongLabel,
     NotANode,
     TooFewLent,
-}
-
-// What checking a table answers.
-#[derive(Clone, Copy)]
-pub enum Checked {
-    Accepted,
-    Refused(Refusal),
 }
 
 impl Refusal {

@@ -37,10 +37,8 @@ pub fn read_words(bytes: &[u8], words: &mut [u32]) -> usize
     ensures { (result ≤ length words.new) × (take result words.new ≡ words_of_bytes bytes.now) }
 {
     let n = bytes.len() / 4;
-    let mut i: usize = 0;
-    while i < n {
+    for i in 0..n {
         words[i] = word_at(bytes, 4 * i);
-        i += 1;
     }
     n
 }

@@ -31,10 +31,8 @@ fn write_text(text: &[u8], out: &mut [u8], at: usize) -> usize
     ensures { Wrote out.old at text.now out.new result }
 {
     let mut next = at;
-    let mut i: usize = 0;
-    while i < text.len() {
+    for i in 0..text.len() {
         next = write_byte(text[i], out, next);
-        i += 1;
     }
     next
 }
@@ -54,10 +52,8 @@ fn write_rest(words: &[u32], out: &mut [u8], at: usize) -> usize
     ensures { Wrote out.old at (after_word (drop 1 words.now)) out.new result }
 {
     let mut next = at;
-    let mut i: usize = 1;
-    while i < words.len() {
+    for i in 1..words.len() {
         next = write_next(words[i], out, next);
-        i += 1;
     }
     write_byte(b'\n', out, next)
 }
@@ -92,12 +88,10 @@ pub fn write_lines(words: &[u32], width: usize, count: usize, out: &mut [u8], at
 {
     let mut next = at;
     let mut from: usize = 0;
-    let mut i: usize = 0;
-    while i < count {
+    for i in 0..count {
         let to = from + width;
         next = write_line(&words[from..to], out, next);
         from = to;
-        i += 1;
     }
     next
 }

@@ -10,6 +10,7 @@ use native.Mathlib.Omega.{arith}
 use borrow.Author.Tests.{ltb-false, leb-false, lt-leb, le-ltb}
 use lib.Dec.{leb}
 use lib.ListN.{length, take, drop, length-map, length-append, length-drop}
+use Rattle.std.specs.Prelude.{Result, Ok, Err}
 use lib.Seq.{take_at, drop_at}
 use Rattle.table.specs.declared.Refusal.{Refusal}
 use Rattle.table.specs.Limits.{max_variable}
@@ -31,7 +32,7 @@ use Rattle.unification.specs.Computed.Variables.{variables_of}
 use Rattle.unification.specs.Computed.Binding.{word_of, binding_words}
 use Rattle.unification.specs.Outcome.{Outcome, unified, clash, occurs}
 use Rattle.unification.specs.Computed.Unifying.{outcome, unifier, words_of}
-use Rattle.unification.specs.Answer.{told, variable_count, unify_conditions, Answer, ended, refused, answer_after, unification, words_after, lent_after}
+use Rattle.unification.specs.Answer.{told, outcome_of, variable_count, unify_conditions, Answer, ended, refused, answer_after, unification, words_after, lent_after}
 use Rattle.unification.specs.Decided.{Decided}
 use Rattle.unification.proofs.VariableLaws.{variables_few}
 use Rattle.unification.proofs.TableLaws.{variable_most, well_formed}
@@ -252,37 +253,31 @@ from_outcome unified = Unification.Unified
 from_outcome clash = Unification.Clash
 from_outcome occurs = Unification.Occurs
 
-ended_apart : (o : Outcome) (s : Unification) → ended o ≡ told s → from_outcome o ≡ s
+read_back : (u : Unification) → from_outcome (outcome_of u) ≡ u
 unfolding from_outcome
-ended_apart o Unification.Unified e = let d : o ≡ unified = cc in ap from_outcome d
-ended_apart o Unification.Clash e = let d : o ≡ clash = cc in ap from_outcome d
-ended_apart o Unification.Occurs e = let d : o ≡ occurs = cc in ap from_outcome d
-ended_apart o (Unification.Refused r) e = let z : ◌≡◌ {A = ℕ} 0 1 = cc in absurd (omega arith)
-
-refused_apart : (r : Refusal) (s : Unification) → refused (number_of r) ≡ told s → Unification.Refused r ≡ s
-refused_apart r Unification.Unified e = let z : ◌≡◌ {A = ℕ} 0 1 = cc in absurd (omega arith)
-refused_apart r Unification.Clash e = let z : ◌≡◌ {A = ℕ} 0 1 = cc in absurd (omega arith)
-refused_apart r Unification.Occurs e = let z : ◌≡◌ {A = ℕ} 0 1 = cc in absurd (omega arith)
-refused_apart r (Unification.Refused s) e =
-    let d : number_of r ≡ number_of s = cc in
-    ap Unification.Refused (number_apart r s d)
+read_back Unification.Unified = refl
+read_back Unification.Clash = refl
+read_back Unification.Occurs = refl
 
 -- answers that stand for one thing are one answer
-pub told_apart : (r s : Unification) → told r ≡ told s → r ≡ s
-unfolding from_outcome
-told_apart Unification.Unified s e = ended_apart unified s e
-told_apart Unification.Clash s e = ended_apart clash s e
-told_apart Unification.Occurs s e = ended_apart occurs s e
-told_apart (Unification.Refused r) s e = refused_apart r s e
+pub told_apart : (r s : Result Unification Refusal) → told r ≡ told s → r ≡ s
+told_apart (Ok u) (Ok v) e =
+    let d : outcome_of u ≡ outcome_of v = cc in
+    ap Ok (sym (read_back u) ∙ ap from_outcome d ∙ read_back v)
+told_apart (Ok u) (Err r) e = let z : ◌≡◌ {A = ℕ} 0 1 = cc in absurd (omega arith)
+told_apart (Err r) (Ok u) e = let z : ◌≡◌ {A = ℕ} 0 1 = cc in absurd (omega arith)
+told_apart (Err r) (Err s) e =
+    let d : number_of r ≡ number_of s = cc in
+    ap Err (number_apart r s d)
 
 -- whatever a call comes to, some answer stands for it
-pub told_there : (t : List ℕ) (a b lent : ℕ) → (r : Unification) × (told r ≡ unification t a b lent)
+pub told_there : (t : List ℕ) (a b lent : ℕ) → (r : Result Unification Refusal) × (told r ≡ unification t a b lent)
 unfolding unification answer_after unify_conditions conditions
 told_there t a b lent = go (first_held (unify_conditions t a b lent)) (held_number (unify_conditions t a b lent)) (outcome (nodes_in t) ((a, b) ∷ []))
   where
-    go : (n : ℕ) → Memᴰ n (0 ∷ map number_of refusals) → (o : Outcome) → (r : Unification) × (told r ≡ answer_after n o)
-    go zero h unified = (Unification.Unified, refl)
-    go zero h clash = (Unification.Clash, refl)
-    go zero h occurs = (Unification.Occurs, refl)
+    go : (n : ℕ) → Memᴰ n (0 ∷ map number_of refusals) → (o : Outcome) → (r : Result Unification Refusal) × (told r ≡ answer_after n o)
+    go zero h unified = (Ok Unification.Unified, refl)
+    go zero h clash = (Ok Unification.Clash, refl)
+    go zero h occurs = (Ok Unification.Occurs, refl)
     go (suc n) (Memᴰ.head e) o = absurd (omega arith)
-    go (suc n) (Memᴰ.tail m) o = let r = (numbered (suc n)).0 m in (Unification.Refused r.0, ap refused r.1)
+    go (suc n) (Memᴰ.tail m) o = let r = (numbered (suc n)).0 m in (Err r.0, ap refused r.1)

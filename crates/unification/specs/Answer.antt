@@ -1,9 +1,10 @@
 -- What `unify` answers, and what it leaves in the lent words.
-use Rattle.std.specs.Prelude.{ℕ, zero, suc, Bool, ◌||◌, List, [], ◌∷◌, ◌++◌, leb, ltb, length, drop}
+use Rattle.std.specs.Prelude.{ℕ, zero, suc, Bool, ◌||◌, List, [], ◌∷◌, ◌++◌, leb, ltb, length, drop, Result, Ok, Err}
+use Rattle.table.specs.declared.Refusal.{Refusal}
 use Rattle.table.specs.Refusal.{conditions, first_held}
 use Rattle.table.specs.Answer.{number_of}
 use Rattle.unification.specs.declared.Unification.{Unification}
-use Rattle.unification.specs.declared.Unification.TheVariants.{Unified, Clash, Occurs, Refused}
+use Rattle.unification.specs.declared.Unification.TheVariants.{Unified, Clash, Occurs}
 use Rattle.unification.specs.Node.{nodes_in}
 use Rattle.unification.specs.Computed.Variables.{variables_of}
 use Rattle.unification.specs.Outcome.{Outcome, unified, clash, occurs}
@@ -23,12 +24,16 @@ pub data Answer : Type 0 where
   ended : Outcome → Answer
   refused : ℕ → Answer
 
+-- What unifying two nodes comes to.
+abbrev pub outcome_of : Unification → Outcome
+outcome_of Unified = unified
+outcome_of Clash = clash
+outcome_of Occurs = occurs
+
 -- What an answer of `unify` stands for.
-abbrev pub told : Unification → Answer
-told Unified = ended unified
-told Clash = ended clash
-told Occurs = ended occurs
-told (Refused r) = refused (number_of r)
+abbrev pub told : Result Unification Refusal → Answer
+told (Ok u) = ended (outcome_of u)
+told (Err r) = refused (number_of r)
 
 -- The answer, by the number of the first condition that holds, 0 where none does.
 unfoldable pub answer_after : ℕ → Outcome → Answer

@@ -1,13 +1,10 @@
 // What unifying means: definitions and laws, and the answer that they speak of. There is no code to run.
 #![tactic(auto)]
 
-use table::Refusal;
-
-// What unifying two nodes answers.
-#[derive(Clone, Copy)]
+// What unifying two nodes comes to.
+#[derive(Clone, Copy, Debug, PartialEq, Eq)]
 pub enum Unification {
     Unified,
     Clash,
     Occurs,
-    Refused(Refusal),
 }

@@ -10,8 +10,7 @@ use borrow.Author.Tests.{leb-false, ltb-false, lt-leb, lt-ltb, le-ltb}
 use lib.Dec.{leb, ltb}
 use lib.ListN.{length, take, drop}
 use Rattle.table.specs.declared.Refusal.{Refusal}
-use Rattle.table.specs.declared.Checked.{Checked}
-use Rattle.table.specs.Answer as table
+use Rattle.std.specs.Prelude.{Result, Ok, Err}
 use Rattle.table.specs.Layout.{node_count}
 use Rattle.table.specs.Answer.{number_of}
 use Rattle.table.specs.Refusal.{conditions, refusal}
@@ -22,12 +21,13 @@ use Rattle.table.proofs.AcceptedLaws.{accepted}
 use Rattle.table.proofs.AnswerLaws.{number_above}
 use Rattle.terms.specs.Substitution.{Substitution}
 use Rattle.unification.specs.declared.Unification.{Unification}
+use Rattle.unification.specs.declared.Unification.TheVariants.{Unified, Clash, Occurs}
 use Rattle.unification.specs.Node.{Node, nodes_in, nodes_from}
 use Rattle.unification.specs.Unifier.{value, Unifies}
 use Rattle.unification.specs.Computed.Variables.{variables_of}
 use Rattle.unification.specs.Computed.Unifying.{outcome, words_of}
 use Rattle.unification.specs.Answer as answer
-use Rattle.unification.specs.Answer.{told, variable_count, unify_conditions, ended, unification, words_after, lent_after}
+use Rattle.unification.specs.Answer.{outcome_of, told, variable_count, unify_conditions, ended, unification, words_after, lent_after}
 use Rattle.unification.specs.Decided.{Decided}
 use Rattle.unification.specs.Code.Given.{Inside}
 use Rattle.unification.specs.Code.Sections.{Sections}
@@ -35,11 +35,10 @@ use Rattle.unification.proofs.SectionLaws.{nodes_long, is_node, sections_well_fo
 use Rattle.unification.proofs.OutcomeLaws.{outcome_unified}
 use Rattle.unification.proofs.PairLaws.{same_unifiers}
 use Rattle.unification.proofs.AnswerLaws.{words_counted, refused_exactly, answered_exactly, decided}
-use Rattle.classes.specs.declared.Extended.{Extended}
 use Rattle.nodes.specs.Code.Open.{OpenListed}
 use Rattle.values.specs.Code.Present.{least_nodes}
 use Rattle.nodes.specs.Code.Formed.{Stands}
-use Rattle.classes.specs.Code.Stands.{extended, Extends}
+use Rattle.classes.specs.Code.Stands.{Extends}
 use Rattle.values.specs.Code.Begins.{Lists, Leaves, BeginsShared}
 use Rattle.unify.specs.Code.Calling.{called, AnswersByNodes}
 use Rattle.values.proofs.LeastLaws.{least_long}
@@ -90,7 +89,7 @@ module _ (t : List ℕ) (a b : ℕ) where
 module _ (nodes arguments : List ℕ) (a b n : ℕ) (e : n ≡ node_count nodes) where
   -- a number is no node
   pub answers_node : (lent : List ℕ) → (leb n a || leb n b) ≡ true →
-      AnswersByNodes (nodes_from nodes arguments) a b lent (Unification.Refused Refusal.NotANode) lent
+      AnswersByNodes (nodes_from nodes arguments) a b lent (Err Refusal.NotANode) lent
   unfolding called words_after
   answers_node lent g =
       let h : (leb (length (nodes_from nodes arguments)) a || leb (length (nodes_from nodes arguments)) b) ≡ true = rw
@@ -116,7 +115,7 @@ module _ (nodes arguments : List ℕ) (s : Sections nodes arguments) (a b : ℕ)
       (lt-leb (length ns) b (is_node nodes arguments b h.1))
 
   -- too few words are lent
-  pub answers_few : length lent < v → AnswersByNodes ns a b lent (Unification.Refused Refusal.TooFewLent) lent
+  pub answers_few : length lent < v → AnswersByNodes ns a b lent (Err Refusal.TooFewLent) lent
   unfolding called words_after
   answers_few l =
       let d = g.lists.counted in
@@ -135,35 +134,36 @@ module _ (nodes arguments : List ℕ) (s : Sections nodes arguments) (a b : ℕ)
       either x y u (inr m) = g.same σ x y m
 
   -- Enough words are lent, and the classes are extended by the pair.
-  module _ (l : v ≤ length lent) (counts next : List ℕ) (r : Extended) (heads' next' : List ℕ)
+  module _ (l : v ≤ length lent) (counts next : List ℕ) (r : Unification) (heads' next' : List ℕ)
       (x : Extends nodes arguments counts heads next a b r heads' next') where
     -- what unifying the two nodes comes to
-    comes : extended r ≡ outcome ns ((a, b) ∷ [])
+    comes : outcome_of r ≡ outcome ns ((a, b) ∷ [])
     comes =
         x.answers g.pairs g.stands
         ∙ outcome_together ns (sections_well_formed nodes arguments s) a b (is_node nodes arguments a h.0) (is_node nodes arguments b h.1)
         g.pairs g.stands.inside g.same
 
     -- it is the answer
-    answers_ended : (u : Unification) (lent' : List ℕ) → told u ≡ ended (extended r) →
-        lent' ≡ words_after (ended (extended r)) (words_of ns ((a, b) ∷ [])) lent → AnswersByNodes ns a b lent u lent'
+    answers_ended : (lent' : List ℕ) → lent' ≡ words_after (ended (outcome_of r)) (words_of ns ((a, b) ∷ [])) lent →
+        AnswersByNodes ns a b lent (Ok r) lent'
     unfolding called
-    answers_ended u lent' t w =
+    answers_ended lent' w =
         let d = g.lists.counted in
         let z : ltb (length lent) (length (variables_of ns)) ≡ false = le-ltb (length lent) (length (variables_of ns)) (omega (arith, d)) in
-        record { answer = rw (both, z, ← comes) t; words = rw (both, z, ← comes) w }
+        record { answer = rw (both, z, ← comes) refl; words = rw (both, z, ← comes) w }
 
-    -- a clash
-    pub answers_clash : r ≡ Extended.Clash → AnswersByNodes ns a b lent Unification.Clash lent
+    -- a failure
+    pub answers_failed : (r ≡ Unified → ⊥) → AnswersByNodes ns a b lent (Ok r) lent
     unfolding words_after
-    answers_clash e = answers_ended Unification.Clash lent (rw e) (rw e)
+    answers_failed n = answers_ended lent (unchanged r n)
+      where
+        unchanged : (u : Unification) → (u ≡ Unified → ⊥) →
+            lent ≡ words_after (ended (outcome_of u)) (words_of ns ((a, b) ∷ [])) lent
+        unchanged Unified d = absurd (d refl)
+        unchanged Clash d = refl
+        unchanged Occurs d = refl
 
-    -- a class that leads to itself
-    pub answers_occurs : r ≡ Extended.Occurs → AnswersByNodes ns a b lent Unification.Occurs lent
-    unfolding words_after
-    answers_occurs e = answers_ended Unification.Occurs lent (rw e) (rw e)
-
-    module _ (e : r ≡ Extended.Unified) where
+    module _ (e : r ≡ Unified) where
       unified_stands : Stands nodes arguments heads' ((a, b) ∷ g.pairs)
       unified_stands = x.stands e g.pairs g.stands
 
@@ -176,14 +176,13 @@ module _ (nodes arguments : List ℕ) (s : Sections nodes arguments) (a b : ℕ)
           same_unifiers ns (sections_well_formed nodes arguments s) ((a, b) ∷ g.pairs) ((a, b) ∷ []) unified_stands.inside one_inside
           pair_alone
           ((outcome_unified ns (sections_well_formed nodes arguments s) ((a, b) ∷ g.pairs) unified_stands.inside).0
-          (sym (x.answers g.pairs g.stands) ∙ ap extended e))
+          (sym (x.answers g.pairs g.stands) ∙ ap outcome_of e))
 
       -- unified: the binding words are left
-      pub answers_unified : (lent' : List ℕ) → Leaves nodes arguments heads' lent lent' → AnswersByNodes ns a b lent Unification.Unified lent'
+      pub answers_unified : {lent' : List ℕ} → Leaves nodes arguments heads' lent lent' → AnswersByNodes ns a b lent (Ok r) lent'
       unfolding words_after
-      answers_unified lent' w =
-          answers_ended Unification.Unified lent' (rw e)
-          (rw (e, ← one_words, words_counted ns ((a, b) ∷ g.pairs)) (w ((a, b) ∷ g.pairs) unified_stands))
+      answers_unified {lent'} w =
+          answers_ended lent' (rw (e, ← one_words, words_counted ns ((a, b) ∷ g.pairs)) (w ((a, b) ∷ g.pairs) unified_stands))
 
 -- the least nodes of the variables present, as the code takes them, for which enough words are lent
 pub list_given : (nodes arguments counts : List ℕ) (v n : ℕ) → Lists nodes arguments v (drop 512 counts) → v ≤ n →
@@ -202,29 +201,29 @@ pub opens_given : (nodes counts : List ℕ) (r : ℕ) → OpenListed nodes count
 opens_given nodes counts r o = let e : 256 + r - 256 ≡ r = omega arith in rw e o
 
 -- All that is promised of a call.
-abbrev pub Promised : List ℕ → ℕ → ℕ → List ℕ → Unification → List ℕ → Type 0
+abbrev pub Promised : List ℕ → ℕ → ℕ → List ℕ → Result Unification Refusal → List ℕ → Type 0
 Promised t a b lent r lent' = (told r ≡ unification t a b (length lent)) × ((lent' ≡ lent_after t a b lent) × Decided t a b (told r) lent')
 
 -- what the answer and the lent words decide follows from what they are
-promised : (t : List ℕ) (a b : ℕ) (lent : List ℕ) (r : Unification) (lent' : List ℕ) → told r ≡ unification t a b (length lent) →
+promised : (t : List ℕ) (a b : ℕ) (lent : List ℕ) (r : Result Unification Refusal) (lent' : List ℕ) → told r ≡ unification t a b (length lent) →
     lent' ≡ lent_after t a b lent → Promised t a b lent r lent'
 promised t a b lent r lent' e d = (e, (d, decided t a b lent (told r) lent' e d))
 
 -- no lent word is changed where the table is refused
-refused_words : (t : List ℕ) (a b : ℕ) (lent : List ℕ) (r : Refusal) → told (Unification.Refused r) ≡ unification t a b (length lent) →
+refused_words : (t : List ℕ) (a b : ℕ) (lent : List ℕ) (r : Refusal) → told (Err r) ≡ unification t a b (length lent) →
     lent ≡ lent_after t a b lent
 unfolding lent_after words_after
 refused_words t a b lent r e = rw (← e)
 
 -- so it is of a call with a refused table
-pub refused_promised : (t : List ℕ) (a b : ℕ) (lent : List ℕ) (c : Checked) (r : Refusal) → table.told c ≡ refusal t → c ≡ Checked.Refused r →
-    Promised t a b lent (Unification.Refused r) lent
-refused_promised t a b lent c r e z =
-    let d : told (Unification.Refused r) ≡ unification t a b (length lent) = sym (refused_table t a b (length lent) r (sym (ap table.told z) ∙ e)) in
-    promised t a b lent (Unification.Refused r) lent d (refused_words t a b lent r d)
+pub refused_promised : (t : List ℕ) (a b : ℕ) (lent : List ℕ) (r : Refusal) → number_of r ≡ refusal t →
+    Promised t a b lent (Err r) lent
+refused_promised t a b lent r e =
+    let d : told (Err r) ≡ unification t a b (length lent) = sym (refused_table t a b (length lent) r e) in
+    promised t a b lent (Err r) lent d (refused_words t a b lent r d)
 
 -- and with an accepted one
-pub accepted_promised : (t : List ℕ) (a b : ℕ) (lent : List ℕ) (r : Unification) (lent' : List ℕ) → Accepted t →
+pub accepted_promised : (t : List ℕ) (a b : ℕ) (lent : List ℕ) (r : Result Unification Refusal) (lent' : List ℕ) → Accepted t →
     AnswersByNodes (nodes_in t) a b lent r lent' → Promised t a b lent r lent'
 accepted_promised t a b lent r lent' g k =
     promised t a b lent r lent' (k.answer ∙ sym (accepted_table t a b g (length lent))) (k.words ∙ sym (accepted_words t a b g lent))

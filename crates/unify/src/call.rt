@@ -8,7 +8,6 @@ ghost use Rattle.nodes.specs.Code.Trail.{links};
 ghost use Rattle.unify.specs.Code.Calling.{AnswersByNodes};
 
 use binding::words::bind;
-use classes::Extended;
 use classes::settle::extend;
 use classes::trail::LINKS;
 use table::limits::MAX_NODES;
@@ -30,7 +29,7 @@ fn unify_with_room(
     next: &mut [u8],
     counts: &mut [u8],
     out: &mut [u32],
-) -> Unification
+) -> Result<Unification, Refusal>
     requires sections { Sections nodes.now arguments.now }
     requires a_bound { (a.0 < node_count nodes.now) × (b.0 < node_count nodes.now) }
     requires heads_len { (length heads.old ≡ node_count nodes.now) × (next.old ≡ replicate links 0) × (576 ≤ length counts.old) }
@@ -39,27 +38,24 @@ fn unify_with_room(
     let begun = begin_shared(nodes, arguments, heads, next, counts);
     let v = begun.variables;
     if out.len() < v {
-        return Unification::Refused(Refusal::TooFewLent);
+        return Err(Refusal::TooFewLent);
     }
     let opens_end = OPENS + begun.opens;
     let list_end = LIST + v;
-    match extend(nodes, arguments, counts, heads, next, a, b) {
-        Extended::Clash => Unification::Clash,
-        Extended::Occurs => Unification::Occurs,
-        Extended::Unified => {
-            let known = &counts[..];
-            bind(
-                nodes,
-                arguments,
-                known,
-                &known[OPENS..opens_end],
-                &known[LIST..list_end],
-                heads,
-                out,
-            );
-            Unification::Unified
-        }
+    let unification = extend(nodes, arguments, counts, heads, next, a, b);
+    if unification == Unification::Unified {
+        let known = &counts[..];
+        bind(
+            nodes,
+            arguments,
+            known,
+            &known[OPENS..opens_end],
+            &known[LIST..list_end],
+            heads,
+            out,
+        );
     }
+    Ok(unification)
 }
 
 // Unifies two nodes of the sections of an accepted table.
@@ -69,13 +65,13 @@ pub fn unify_nodes(
     a: Node,
     b: Node,
     out: &mut [u32],
-) -> Unification
+) -> Result<Unification, Refusal>
     requires { Sections nodes.now arguments.now }
     ensures { AnswersByNodes (nodes_from nodes.now arguments.now) a.0 b.0 out.old result out.new }
 {
     let n = layout::node_count(nodes);
     if (a.0 >= n) | (b.0 >= n) {
-        return Unification::Refused(Refusal::NotANode);
+        return Err(Refusal::NotANode);
     }
     let count = layout::index(n);
     let mut heads = [0u8; MAX_NODES];
@@ -94,7 +90,12 @@ pub fn unify_nodes(
 }
 
 // Unifies two nodes of an accepted table.
-pub fn unify_accepted(table: &[u32], a: Node, b: Node, out: &mut [u32]) -> Unification
+pub fn unify_accepted(
+    table: &[u32],
+    a: Node,
+    b: Node,
+    out: &mut [u32],
+) -> Result<Unification, Refusal>
     requires { Accepted table.now }
     ensures { AnswersByNodes (nodes_in table.now) a.0 b.0 out.old result out.new }
 {

@@ -1,18 +1,17 @@
 -- Being alike, and the key of a node: what the loops that compare two nodes and make a key show. Nodes that are alike have one key,
 -- and both depend only on the names of arguments. Assumes nothing.
-use Prim.Native.Nat.{ℕ, zero, suc, ◌+◌, ◌*◌, ◌/◌, ◌%◌, ◌<◌, ◌≤◌}
+use Prim.Native.Nat.{ℕ, zero, suc, ◌+◌, ◌<◌, ◌≤◌}
 use mathlib.Core.Bool.{Bool, true, false, false≢true}
 use mathlib.Core.List.{List}
 use mathlib.Core.Path.{◌≡◌, refl, sym, ap, ◌∙◌}
-use native.Mathlib.Nat.{mod-lt}
 use native.Mathlib.Numerals.{add-one}
 use native.Mathlib.Omega.{arith}
 use borrow.Author.Count.{below_more}
-use Rattle.table.specs.Layout.{name_of, count_of, argument_of}
+use Rattle.table.specs.Layout.{count_of, argument_of}
 use Rattle.unification.specs.Code.Sections.{symbol_test}
 use Rattle.unification.proofs.SectionLaws.{symbol_test_lem}
-use Rattle.nodes.specs.Code.Named.{value_name, AlikeUpTo, Alike}
-use Rattle.values.specs.Code.Naming.{keys, key_up_to, key_of, Compared}
+use Rattle.nodes.specs.Code.Named.{value_name, Alike}
+use Rattle.values.specs.Code.Naming.{symbol_key, longer_key, key_up_to, key_of, AlikeBy, ComparedBy, Compared}
 
 -- Being alike is an equivalence, and gives one key.
 module _ {nodes arguments heads names : List ℕ} where
@@ -93,17 +92,15 @@ alike_was nodes arguments heads names news s t = alike_kept nodes arguments head
 -- The loop that makes a key.
 module _ (nodes arguments heads names : List ℕ) (h : ℕ) where
   -- the symbol
-  pub key_start : (name n : ℕ) → name ≡ name_of nodes h → n ≡ count_of nodes h →
-      ((name * 40503 % 65536 / 256 + n) % keys ≡ key_up_to nodes arguments heads names h 0) × ((name * 40503 % 65536 / 256 + n) % keys < keys)
+  pub key_start : (x : ℕ) → x ≡ symbol_key nodes h → x ≡ key_up_to nodes arguments heads names h 0
   unfolding key_up_to
-  key_start name n e d = (rw (e, d), mod-lt _ (omega arith))
+  key_start x e = e
 
   -- one argument more
-  pub key_next : (x j v w : ℕ) → x ≡ key_up_to nodes arguments heads names h j → w ≡ v →
-      v ≡ value_name heads names (argument_of nodes arguments h j) →
-      ((x * 157 + w + 1) % keys ≡ key_up_to nodes arguments heads names h (j + 1)) × ((x * 157 + w + 1) % keys < keys)
+  pub key_next : (x j v y : ℕ) → x ≡ key_up_to nodes arguments heads names h j → v ≡ value_name heads names (argument_of nodes arguments h j) →
+      y ≡ longer_key x v → y ≡ key_up_to nodes arguments heads names h (j + 1)
   unfolding key_up_to
-  key_next x j v w e d f = (rw (add-one j, e, d, f), mod-lt _ (omega arith))
+  key_next x j v y e d f = rw (add-one j, f, e, d)
 
   -- all of them
   pub key_end : (x j n : ℕ) → x ≡ key_up_to nodes arguments heads names h j → n ≡ count_of nodes h → j ≤ n → n ≤ j →
@@ -111,11 +108,11 @@ module _ (nodes arguments heads names : List ℕ) (h : ℕ) where
   unfolding key_of
   key_end x j n e d l m = e ∙ ap (key_up_to nodes arguments heads names h) (let f : j ≡ n = omega arith in f ∙ d)
 
--- The loop that compares nodes g and h.
-module _ (nodes arguments heads names : List ℕ) (g h : ℕ) where
+-- The loop that compares nodes g and h, by the values of their arguments.
+module _ (nodes arguments : List ℕ) (value : ℕ → ℕ) (g h : ℕ) where
   module _ (r : Bool) (e : r ≡ symbol_test nodes g h) where
     -- the symbols are different
-    pub compare_symbols : r ≡ false → Compared nodes arguments heads names g h false
+    pub compare_symbols : r ≡ false → ComparedBy nodes arguments value g h false
     compare_symbols f =
         record {
           alike = λ z. absurd (false≢true z);
@@ -123,7 +120,7 @@ module _ (nodes arguments heads names : List ℕ) (g h : ℕ) where
         }
 
     -- they are one
-    pub compare_start : r ≡ true → AlikeUpTo nodes arguments heads names g h 0
+    pub compare_start : r ≡ true → AlikeBy nodes arguments value g h 0
     compare_start f =
         let t = (symbol_test_lem nodes g h).0 (sym e ∙ f) in
         record {
@@ -132,32 +129,53 @@ module _ (nodes arguments heads names : List ℕ) (g h : ℕ) where
           per_argument = λ j q. absurd (omega arith);
         }
 
-  module _ (j n : ℕ) (l : n ≡ count_of nodes g) (s : AlikeUpTo nodes arguments heads names g h j) where
-    module _ (x y : ℕ) (d : x ≡ value_name heads names (argument_of nodes arguments g j))
-        (e : y ≡ value_name heads names (argument_of nodes arguments h j)) where
-      -- one argument more has the same name
-      pub compare_next : x ≡ y → AlikeUpTo nodes arguments heads names g h (j + 1)
+  module _ (j n : ℕ) (l : n ≡ count_of nodes g) (s : AlikeBy nodes arguments value g h j) where
+    module _ (x y : ℕ) (d : x ≡ value (argument_of nodes arguments g j)) (e : y ≡ value (argument_of nodes arguments h j)) where
+      -- one argument more has the same value
+      pub compare_next : x ≡ y → AlikeBy nodes arguments value g h (j + 1)
       compare_next f =
           record {
             name = s.name;
             count = s.count;
             per_argument =
-                below_more (λ i. value_name heads names (argument_of nodes arguments g i) ≡ value_name heads names (argument_of nodes arguments h i))
-                j s.per_argument (sym d ∙ f ∙ e);
+                below_more (λ i. value (argument_of nodes arguments g i) ≡ value (argument_of nodes arguments h i)) j s.per_argument (sym d ∙ f ∙ e);
           }
 
       -- it has another
-      pub compare_different : j < n → (x ≡ y → ⊥) → Compared nodes arguments heads names g h false
+      pub compare_different : j < n → (x ≡ y → ⊥) → ComparedBy nodes arguments value g h false
       compare_different m f =
           record {
             alike = λ z. absurd (false≢true z);
             different = λ z a. f (d ∙ a.per_argument j (omega arith) ∙ sym e);
           }
 
-    -- all have the same names
-    pub compare_end : n ≤ j → Compared nodes arguments heads names g h true
+    -- all have the same values
+    pub compare_end : n ≤ j → ComparedBy nodes arguments value g h true
     compare_end m =
         record {
           alike = λ z. record { name = s.name; count = s.count; per_argument = λ i q. s.per_argument i (omega arith) };
           different = λ z. absurd (false≢true (sym z));
         }
+
+-- Comparing by values that are names.
+pub compared_names : (nodes arguments heads names : List ℕ) (value : ℕ → ℕ) (g h : ℕ) (r : Bool) →
+    ((j : ℕ) → j < count_of nodes g → value (argument_of nodes arguments g j) ≡ value_name heads names (argument_of nodes arguments g j)) →
+    ((j : ℕ) → j < count_of nodes h → value (argument_of nodes arguments h j) ≡ value_name heads names (argument_of nodes arguments h j)) →
+    ComparedBy nodes arguments value g h r → Compared nodes arguments heads names g h r
+compared_names nodes arguments heads names value g h r d e c =
+    record {
+      alike = λ z.
+          let a = c.alike z in
+          record {
+            name = a.name;
+            count = a.count;
+            per_argument = λ j q. sym (d j q) ∙ a.per_argument j q ∙ e j (let f = a.count in omega (arith, f, q));
+          };
+      different = λ z a.
+          c.different z
+          (record {
+            name = a.name;
+            count = a.count;
+            per_argument = λ j q. d j q ∙ a.per_argument j q ∙ sym (e j (let f = a.count in omega (arith, f, q)));
+          });
+    }

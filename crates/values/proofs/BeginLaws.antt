@@ -12,10 +12,12 @@ use Rattle.unification.specs.Code.Sections.{Sections}
 use Rattle.nodes.specs.Code.Open.{Counts, CountedAt, OpenListed}
 use Rattle.nodes.specs.Code.Circle.{CirclesBefore}
 use Rattle.nodes.specs.Code.Trail.{Trailed}
-use Rattle.values.specs.Code.Naming.{keys}
+use Rattle.values.specs.declared.applications.Applications.{Applications}
+use Rattle.values.specs.Code.Applications.{IsEmpty}
 use Rattle.values.specs.Code.Present.{variable_names, LeastBefore, KeepsOthers}
 use Rattle.values.specs.Code.Start.{HeadsBefore, Sharing}
 use Rattle.values.specs.Code.Prepared.{IsOpen, OpenBefore, CountNoted}
+use Rattle.values.proofs.ChainLaws.{chained_none}
 use Rattle.values.proofs.LeastLaws.{least_none}
 use Rattle.values.proofs.CountLaws.{counts_kept}
 use Rattle.values.proofs.CirclesBeginLaws.{circles_all}
@@ -47,14 +49,14 @@ open_on o p =
     record { size = p.size ∙ o.size; counted = p.counted; gathered = p.gathered; fewer = p.fewer; behind = λ k h. p.behind k h ∙ o.behind k h }
 
 -- all nodes are gone over
-pub shared_all : (nodes arguments counts₀ least buckets earlier heads next counts : List ℕ) (opens past i n : ℕ) → n ≡ node_count nodes → i ≤ n →
+pub shared_all : (nodes arguments counts₀ least heads next counts : List ℕ) (t : Applications) (opens past i n : ℕ) → n ≡ node_count nodes → i ≤ n →
     n ≤ i →
-    Sharing nodes arguments heads buckets earlier i → LeastBefore nodes least i past → CirclesBefore heads next i →
+    Sharing nodes arguments heads t i → LeastBefore nodes least i past → CirclesBefore heads next i →
     OpenBefore nodes arguments counts₀ counts opens i →
     HeadsBefore nodes arguments heads (node_count nodes) ×
     ((LeastBefore nodes least (node_count nodes) past × CirclesBefore heads next (node_count nodes)) ×
     OpenBefore nodes arguments counts₀ counts opens (node_count nodes))
-shared_all nodes arguments counts₀ least buckets earlier heads next counts opens past i n e a b s l c o =
+shared_all nodes arguments counts₀ least heads next counts t opens past i n e a b s l c o =
     let q : node_count nodes ≡ i = omega arith in (
       subst (HeadsBefore nodes arguments heads) (sym q) s.before,
       (
@@ -64,19 +66,12 @@ shared_all nodes arguments counts₀ least buckets earlier heads next counts ope
     )
 
 -- at first no node has a head, and the table is empty
-pub sharing_none : (nodes arguments heads : List ℕ) → Sections nodes arguments → length heads ≡ node_count nodes →
-    Sharing nodes arguments heads (replicate keys 0) (replicate max_nodes 0) 0
-sharing_none nodes arguments heads s l =
+pub sharing_none : (nodes arguments heads : List ℕ) (t : Applications) → Sections nodes arguments → length heads ≡ node_count nodes → IsEmpty t →
+    Sharing nodes arguments heads t 0
+sharing_none nodes arguments heads t s l e =
     record {
       before = record { sections = s; size = l; head = λ k h. absurd (omega arith) };
-      buckets_long = length-replicate {A = ℕ} keys 0;
-      earlier_long = length-replicate {A = ℕ} max_nodes 0;
-      chained = record {
-        bucket_reaches = λ q h. absurd (omega arith);
-        bucket_is = λ x b h e. let y = get_or-replicate {A = ℕ} keys x 0 0 h in absurd (omega (arith, y, e));
-        earlier_reaches = λ r q k h. absurd (omega arith);
-        earlier_is = λ q b h. absurd (omega arith);
-      };
+      chained = chained_none _ _ t e;
     }
 
 -- no variable has a node yet: n stands at each

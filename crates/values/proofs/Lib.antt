@@ -7,6 +7,7 @@ pub mod ClosedLaws
 pub mod CopyLaws
 pub mod CirclesBeginLaws
 pub mod AlikeLaws
+pub mod ReachedLaws
 pub mod ChainLaws
 pub mod SharingLaws
 pub mod VariableLaws

@@ -1,10 +1,10 @@
 -- Naming the values of classes, place by place: how each of the three ways names the node at a place, and what is named at the end.
 -- Assumes nothing.
-use Prim.Native.Nat.{ℕ, suc, ◌+◌, ◌-◌, ◌<◌, ◌≤◌}
+use Prim.Native.Nat.{ℕ, ◌+◌, ◌<◌, ◌≤◌}
 use mathlib.Core.Bool.{Bool, true, false}
 use mathlib.Core.List.{List}
 use mathlib.Core.Logic.{◌⊎◌, inl, inr}
-use mathlib.Core.Path.{◌≡◌, refl, sym, ap, ◌∙◌}
+use mathlib.Core.Path.{◌≡◌, sym, ap, ◌∙◌}
 use native.Mathlib.Decide.{ℕ_discrete}
 use native.Mathlib.Omega.{arith}
 use borrow.Author.Tests.{eqb-true, eqb-false}
@@ -17,7 +17,9 @@ use Rattle.table.specs.Layout.{word, kind_of, count_of, node_count, argument_of}
 use Rattle.unification.specs.Computed.Classes.{class_of}
 use Rattle.unification.specs.Code.Heads.{Partition}
 use Rattle.nodes.specs.Code.Named.{value_name, Readable, Alike, Applied}
-use Rattle.values.specs.Code.Naming.{Nameable, IsPlaced, Compounds, keys, key_of, key_at, Representative, Represented, NamedBefore, Naming, NamedEarlier, NamedAlong, Found}
+use Rattle.values.specs.declared.applications.Applications.{Applications}
+use Rattle.values.specs.Code.Applications.{keys, Sizes, with_place}
+use Rattle.values.specs.Code.Naming.{Nameable, IsPlaced, Compounds, key_of, key_at, Representative, Represented, NamedBefore, Naming, NamedEarlier, NamedAlong}
 use Rattle.nodes.specs.Code.Formed.{IsConstant}
 use Rattle.values.proofs.AlikeLaws.{NamesKept, alike_same, alike_back, alike_on, alike_kept, alike_was, key_kept}
 use Rattle.values.proofs.ChainLaws.{chained_skip, chained_add}
@@ -105,7 +107,7 @@ module _ (nodes arguments heads order : List ℕ) (o : Nameable nodes arguments 
             (alike_was nodes arguments heads names news (same_names q (omega arith)) (same_names r (omega arith)) a)
 
   -- Before it, the nodes before p have their names, and the representatives among them are in the table.
-  module _ (names buckets earlier : List ℕ) (s : Naming nodes arguments heads order names buckets earlier p) where
+  module _ (names : List ℕ) (t : Applications) (s : Naming nodes arguments heads order names t p) where
     here : word order p < length names
     here =
         let l = s.readable.long in
@@ -115,13 +117,12 @@ module _ (nodes arguments heads order : List ℕ) (o : Nameable nodes arguments 
     named_same : (v : ℕ) → word (news names v) (word order p) ≡ v
     named_same v = get_or-set_same names (word order p) v 0 here
 
-    -- the place has its entry in the table
-    pub place_inside : (p < length earlier) × (p < max_nodes)
+    -- the place can stand in the table
+    pub place_inside : p < max_nodes
     place_inside =
         let h = order_short nodes arguments heads order o in
         let z = s.readable.sections.limit in
-        let y = s.earlier_long in
-        (omega (arith, h, z, y), omega (arith, h, z))
+        omega (arith, h, z)
 
     readable_next : (v : ℕ) → Readable nodes arguments heads (news names v)
     readable_next v =
@@ -133,21 +134,19 @@ module _ (nodes arguments heads order : List ℕ) (o : Nameable nodes arguments 
 
     -- what is not a representative leaves the table as it is
     naming_skip : (v : ℕ) → NamedHere names v → (Representative nodes order (news names v) p → ⊥) →
-        Naming nodes arguments heads order (news names v) buckets earlier (p + 1)
-    naming_skip v t n =
+        Naming nodes arguments heads order (news names v) t (p + 1)
+    naming_skip v here n =
         record {
           readable = readable_next v;
           ordered = o;
           whole = whole_kept names v s.whole;
-          buckets_long = s.buckets_long;
-          earlier_long = s.earlier_long;
-          named = named_next names v s.named t;
-          chained = chained_skip _ _ _ _ buckets earlier p (representative_kept names v) (representative_was names v) (key_at_kept names v) s.chained
+          named = named_next names v s.named here;
+          chained = chained_skip _ _ _ _ t p (representative_kept names v) (representative_was names v) (key_at_kept names v) s.chained
               n;
         }
 
     -- a variable is named by itself
-    naming_variable : kind_of nodes (word order p) ≡ 0 → Naming nodes arguments heads order (news names (word order p)) buckets earlier (p + 1)
+    naming_variable : kind_of nodes (word order p) ≡ 0 → Naming nodes arguments heads order (news names (word order p)) t (p + 1)
     naming_variable k =
         naming_skip (word order p)
         (record {
@@ -159,10 +158,9 @@ module _ (nodes arguments heads order : List ℕ) (o : Nameable nodes arguments 
 
     module _ (n : kind_of nodes (word order p) ≡ 0 → ⊥) where
       -- an application has the name of an earlier one that is alike
-      naming_found : (c b : ℕ) → Found nodes arguments heads order names p c → c ≡ suc b →
-          Naming nodes arguments heads order (news names (word order b)) buckets earlier (p + 1)
-      naming_found c b f e =
-          let u = f.found b e in
+      naming_found : (b : ℕ) → (b < p) × Representative nodes order names b × Alike nodes arguments heads names (word order b) (word order p) →
+          Naming nodes arguments heads order (news names (word order b)) t (p + 1)
+      naming_found b u =
           let same = same_names names (word order b) in
           let other : Representative nodes order (news names (word order b)) p → ⊥ =
           λ r. o.once b p u.0 inside (sym (named_same (word order b)) ∙ r.itself) in
@@ -180,19 +178,22 @@ module _ (nodes arguments heads order : List ℕ) (o : Nameable nodes arguments 
           })
           other
 
+      -- No representative before it is alike.
+      abbrev NoneAlike : Type 0
+      NoneAlike =
+          (q : ℕ) → q < p → Representative nodes order names q → Alike nodes arguments heads names (word order q) (word order p) → ⊥
+
       -- or is named by itself, and put into the table
-      naming_new : Found nodes arguments heads order names p 0 → (k : ℕ) → k ≡ key_of nodes arguments heads names (word order p) → k < keys →
-          Naming nodes arguments heads order (news names (word order p)) (set buckets k (p + 1)) (set earlier p (word buckets k)) (p + 1)
+      naming_new : NoneAlike → (k : ℕ) → k ≡ key_of nodes arguments heads names (word order p) → k < keys → Sizes t →
+          Naming nodes arguments heads order (news names (word order p)) (with_place t p k) (p + 1)
       unfolding key_at
-      naming_new f k e l =
+      naming_new f k e l z =
           let same = same_names names (word order p) in
           let itself : Representative nodes order (news names (word order p)) p = record { application = n; itself = named_same (word order p) } in
           record {
             readable = readable_next (word order p);
             ordered = o;
             whole = whole_kept names (word order p) s.whole;
-            buckets_long = length-set buckets k (p + 1) ∙ s.buckets_long;
-            earlier_long = length-set earlier p (word buckets k) ∙ s.earlier_long;
             named = named_next names (word order p) s.named (record {
               variable = λ z. named_same (word order p);
               application = λ z. record {
@@ -203,13 +204,13 @@ module _ (nodes arguments heads order : List ℕ) (o : Nameable nodes arguments 
                 alike = alike_same (word order p);
               };
               apart =
-                  λ q h x y a. f.nothing refl q h (representative_was names (word order p) q h x)
+                  λ q h x y a. f q h (representative_was names (word order p) q h x)
                   (alike_was nodes arguments heads names _ (same q (omega arith)) (same p (omega arith)) a);
             });
             chained =
-                chained_add _ _ _ _ buckets earlier p (representative_kept names (word order p)) (representative_was names (word order p))
+                chained_add _ _ _ _ t p (representative_kept names (word order p)) (representative_was names (word order p))
                 (key_at_kept names (word order p)) s.chained k itself
-                (key_kept nodes arguments heads names _ (word order p) (same p (omega arith)) ∙ sym e) l s.buckets_long place_inside.0;
+                (key_kept nodes arguments heads names _ (word order p) (same p (omega arith)) ∙ sym e) l z.latest z.earlier place_inside;
           }
 
     -- The same over the values that the code holds: node h, whether it is a variable, its key k and the cursor c.
@@ -229,32 +230,25 @@ module _ (nodes arguments heads order : List ℕ) (o : Nameable nodes arguments 
 
       module _ (r : Bool) (d : r ≡ eqb (kind_of nodes h) 0) where
         -- a variable
-        pub step_variable : r ≡ true → (ms : List ℕ) → ms ≡ set names h h → Naming nodes arguments heads order ms buckets earlier (p + 1)
+        pub step_variable : r ≡ true → (ms : List ℕ) → ms ≡ set names h h → Naming nodes arguments heads order ms t (p + 1)
         step_variable f ms g = rw (g, e) (naming_variable (rw e at (eqb-true (kind_of nodes h) 0 (sym d ∙ f))))
 
         module _ (f : r ≡ false) where
           applied : kind_of nodes (word order p) ≡ 0 → ⊥
           applied = rw e at (eqb-false (kind_of nodes h) 0 (sym d ∙ f))
 
-          module _ (c : ℕ) (t : Found nodes arguments heads order names p c) where
-            -- what is found is a node at a place
-            pub found_inside : (c ≡ 0 → ⊥) → (c - 1 < length order) × (word order (c - 1) < node_count nodes)
-            found_inside n =
-                let u = t.found (c - 1) (omega (arith, n)) in
-                let l : c - 1 < length order = omega (arith, u.0) in
-                (l, o.node (c - 1) l)
+          -- an application for which one is found
+          pub step_found : (b : ℕ) → (b < p) × Representative nodes order names b × Alike nodes arguments heads names (word order b) (word order p) →
+              (g : ℕ) → g ≡ word order b → (ms : List ℕ) → ms ≡ set names h g → Naming nodes arguments heads order ms t (p + 1)
+          step_found b u g a ms d = rw (d, e, a) (naming_found applied b u)
 
-            -- an application for which one is found
-            pub step_found : (c ≡ 0 → ⊥) → (g : ℕ) → g ≡ word order (c - 1) → (ms : List ℕ) → ms ≡ set names h g →
-                Naming nodes arguments heads order ms buckets earlier (p + 1)
-            step_found n g a ms b = rw (b, e, a) (naming_found applied c (c - 1) t (omega (arith, n)))
-
-            -- an application for which none is found
-            pub step_new : c ≡ 0 → (k : ℕ) → (k ≡ key_of nodes arguments heads names h) × (k < keys) → (ms bs ls : List ℕ) → ms ≡ set names h h →
-                bs ≡ set buckets k (p + 1) → ls ≡ set earlier p (word buckets k) → Naming nodes arguments heads order ms bs ls (p + 1)
-            step_new z k b ms bs ls x y w =
-                let a = key_given k b in
-                rw (x, y, w, e) (naming_new applied (rw z at t) k a.1 a.2)
+          -- an application for which none is found
+          pub step_new : ((q : ℕ) → q < p → Representative nodes order names q → Alike nodes arguments heads names (word order q) (word order p) → ⊥) →
+              (k : ℕ) → (k ≡ key_of nodes arguments heads names h) × (k < keys) → Sizes t → (ms : List ℕ) (u : Applications) →
+              ms ≡ set names h h → u ≡ with_place t p k → Naming nodes arguments heads order ms u (p + 1)
+          step_new m k b w ms u x y =
+              let a = key_given k b in
+              rw (x, y, e) (naming_new applied m k a.1 a.2 w)
 
 -- At the end every class is named.
 module _ (nodes arguments heads order names : List ℕ) (o : Nameable nodes arguments heads order) (t : Partition (node_count nodes) heads)
@@ -396,16 +390,9 @@ module _ (nodes arguments heads order names : List ℕ) (o : Nameable nodes argu
       like i (outside b) n = rw b.itself (alike_same (class_of heads i))
 
 -- so it is where the last place is passed
-pub naming_end : (nodes arguments heads order names buckets earlier : List ℕ) (p : ℕ) →
-    Naming nodes arguments heads order names buckets earlier p → p ≤ length order → length order ≤ p →
+pub naming_end : (nodes arguments heads order names : List ℕ) (t : Applications) (p : ℕ) → Naming nodes arguments heads order names t p →
+    p ≤ length order → length order ≤ p →
     NamedAlong nodes arguments heads order names
-naming_end nodes arguments heads order names buckets earlier p s l m =
+naming_end nodes arguments heads order names t p s l m =
     let e : p ≡ length order = omega arith in
     named_end nodes arguments heads order names s.ordered s.readable.partition s.whole (rw e at s.named)
-
--- one more number names itself
-pub itself_next : (names : List ℕ) (i : ℕ) → i < length names → ((k : ℕ) → k < i → word names k ≡ k) → (k : ℕ) → k < i + 1 →
-    word (set names i i) k ≡ k
-itself_next names i h s =
-    below_more (λ k. word (set names i i) k ≡ k) i (λ k l. get_or-set_other names i k i 0 (λ z. omega (arith, l, z)) ∙ s k l)
-    (get_or-set_same names i i 0 h)

@@ -11,7 +11,7 @@ use native.Mathlib.Omega.{arith}
 use borrow.Author.Tests.{eq-eqb, ne_eqb, eqb-true, eqb-false, not-true}
 use borrow.Author.Count.{below_more}
 use lib.Dec.{eqb}
-use lib.ListN.{length, set, take, drop, replicate, length-set, length-drop, length-replicate, get_or-replicate}
+use lib.ListN.{length, set, take, drop, length-set, length-drop}
 use lib.Seq.{get_or-set_same, get_or-set_other, get_or-take, get_or-drop, length-take-le}
 use Rattle.table.specs.Limits.{max_nodes}
 use Rattle.table.specs.Layout.{word, kind_of, count_of, node_count, argument_of}
@@ -22,11 +22,13 @@ use Rattle.unification.specs.Code.Sections.{Sections}
 use Rattle.unification.proofs.SectionLaws.{counted_application}
 use Rattle.nodes.specs.Code.Open.{IsClosed, closed_test, Counts, CountedAt, OpenListed, closed_head_test}
 use Rattle.nodes.specs.Code.Named.{Themselves}
-use Rattle.values.specs.Code.Naming.{keys, key_up_to, key_of, key_at, Representative, Chained}
+use Rattle.values.specs.declared.applications.Applications.{Applications}
+use Rattle.values.specs.Code.Applications.{keys, Sizes, IsEmpty, with_place, Chained}
+use Rattle.values.specs.Code.Naming.{key_up_to, key_of, key_at, Representative}
 use Rattle.values.specs.Code.Prepared.{Gathered, IsOpen, OpenBefore, CountNoted, none_looked_at, some_looked_at, ClosedNoted, ListsClosed}
 use Rattle.nodes.proofs.OpenLaws.{closed_true, closed_test_lem, looked_at}
 use Rattle.values.proofs.AlikeLaws.{key_kept}
-use Rattle.values.proofs.ChainLaws.{chained_add}
+use Rattle.values.proofs.ChainLaws.{chained_none, chained_add}
 use Rattle.values.proofs.CountLaws.{counts_none, counts_next, counts_kept, counts_end}
 
 -- how long a part of a list is
@@ -297,16 +299,10 @@ head_false nodes counts heads i e m =
     ))
 
 -- a closed application is noted by its key
-pub closed_noted : (nodes arguments heads names order buckets earlier : List ℕ) (place i k : ℕ) → k ≡ key_of nodes arguments heads names i →
-    {order' buckets' earlier' : List ℕ} → order' ≡ set order place i → buckets' ≡ set buckets k (place + 1) →
-    earlier' ≡ set earlier place (word buckets k) →
-    ClosedNoted nodes arguments heads names order buckets earlier place i order' buckets' earlier'
-closed_noted nodes arguments heads names order buckets earlier place i k e x y z =
-    record {
-      placed = x;
-      bucket = y ∙ ap (λ (j : ℕ). set buckets j (place + 1)) e;
-      chain = z ∙ ap (λ (j : ℕ). set earlier place (word buckets j)) e;
-    }
+pub closed_noted : (nodes arguments heads names order : List ℕ) (t : Applications) (place i k : ℕ) → k ≡ key_of nodes arguments heads names i →
+    Sizes t → {order' : List ℕ} {t' : Applications} → order' ≡ set order place i → t' ≡ with_place t place k →
+    ClosedNoted nodes arguments heads names order t place i order' t'
+closed_noted nodes arguments heads names order t place i k e z x y = record { sizes = z; placed = x; chained = y ∙ ap (with_place t place) e }
 
 -- a representative depends on the node at its place
 representative_same : (nodes l l' names : List ℕ) (q : ℕ) → word l' q ≡ word l q → Representative nodes l names q → Representative nodes l' names q
@@ -322,46 +318,30 @@ first_at : (n p : ℕ) (l : List ℕ) → p < n → word (take n l) p ≡ word l
 first_at n p l h = get_or-take n l p 0 h ∙ ap (word l) (let e : p ≡ 0 + p = omega arith in e)
 
 -- Of the nodes before node i, the closed applications with arguments that are heads are listed, and stand in the table.
-pub record ClosedBefore (nodes arguments counts heads order buckets earlier : List ℕ) (count i : ℕ) : Type 0 where
+pub record ClosedBefore (nodes arguments counts heads order : List ℕ) (t : Applications) (count i : ℕ) : Type 0 where
   pub order_long : length order ≡ max_nodes
-  pub buckets_long : length buckets ≡ keys
-  pub earlier_long : length earlier ≡ max_nodes
   pub gathered : Gathered (IsClosedHead nodes counts heads) 0 order count i
   pub chained : (names : List ℕ) → length names ≡ node_count nodes → Themselves names →
-      Chained (Representative nodes (take count order) names) (key_at nodes arguments heads (take count order) names) buckets earlier count
+      Chained (Representative nodes (take count order) names) (key_at nodes arguments heads (take count order) names) t count
 
 -- at first there are none
-pub closed_list_none : (nodes arguments counts heads order buckets earlier : List ℕ) → length order ≡ max_nodes → buckets ≡ replicate keys 0 →
-    length earlier ≡ max_nodes → ClosedBefore nodes arguments counts heads order buckets earlier 0 0
-closed_list_none nodes arguments counts heads order buckets earlier a z b =
+pub closed_list_none : (nodes arguments counts heads order : List ℕ) (t : Applications) → length order ≡ max_nodes → IsEmpty t →
+    ClosedBefore nodes arguments counts heads order t 0 0
+closed_list_none nodes arguments counts heads order t a e =
     record {
       order_long = a;
-      buckets_long = ap length z ∙ length-replicate {A = ℕ} keys 0;
-      earlier_long = b;
       gathered = gathered_none (IsClosedHead nodes counts heads) 0 order;
-      chained = λ names l t.
-          record {
-            bucket_reaches = λ q h. absurd (omega arith);
-            bucket_is = λ x c h e.
-                let y : word buckets x ≡ 0 = rw z (get_or-replicate {A = ℕ} keys x 0 0 h) in
-                absurd (omega (arith, e, y));
-            earlier_reaches = λ r q l h. absurd (omega arith);
-            earlier_is = λ q c h. absurd (omega arith);
-          };
+      chained = λ names l m. chained_none _ _ t e;
     }
 
-module _ (nodes arguments counts heads order buckets earlier : List ℕ) (count i : ℕ)
-    (o : ClosedBefore nodes arguments counts heads order buckets earlier count i) where
+module _ (nodes arguments counts heads order : List ℕ) (t : Applications) (count i : ℕ) (o : ClosedBefore nodes arguments counts heads order t count i) where
   -- a node that is none
-  pub closed_list_skip : (v : Bool) → v ≡ closed_head_test nodes counts heads i → v ≡ false → {order' buckets' earlier' : List ℕ} {count' : ℕ} →
-      order' ≡ order → buckets' ≡ buckets → earlier' ≡ earlier → count' ≡ count →
-      ClosedBefore nodes arguments counts heads order' buckets' earlier' count' (i + 1)
-  closed_list_skip v e f x y z w =
-      rw (x, y, z, w)
+  pub closed_list_skip : (v : Bool) → v ≡ closed_head_test nodes counts heads i → v ≡ false → {order' : List ℕ} {t' : Applications} {count' : ℕ} →
+      order' ≡ order → t' ≡ t → count' ≡ count → ClosedBefore nodes arguments counts heads order' t' count' (i + 1)
+  closed_list_skip v e f x y w =
+      rw (x, y, w)
       (record {
         order_long = o.order_long;
-        buckets_long = o.buckets_long;
-        earlier_long = o.earlier_long;
         gathered = gathered_skip (IsClosedHead nodes counts heads) 0 order count i o.gathered (head_false nodes counts heads i (sym e ∙ f));
         chained = o.chained;
       })
@@ -401,19 +381,18 @@ module _ (nodes arguments counts heads order buckets earlier : List ℕ) (count 
         ∙ sym (themselves.itself (class_of heads (argument_of nodes arguments i j)) (omega (arith, b, long))))
 
     -- one more is put into the table
-    chained_put : IsClosedHead nodes counts heads i → (names' : List ℕ) → length names' ≡ node_count nodes → Themselves names' →
+    chained_put : Sizes t → IsClosedHead nodes counts heads i → (names' : List ℕ) → length names' ≡ node_count nodes → Themselves names' →
         Chained (Representative nodes (take (count + 1) noted) names') (key_at nodes arguments heads (take (count + 1) noted) names')
-        (set buckets k (count + 1)) (set earlier count (word buckets k)) (count + 1)
+        (with_place t count k) (count + 1)
     unfolding key_at
-    chained_put c names' m t =
+    chained_put z c names' m u =
         chained_add (Representative nodes before names') (Representative nodes after names') (key_at nodes arguments heads before names')
-        (key_at nodes arguments heads after names') buckets earlier count
+        (key_at nodes arguments heads after names') t count
         (λ q b. representative_same nodes before after names' q (list_kept q b))
         (λ q b. representative_same nodes after before names' q (sym (list_kept q b)))
-        (λ q b. key_at_same nodes arguments heads before after names' q (list_kept q b)) (o.chained names' m t) k
-        (record { application = rw list_here c.is_closed.applied; itself = rw list_here (t.itself i (omega (arith, m, h))) })
-        (ap (key_of nodes arguments heads names') list_here ∙ one_key names' m t) (key_small nodes arguments heads names i) o.buckets_long
-        (let z = o.earlier_long in omega (arith, z, few))
+        (λ q b. key_at_same nodes arguments heads before after names' q (list_kept q b)) (o.chained names' m u) k
+        (record { application = rw list_here c.is_closed.applied; itself = rw list_here (u.itself i (omega (arith, m, h))) })
+        (ap (key_of nodes arguments heads names') list_here ∙ one_key names' m u) (key_small nodes arguments heads names i) z.latest z.earlier few
       where
         before : List ℕ
         before = take count order
@@ -422,26 +401,22 @@ module _ (nodes arguments counts heads order buckets earlier : List ℕ) (count 
         after = take (count + 1) noted
 
     -- one that is
-    pub closed_list_put : (v : Bool) → v ≡ closed_head_test nodes counts heads i → v ≡ true → (order₁ buckets₁ earlier₁ : List ℕ) →
-        ClosedNoted nodes arguments heads names order buckets earlier count i order₁ buckets₁ earlier₁ →
-        {order' buckets' earlier' : List ℕ} {count' : ℕ} → order' ≡ order₁ → buckets' ≡ buckets₁ → earlier' ≡ earlier₁ → count' ≡ count + 1 →
-        ClosedBefore nodes arguments counts heads order' buckets' earlier' count' (i + 1)
-    closed_list_put v e f order₁ buckets₁ earlier₁ d x y z w =
+    pub closed_list_put : (v : Bool) → v ≡ closed_head_test nodes counts heads i → v ≡ true → (order₁ : List ℕ) (t₁ : Applications) →
+        ClosedNoted nodes arguments heads names order t count i order₁ t₁ → {order' : List ℕ} {t' : Applications} {count' : ℕ} →
+        order' ≡ order₁ → t' ≡ t₁ → count' ≡ count + 1 → ClosedBefore nodes arguments counts heads order' t' count' (i + 1)
+    closed_list_put v e f order₁ t₁ d x y w =
         let c = head_true nodes counts heads i h (sym e ∙ f) in
-        rw (x, y, z, w, d.placed, d.bucket, d.chain)
+        rw (x, y, w, d.placed, d.chained)
         (record {
           order_long = length-set order count i ∙ o.order_long;
-          buckets_long = length-set buckets k (count + 1) ∙ o.buckets_long;
-          earlier_long = length-set earlier count (word buckets k) ∙ o.earlier_long;
           gathered = gathered_put (IsClosedHead nodes counts heads) 0 order count i o.gathered noted c noted_list noted_here;
-          chained = chained_put c;
+          chained = chained_put d.sizes c;
         })
 
 -- the closed applications of all nodes
-pub closed_list_all : (nodes arguments counts heads order buckets earlier : List ℕ) (count i n : ℕ) →
-    n ≡ node_count nodes → n ≤ max_nodes → i ≤ n → n ≤ i → ClosedBefore nodes arguments counts heads order buckets earlier count i →
-    ListsClosed nodes arguments counts heads count order buckets earlier
-closed_list_all nodes arguments counts heads order buckets earlier count i n e m a b o =
+pub closed_list_all : (nodes arguments counts heads order : List ℕ) (t : Applications) (count i n : ℕ) → n ≡ node_count nodes → n ≤ max_nodes →
+    i ≤ n → n ≤ i → ClosedBefore nodes arguments counts heads order t count i → ListsClosed nodes arguments counts heads count order t
+closed_list_all nodes arguments counts heads order t count i n e m a b o =
     record {
       few = few;
       listed = record {
@@ -459,11 +434,7 @@ closed_list_all nodes arguments counts heads order buckets earlier count i n e m
             let w = o.gathered.whole k (omega (arith, v)) (record { is_closed = c; compound = f; own = d }) in
             (w.0, rw long w.1, first_at count w.0 order w.1 ∙ w.2);
       };
-      chained = record {
-        buckets_long = o.buckets_long;
-        earlier_long = o.earlier_long;
-        chained = λ names h t. rw long (o.chained names h t);
-      };
+      chained = record { chained = λ names h m. rw long (o.chained names h m) };
     }
   where
     few : count ≤ max_nodes

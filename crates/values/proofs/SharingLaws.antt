@@ -1,10 +1,9 @@
 -- Heads that are the least nodes with their nodes' terms, node by node. Applications whose arguments have the same heads have one term, and
 -- the other way round, so that the head of an application is found in the table of those that are their own heads. Assumes nothing.
-use Prim.Native.Nat.{ℕ, zero, suc, ◌+◌, ◌-◌, ◌<◌, ◌≤◌}
-use mathlib.Core.Bool.{Bool, true, false}
+use Prim.Native.Nat.{ℕ, ◌+◌, ◌<◌, ◌≤◌}
 use mathlib.Core.List.{List}
 use mathlib.Core.Path.{◌≡◌, refl, sym, ap, ◌∙◌}
-use native.Mathlib.Decide.{ℕ_discrete, dec_lt}
+use native.Mathlib.Decide.{dec_lt}
 use native.Mathlib.Omega.{arith}
 use borrow.Author.Count.{below_more}
 use lib.ListN.{length, set, length-set, get_or-eq_default}
@@ -17,7 +16,9 @@ use Rattle.unification.specs.Code.Sections.{Sections}
 use Rattle.unification.proofs.NodeLaws.{each_long, each_at, each_equal, term_node}
 use Rattle.unification.proofs.SectionLaws.{run, is_node, variable_from, application_from, run_long, pair_place, sections_well_formed}
 use Rattle.nodes.specs.Code.Named.{value_name, Alike}
-use Rattle.values.specs.Code.Naming.{keys, key_of, Compared}
+use Rattle.values.specs.declared.applications.Applications.{Applications}
+use Rattle.values.specs.Code.Applications.{keys, Sizes, with_place, OnWay}
+use Rattle.values.specs.Code.Naming.{key_of}
 use Rattle.values.specs.Code.Start.{LeastOfTerm, HeadsBefore, OwnHead, Sharing}
 use Rattle.values.proofs.AlikeLaws.{key_same, key_alike}
 use Rattle.values.proofs.ChainLaws.{chained_skip, chained_add}
@@ -113,41 +114,36 @@ module _ (nodes arguments heads heads' : List ℕ) (i : ℕ) (b : HeadsBefore no
   own_was : (q : ℕ) → q < i → OwnHead nodes heads' q → OwnHead nodes heads q
   own_was q l o = record { applied = o.applied; itself = sym (same q l) ∙ o.itself }
 
-  module _ (buckets earlier : List ℕ) (s : Sharing nodes arguments heads buckets earlier i) (after : HeadsBefore nodes arguments heads' (i + 1)) where
+  module _ (t : Applications) (s : Sharing nodes arguments heads t i) (after : HeadsBefore nodes arguments heads' (i + 1)) where
     -- node i is not a head of the table
-    sharing_stays : (OwnHead nodes heads' i → ⊥) → Sharing nodes arguments heads' buckets earlier (i + 1)
+    sharing_stays : (OwnHead nodes heads' i → ⊥) → Sharing nodes arguments heads' t (i + 1)
     sharing_stays n =
         record {
           before = after;
-          buckets_long = s.buckets_long;
-          earlier_long = s.earlier_long;
           chained =
               chained_skip (OwnHead nodes heads) (OwnHead nodes heads') (key_of nodes arguments heads heads) (key_of nodes arguments heads' heads')
-              buckets earlier i own_kept own_was (λ q l. sharing_key q (omega arith)) s.chained n;
+              t i own_kept own_was (λ q l. sharing_key q (omega arith)) s.chained n;
         }
 
     -- it is one, whose key is k
-    sharing_adds : (k : ℕ) → OwnHead nodes heads' i → k ≡ key_of nodes arguments heads heads i → k < keys → i < node_count nodes →
-        Sharing nodes arguments heads' (set buckets k (i + 1)) (set earlier i (word buckets k)) (i + 1)
-    sharing_adds k o e l h =
-        let z = s.earlier_long in
+    sharing_adds : (k : ℕ) → OwnHead nodes heads' i → k ≡ key_of nodes arguments heads heads i → k < keys → i < node_count nodes → Sizes t →
+        Sharing nodes arguments heads' (with_place t i k) (i + 1)
+    sharing_adds k o e l h z =
         let y = b.sections.limit in
         record {
           before = after;
-          buckets_long = length-set buckets k (i + 1) ∙ s.buckets_long;
-          earlier_long = length-set earlier i (word buckets k) ∙ z;
           chained =
               chained_add (OwnHead nodes heads) (OwnHead nodes heads') (key_of nodes arguments heads heads) (key_of nodes arguments heads' heads')
-              buckets earlier i own_kept own_was (λ q l. sharing_key q (omega arith)) s.chained k o
-              (sharing_key i (omega arith) ∙ sym e) l s.buckets_long (omega (arith, z, y, h));
+              t i own_kept own_was (λ q l. sharing_key q (omega arith)) s.chained k o
+              (sharing_key i (omega arith) ∙ sym e) l z.latest z.earlier (omega (arith, y, h));
         }
 
 -- the table stays where node i is a variable
-pub sharing_skip : (nodes arguments heads heads' buckets earlier : List ℕ) (i : ℕ) → Sharing nodes arguments heads buckets earlier i →
+pub sharing_skip : (nodes arguments heads heads' : List ℕ) (t : Applications) (i : ℕ) → Sharing nodes arguments heads t i →
     HeadsBefore nodes arguments heads' (i + 1) → ((k : ℕ) → k < i → word heads' k ≡ word heads k) → kind_of nodes i ≡ 0 →
-    Sharing nodes arguments heads' buckets earlier (i + 1)
-sharing_skip nodes arguments heads heads' buckets earlier i s after same z =
-    sharing_stays nodes arguments heads heads' i s.before same buckets earlier s after (λ o. o.applied z)
+    Sharing nodes arguments heads' t (i + 1)
+sharing_skip nodes arguments heads heads' t i s after same z =
+    sharing_stays nodes arguments heads heads' i s.before same t s after (λ o. o.applied z)
 
 -- Application i, and the heads of the nodes before it.
 module _ (nodes arguments heads : List ℕ) (i : ℕ) (b : HeadsBefore nodes arguments heads i) (inside : i < node_count nodes) where
@@ -258,92 +254,36 @@ module _ (nodes arguments heads : List ℕ) (i : ℕ) (b : HeadsBefore nodes arg
           term_alike (word heads k) m t,
         )
 
--- On the way along the applications with key k that are their own heads: those with the key from cursor c on are not alike application i.
-pub record Seeking (nodes arguments heads : List ℕ) (i k c : ℕ) : Type 0 where
-  pub at : (b : ℕ) → c ≡ suc b → (b < i) × OwnHead nodes heads b × (key_of nodes arguments heads heads b ≡ k)
-  pub passed : (q : ℕ) → q < i → c ≤ q → OwnHead nodes heads q → key_of nodes arguments heads heads q ≡ k → Alike nodes arguments heads heads q i → ⊥
+-- The search for the head of application i, whose key is k.
+module _ (nodes arguments heads : List ℕ) (t : Applications) (i : ℕ) (s : Sharing nodes arguments heads t i) (k : ℕ) (l : i < node_count nodes)
+    (n : kind_of nodes i ≡ 0 → ⊥) where
+  -- a place on the way is a node before i
+  pub way_before : (q : ℕ) → OnWay t k q → q < i
+  way_before q w = (s.chained.only k q w).0
 
--- The search for the head of application i.
-module _ (nodes arguments heads buckets earlier : List ℕ) (i : ℕ) (s : Sharing nodes arguments heads buckets earlier i) where
-  -- the cursor starts at the last head with the key
-  pub seek_start : (k c : ℕ) → k < keys → c ≡ word buckets k → Seeking nodes arguments heads i k c
-  seek_start k c h d =
-      rw d (record {
-        at = λ b e. s.chained.bucket_is k b h e;
-        passed = λ q l m r e a.
-            let t : q < word buckets k = rw e at (s.chained.bucket_reaches q l r) in
-            omega (arith, t, m);
-      })
+  -- an application on it that is alike is the least node with the term of application i
+  pub way_least : (g : ℕ) → OnWay t k g → Alike nodes arguments heads heads g i → LeastOfTerm nodes arguments i g
+  way_least g w a =
+      let u = s.chained.only k g w in
+      let e = alike_term nodes arguments heads i s.before l n g u.0 u.1.applied a in
+      let h : LeastOfTerm nodes arguments g g = rw u.1.itself at (s.before.head g u.0) in
+      let b = u.0 in
+      record { low = omega (arith, b); same = e; least = λ q v y. least_low nodes arguments g g q h (y ∙ sym e) }
 
-  module _ (k c : ℕ) (t : Seeking nodes arguments heads i k c) where
-    module _ (n : c ≡ 0 → ⊥) (g : ℕ) (d : g ≡ c - 1) where
-      one_more : c ≡ suc g
-      one_more = omega (arith, n, d)
-
-      -- the cursor is at a node before i
-      pub seek_inside : i < node_count nodes → (g < i) × (g < length earlier)
-      seek_inside l =
-          let u = t.at g one_more in
-          let z = s.before.sections.limit in
-          let y = s.earlier_long in
-          (u.0, omega (arith, u.0, l, z, y))
-
-      -- it is not alike, and the cursor goes on to the one before it
-      pub seek_next : (r : Bool) → Compared nodes arguments heads heads g i r → r ≡ false → (b : ℕ) → b ≡ word earlier g →
-          Seeking nodes arguments heads i k b
-      seek_next r m f b e =
-          let u = t.at g one_more in
-          rw e (record {
-            at = λ x y.
-                let w = s.chained.earlier_is g x u.0 u.1 y in
-                (omega (arith, u.0, w.0), w.1, w.2 ∙ u.2);
-            passed = λ q l z o y a. past q l z o y a (dec_lt q g) (ℕ_discrete q g);
-          })
-        where
-          past : (q : ℕ) → q < i → word earlier g ≤ q → OwnHead nodes heads q → key_of nodes arguments heads heads q ≡ k →
-              Alike nodes arguments heads heads q i → Dec (q < g) → Dec (q ≡ g) → ⊥
-          past q l z o y a (yes h) v =
-              let u = t.at g one_more in
-              let w = s.chained.earlier_reaches q g h u.0 o u.1 (y ∙ sym u.2) in
-              omega (arith, w, z)
-          past q l z o y a (no h) (yes v) = m.different f (rw v at a)
-          past q l z o y a (no h) (no v) = let w = one_more in t.passed q l (omega (arith, h, v, w)) o y a
-
-      -- which stands before it
-      pub seek_less : (b : ℕ) → b ≡ word earlier g → b < c
-      seek_less b e = go b e
-        where
-          go : (b : ℕ) → b ≡ word earlier g → b < c
-          go zero e = omega (arith, n)
-          go (suc x) e =
-              let u = t.at g one_more in
-              let w = s.chained.earlier_is g x u.0 u.1 (sym e) in
-              omega (arith, w.0, n, d)
-
-      -- it is alike, so it is the least node with the term of application i
-      pub seek_found : i < node_count nodes → (kind_of nodes i ≡ 0 → ⊥) → (r : Bool) → Compared nodes arguments heads heads g i r → r ≡ true →
-          LeastOfTerm nodes arguments i g
-      seek_found l z r m f =
-          let u = t.at g one_more in
-          let e = alike_term nodes arguments heads i s.before l z g u.0 u.1.applied (m.alike f) in
-          let h : LeastOfTerm nodes arguments g g = rw u.1.itself at (s.before.head g u.0) in
-          let a = u.0 in
-          record { low = omega (arith, a); same = e; least = λ q v y. least_low nodes arguments g g q h (y ∙ sym e) }
-
-    -- no head is left, so it is application i itself
-    pub seek_nothing : i < node_count nodes → (kind_of nodes i ≡ 0 → ⊥) → k ≡ key_of nodes arguments heads heads i → c ≡ 0 →
-        LeastOfTerm nodes arguments i i
-    seek_nothing l n e z =
-        record {
-          low = omega arith;
-          same = refl;
-          least = λ q h y.
-              let r = head_alike_own nodes arguments heads i s.before l n q h y in
-              absurd (t.passed (word heads q) r.0 (omega arith) r.1 (key_alike r.2 ∙ sym e) r.2);
-        }
+  -- where none is alike, it is application i itself
+  pub way_itself : k ≡ key_of nodes arguments heads heads i → ((q : ℕ) → OnWay t k q → Alike nodes arguments heads heads q i → ⊥) →
+      LeastOfTerm nodes arguments i i
+  way_itself e f =
+      record {
+        low = omega arith;
+        same = refl;
+        least = λ q h y.
+            let r = head_alike_own nodes arguments heads i s.before l n q h y in
+            absurd (f (word heads q) (rw (e ∙ sym (key_alike r.2)) (s.chained.whole (word heads q) r.0 r.1)) r.2);
+      }
 
 -- Application i gets head h.
-module _ (nodes arguments heads buckets earlier : List ℕ) (i : ℕ) (s : Sharing nodes arguments heads buckets earlier i) (l : i < node_count nodes)
+module _ (nodes arguments heads : List ℕ) (t : Applications) (i : ℕ) (s : Sharing nodes arguments heads t i) (l : i < node_count nodes)
     (h : ℕ) (m : LeastOfTerm nodes arguments i h) where
   -- there is a place for it, and a head is its own
   pub share_inside : (i < length heads) × (length heads ≤ max_nodes) × (h ≤ i) × (h < i → word heads h ≡ h)
@@ -367,13 +307,13 @@ module _ (nodes arguments heads buckets earlier : List ℕ) (i : ℕ) (s : Shari
     here = rw e (get_or-set_same heads i h 0 share_inside.0)
 
     -- the head is another, and the table stays
-    pub share_other : (h ≡ i → ⊥) → Sharing nodes arguments heads' buckets earlier (i + 1)
+    pub share_other : (h ≡ i → ⊥) → Sharing nodes arguments heads' t (i + 1)
     share_other n =
-        sharing_stays nodes arguments heads heads' i s.before kept buckets earlier s after (λ o. n (sym here ∙ o.itself))
+        sharing_stays nodes arguments heads heads' i s.before kept t s after (λ o. n (sym here ∙ o.itself))
 
     -- it is node i, which is put into the table
-    pub share_own : h ≡ i → (kind_of nodes i ≡ 0 → ⊥) → (k : ℕ) → k ≡ key_of nodes arguments heads heads i → k < keys → (buckets' earlier' : List ℕ) →
-        buckets' ≡ set buckets k (i + 1) → earlier' ≡ set earlier i (word buckets k) → Sharing nodes arguments heads' buckets' earlier' (i + 1)
-    share_own d n k q r buckets' earlier' u v =
-        rw (u, v) (sharing_adds nodes arguments heads heads' i s.before kept buckets earlier s after k
-        (record { applied = n; itself = here ∙ d }) q r l)
+    pub share_own : h ≡ i → (kind_of nodes i ≡ 0 → ⊥) → (k : ℕ) → k ≡ key_of nodes arguments heads heads i → k < keys → Sizes t →
+        (t' : Applications) → t' ≡ with_place t i k → Sharing nodes arguments heads' t' (i + 1)
+    share_own d n k q r z t' u =
+        rw u (sharing_adds nodes arguments heads heads' i s.before kept t s after k
+        (record { applied = n; itself = here ∙ d }) q r l z)

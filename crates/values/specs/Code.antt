@@ -2,6 +2,7 @@
 pub mod Kept
 pub mod Present
 pub mod Start
+pub mod Applications
 pub mod Naming
 pub mod Prepared
 pub mod Begins

@@ -7,22 +7,22 @@ ghost use Rattle.unification.specs.Code.Sections.{Sections};
 ghost use Rattle.nodes.specs.Code.Circle.{CirclesBefore};
 ghost use Rattle.nodes.specs.Code.Open.{Counts, CountedAt, OpenListed};
 ghost use Rattle.nodes.specs.Code.Trail.{links, Trailed};
-ghost use Rattle.values.specs.Code.Naming.{keys, key_of, Compared};
+ghost use Rattle.values.specs.Code.Applications.{keys};
+ghost use Rattle.values.specs.Code.Naming.{key_of, Compared};
 ghost use Rattle.values.specs.Code.Present.{LeastBefore};
 ghost use Rattle.values.specs.Code.Prepared.{OpenBefore};
-ghost use Rattle.values.specs.Code.Start.{LeastOfTerm, HeadsBefore, Sharing, PutHead};
+ghost use Rattle.values.specs.Code.Start.{HeadsBefore, Sharing, PutHead};
 ghost use Rattle.values.specs.Code.Begins.{BeginsShared};
 ghost use Rattle.unification.specs.Node.{nodes_from};
 ghost use Rattle.unification.specs.Computed.Variables.{variables_of};
 
-use crate::names::{ARGUMENT_FACTOR, KEYS, NAME_FACTOR, chain};
+use crate::applications::Applications;
+use crate::names::{compare, longer_key, symbol_key};
 use crate::prepared::{LIST, note_count};
 use crate::present;
 use crate::present::VARIABLE_NAMES;
 use nodes::{lists, sections};
-use table::layout::index;
-use table::limits::MAX_NODES;
-use table::{Node, layout};
+use table::Node;
 
 // Gives node i a head, which is not after it, and puts it into the circle of that; the nodes before it have such heads and are in circles.
 fn put_head(heads: &mut [u8], next: &mut [u8], i: usize, h: usize)
@@ -78,15 +78,13 @@ fn look(nodes: &[u32], arguments: &[u32], heads: &[u8], counts: &[u8], node: Nod
     ensures counted_at { CountedAt nodes.now arguments.now counts.now node.0 result.count }
 {
     let n = sections::arity(nodes, arguments, node);
-    let mut key = (index(layout::name(nodes, node)) * NAME_FACTOR % 65536 / 256 + n) % KEYS;
+    let mut key = symbol_key(nodes, arguments, node);
     let mut closed = true;
-    let mut j: usize = 0;
-    while j < n {
+    for j in 0..n {
         let a = sections::argument(nodes, arguments, node, j);
         let h = lists::node_in(heads, a.0 as usize);
-        key = (key * ARGUMENT_FACTOR + index(h.0) + 1) % KEYS;
+        key = longer_key(key, h);
         closed = closed & sections::is_closed(nodes, counts, a);
-        j += 1;
     }
     if closed {
         return Looked { key, count: 0 };
@@ -102,69 +100,38 @@ fn alike(nodes: &[u32], arguments: &[u32], heads: &[u8], g: Node, h: Node) -> bo
     requires { HeadsBefore nodes.now arguments.now heads.now h.0 × (g.0 < h.0) × (h.0 < node_count nodes.now) }
     ensures { Compared nodes.now arguments.now heads.now heads.now g.0 h.0 result }
 {
-    if !sections::one_symbol(nodes, g, h) {
-        return false;
-    }
-    let n = sections::arity(nodes, arguments, g);
-    let mut j: usize = 0;
-    while j < n {
-        let x = sections::argument(nodes, arguments, g, j);
-        let y = sections::argument(nodes, arguments, h, j);
-        if heads[x.0 as usize] != heads[y.0 as usize] {
-            return false;
-        }
-        j += 1;
-    }
-    true
+    compare(
+        nodes,
+        arguments,
+        g,
+        h,
+        |a| lists::node_in(heads, a.0 as usize),
+    )
 }
 
-// The least node with the term of an application whose key is k: a head of the table that is alike, or the application itself.
-fn find(
-    nodes: &[u32],
-    arguments: &[u32],
-    heads: &[u8],
-    buckets: &[u16],
-    earlier: &[u16],
-    node: Node,
-    k: usize,
-) -> usize
-    requires sharing { Sharing nodes.now arguments.now heads.now buckets.now earlier.now node.0 }
-    requires node_bound { (node.0 < node_count nodes.now) × (kind_of nodes.now node.0 ≡ 0 → ⊥) × (k ≡ key_of nodes.now arguments.now heads.now heads.now node.0) × (k < keys) }
-    ensures { LeastOfTerm nodes.now arguments.now node.0 result }
-{
-    let mut cursor = lists::entry(buckets, k);
-    while cursor != 0 {
-        let g = cursor - 1;
-        if alike(nodes, arguments, heads, Node(g as u32), node) {
-            return g;
-        }
-        cursor = lists::entry(earlier, g);
-    }
-    node.0 as usize
-}
-
-// Gives node i, an application whose key is k, its head, and puts it into the table if it is its own.
+// Gives node i, an application whose key is k, its head: one of the table that is alike, or itself, which is then put into the table.
 fn share_application(
     nodes: &[u32],
     arguments: &[u32],
-    buckets: &mut [u16],
-    earlier: &mut [u16],
+    table: &mut Applications,
     heads: &mut [u8],
     next: &mut [u8],
     i: usize,
     k: usize,
 )
-    requires sharing { Sharing nodes.now arguments.now heads.old buckets.old earlier.old i × (i < node_count nodes.now) × (kind_of nodes.now i ≡ 0 → ⊥) }
+    requires sharing { Sharing nodes.now arguments.now heads.old table.old i × (i < node_count nodes.now) × (kind_of nodes.now i ≡ 0 → ⊥) }
     requires k_value { (k ≡ key_of nodes.now arguments.now heads.old heads.old i) × (k < keys) × CirclesBefore heads.old next.old i }
-    ensures sharing_2 { Sharing nodes.now arguments.now heads.new buckets.new earlier.new (i + 1) }
+    ensures sharing_2 { Sharing nodes.now arguments.now heads.new table.new (i + 1) }
     ensures circles_before { CirclesBefore heads.new next.new (i + 1) }
 {
     let node = Node(i as u32);
-    let h = find(nodes, arguments, heads, buckets, earlier, node, k);
-    put_head(heads, next, i, h);
-    if h == i {
-        chain(buckets, earlier, i, k);
+    let found = table.find(k, |g| alike(nodes, arguments, heads, Node(g as u32), node));
+    if let Some(h) = found {
+        put_head(heads, next, i, h);
+        return;
     }
+    put_head(heads, next, i, i);
+    table.put(i, k);
 }
 
 // How many open applications there are, and a number past every variable.
@@ -179,18 +146,17 @@ fn share_node(
     nodes: &[u32],
     arguments: &[u32],
     least: &mut [u16],
-    buckets: &mut [u16],
-    earlier: &mut [u16],
+    table: &mut Applications,
     heads: &mut [u8],
     next: &mut [u8],
     counts: &mut [u8],
     i: usize,
     counted: Counted,
 ) -> Counted
-    requires sharing { Sharing nodes.now arguments.now heads.old buckets.old earlier.old i × (i < node_count nodes.now) }
+    requires sharing { Sharing nodes.now arguments.now heads.old table.old i × (i < node_count nodes.now) }
     requires least_before { LeastBefore nodes.now least.old i counted.end × CirclesBefore heads.old next.old i }
     requires open_before { OpenBefore nodes.now arguments.now counts.old counts.old counted.opens i × (512 ≤ length counts.old) }
-    ensures sharing_2 { Sharing nodes.now arguments.now heads.new buckets.new earlier.new (i + 1) }
+    ensures sharing_2 { Sharing nodes.now arguments.now heads.new table.new (i + 1) }
     ensures least_before_2 { LeastBefore nodes.now least.new (i + 1) result.end × CirclesBefore heads.new next.new (i + 1) }
     ensures open_before_2 { OpenBefore nodes.now arguments.now counts.old counts.new result.opens (i + 1) }
 {
@@ -205,7 +171,7 @@ fn share_node(
     let looked = look(nodes, arguments, heads, counts, node);
     let k = looked.key;
     let count = looked.count;
-    share_application(nodes, arguments, buckets, earlier, heads, next, i, k);
+    share_application(nodes, arguments, table, heads, next, i, k);
     let opens = note_count(counts, i, count, before);
     Counted { opens, end: past }
 }
@@ -215,13 +181,12 @@ fn share_nodes(
     nodes: &[u32],
     arguments: &[u32],
     least: &mut [u16],
-    buckets: &mut [u16],
-    earlier: &mut [u16],
+    table: &mut Applications,
     heads: &mut [u8],
     next: &mut [u8],
     counts: &mut [u8],
 ) -> Counted
-    requires sharing { Sharing nodes.now arguments.now heads.old buckets.old earlier.old 0 × LeastBefore nodes.now least.old 0 0 }
+    requires sharing { Sharing nodes.now arguments.now heads.old table.old 0 × LeastBefore nodes.now least.old 0 0 }
     requires circles_before { CirclesBefore heads.old next.old 0 × (512 ≤ length counts.old) }
     ensures heads_before { HeadsBefore nodes.now arguments.now heads.new (node_count nodes.now) }
     ensures least_before { LeastBefore nodes.now least.new (node_count nodes.now) result.end × CirclesBefore heads.new next.new (node_count nodes.now) }
@@ -229,12 +194,10 @@ fn share_nodes(
 {
     let n = sections::node_count(nodes, arguments);
     let mut counted = Counted { opens: 0, end: 0 };
-    let mut i: usize = 0;
-    while i < n {
+    for i in 0..n {
         counted = share_node(
-            nodes, arguments, least, buckets, earlier, heads, next, counts, i, counted,
+            nodes, arguments, least, table, heads, next, counts, i, counted,
         );
-        i += 1;
     }
     counted
 }
@@ -266,17 +229,9 @@ pub fn begin_shared(
 {
     let n = sections::node_count(nodes, arguments);
     let mut least = [n as u16; VARIABLE_NAMES];
-    let mut buckets = [0u16; KEYS];
-    let mut earlier = [0u16; MAX_NODES];
+    let mut table = Applications::new();
     let counted = share_nodes(
-        nodes,
-        arguments,
-        &mut least,
-        &mut buckets,
-        &mut earlier,
-        heads,
-        next,
-        counts,
+        nodes, arguments, &mut least, &mut table, heads, next, counts,
     );
     let variables = present::list_variables(&least, n, counted.end, counts);
     Begun {

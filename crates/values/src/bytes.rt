@@ -6,9 +6,6 @@ pub fn put_bytes(from: &[u8], to: &mut [u8], at: usize)
     requires { at + length from.now ≤ length to.old }
     ensures { to.new ≡ take at to.old ++ from.now ++ drop (at + length from.now) to.old }
 {
-    let mut i: usize = 0;
-    while i < from.len() {
-        to[at + i] = from[i];
-        i += 1;
-    }
+    let n = from.len();
+    to[at..at + n].copy_from_slice(from);
 }

@@ -4,6 +4,9 @@
 
 pub mod bytes;
 
+// A table of applications by key.
+pub mod applications;
+
 // The variables present.
 mod present;
 

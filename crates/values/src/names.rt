@@ -1,23 +1,23 @@
 // Names for the values of classes. A class is named by a node with its value.
-ghost use Rattle.std.specs.Prelude.{◌≡◌, ◌+◌, ◌≤◌, ◌<◌, length, set};
+ghost use Rattle.std.specs.Prelude.{◌≡◌, ℕ, ◌+◌, ◌≤◌, ◌<◌, length, set};
 ghost use Rattle.table.specs.Limits.{max_nodes};
 ghost use Rattle.table.specs.Layout.{word, count_of, node_count, argument_of};
+ghost use Rattle.unification.specs.Code.Sections.{Sections};
 ghost use Rattle.nodes.specs.Code.Named.{value_name, Readable, Themselves};
-ghost use Rattle.values.specs.Code.Naming.{keys, key_of, Compared, Naming, NamedAlong, Found};
+ghost use Rattle.values.specs.Code.Applications.{keys};
+ghost use Rattle.values.specs.Code.Naming.{symbol_key, longer_key, key_of, ComparedBy, Compared, Naming, NamedAlong};
 
+use crate::applications::{Applications, KEYS};
 use nodes::{lists, sections};
 use table::layout::index;
 use table::{Node, layout};
 
-// How many keys the table of applications has.
-pub const KEYS: usize = 256;
-
 // 2^16 over the golden ratio: the upper eight of the 16 bits of a name's product with it spread names that lie at equal distances.
-pub const NAME_FACTOR: usize = 40503;
+const NAME_FACTOR: usize = 40503;
 
 // 2^8 over the golden ratio, about: the place of an argument counts in the key. One more than it is not a multiple of 4, so that terms
 // with the same argument twice have many keys.
-pub const ARGUMENT_FACTOR: usize = 157;
+const ARGUMENT_FACTOR: usize = 157;
 
 // The name of the value of argument j of a node.
 fn argument_name(
@@ -35,6 +35,24 @@ fn argument_name(
     lists::value_name(heads, names, sections::argument(nodes, arguments, h, j))
 }
 
+// The key of a node's symbol, to which its arguments are added.
+pub fn symbol_key(nodes: &[u32], arguments: &[u32], h: Node) -> usize
+    requires sections { Sections nodes.now arguments.now }
+    requires h_bound { h.0 < node_count nodes.now }
+    ensures { (result ≡ symbol_key nodes.now h.0) × (result < keys) }
+{
+    let n = sections::arity(nodes, arguments, h);
+    (index(layout::name(nodes, h)) * NAME_FACTOR % 65536 / 256 + n) % KEYS
+}
+
+// A key with one argument more, by the name of its value.
+pub fn longer_key(key: usize, name: Node) -> usize
+    requires { (key < keys) × (name.0 < max_nodes) }
+    ensures { (result ≡ longer_key key name.0) × (result < keys) }
+{
+    (key * ARGUMENT_FACTOR + index(name.0) + 1) % KEYS
+}
+
 // The key of a node in the table of applications.
 pub fn key(nodes: &[u32], arguments: &[u32], heads: &[u8], names: &[u8], h: Node) -> usize
     requires readable { Readable nodes.now arguments.now heads.now names.now }
@@ -42,14 +60,38 @@ pub fn key(nodes: &[u32], arguments: &[u32], heads: &[u8], names: &[u8], h: Node
     ensures { (result ≡ key_of nodes.now arguments.now heads.now names.now h.0) × (result < keys) }
 {
     let n = sections::arity(nodes, arguments, h);
-    let mut x = (index(layout::name(nodes, h)) * NAME_FACTOR % 65536 / 256 + n) % KEYS;
-    let mut j: usize = 0;
-    while j < n {
-        let name = argument_name(nodes, arguments, heads, names, h, j);
-        x = (x * ARGUMENT_FACTOR + index(name.0) + 1) % KEYS;
-        j += 1;
+    let mut x = symbol_key(nodes, arguments, h);
+    for j in 0..n {
+        x = longer_key(x, argument_name(nodes, arguments, heads, names, h, j));
     }
     x
+}
+
+// Whether two applications have one symbol and arguments of the same values, each of which has a name.
+pub fn compare<F: Fn(Node) -> Node>(
+    nodes: &[u32],
+    arguments: &[u32],
+    g: Node,
+    h: Node,
+    name: F,
+) -> bool
+    requires sections { Sections nodes.now arguments.now }
+    requires g_bound { (g.0 < node_count nodes.now) × (h.0 < node_count nodes.now) }
+    requires callable { (a : _) → a.0 < node_count nodes.now → F.pre name a }
+    ensures { (value : ℕ → ℕ) → ((a : _) (r : _) → F.post name a r → r.0 ≡ value a.0) → ComparedBy nodes.now arguments.now value g.0 h.0 result }
+{
+    if !sections::one_symbol(nodes, g, h) {
+        return false;
+    }
+    let n = sections::arity(nodes, arguments, g);
+    for j in 0..n {
+        let x = name(sections::argument(nodes, arguments, g, j));
+        let y = name(sections::argument(nodes, arguments, h, j));
+        if x != y {
+            return false;
+        }
+    }
+    true
 }
 
 // Whether two applications have one symbol and arguments with the same names.
@@ -58,48 +100,13 @@ fn alike(nodes: &[u32], arguments: &[u32], heads: &[u8], names: &[u8], g: Node, 
     requires g_bound { (g.0 < node_count nodes.now) × (h.0 < node_count nodes.now) }
     ensures { Compared nodes.now arguments.now heads.now names.now g.0 h.0 result }
 {
-    if !sections::one_symbol(nodes, g, h) {
-        return false;
-    }
-    let n = sections::arity(nodes, arguments, g);
-    let mut j: usize = 0;
-    while j < n {
-        let x = argument_name(nodes, arguments, heads, names, g, j);
-        let y = argument_name(nodes, arguments, heads, names, h, j);
-        if x.0 != y.0 {
-            return false;
-        }
-        j += 1;
-    }
-    true
-}
-
-// One more than the place of a representative that is alike the node at place p, whose key is k; 0 for none.
-fn find(
-    nodes: &[u32],
-    arguments: &[u32],
-    heads: &[u8],
-    order: &[u8],
-    names: &[u8],
-    buckets: &[u16],
-    earlier: &[u16],
-    p: usize,
-    k: usize,
-) -> usize
-    requires naming { Naming nodes.now arguments.now heads.now order.now names.now buckets.now earlier.now p }
-    requires p_in_bounds { (p < length order.now) × (k ≡ key_of nodes.now arguments.now heads.now names.now (word order.now p)) × (k < keys) }
-    ensures { Found nodes.now arguments.now heads.now order.now names.now p result }
-{
-    let h = lists::node_in(order, p);
-    let mut cursor = lists::entry(buckets, k);
-    while cursor != 0 {
-        let g = lists::node_in(order, cursor - 1);
-        if alike(nodes, arguments, heads, names, g, h) {
-            return cursor;
-        }
-        cursor = lists::entry(earlier, cursor - 1);
-    }
-    0
+    compare(
+        nodes,
+        arguments,
+        g,
+        h,
+        |a| lists::value_name(heads, names, a),
+    )
 }
 
 // Names each node by itself.
@@ -107,10 +114,8 @@ pub fn name_themselves(names: &mut [u8])
     requires { length names.old ≤ max_nodes }
     ensures { Themselves names.new }
 {
-    let mut i: usize = 0;
-    while i < names.len() {
-        names[i] = i as u8;
-        i += 1;
+    for (i, name) in names.iter_mut().enumerate() {
+        *name = i as u8;
     }
 }
 
@@ -123,15 +128,6 @@ fn put(names: &mut [u8], h: Node, name: Node)
     names[i] = name.0 as u8;
 }
 
-// Puts place p in front of the representatives with key k.
-pub fn chain(buckets: &mut [u16], earlier: &mut [u16], p: usize, k: usize)
-    requires { (k < length buckets.old) × (p < length earlier.old) × (p < max_nodes) }
-    ensures { (buckets.new ≡ set buckets.old k (p + 1)) × (earlier.new ≡ set earlier.old p (word buckets.old k)) }
-{
-    earlier[p] = buckets[k];
-    buckets[k] = (p + 1) as u16;
-}
-
 // Names the node at place p.
 fn name_node(
     nodes: &[u32],
@@ -139,13 +135,12 @@ fn name_node(
     heads: &[u8],
     order: &[u8],
     names: &mut [u8],
-    buckets: &mut [u16],
-    earlier: &mut [u16],
+    table: &mut Applications,
     p: usize,
 )
-    requires naming { Naming nodes.now arguments.now heads.now order.now names.old buckets.old earlier.old p }
+    requires naming { Naming nodes.now arguments.now heads.now order.now names.old table.old p }
     requires p_in_bounds { p < length order.now }
-    ensures { Naming nodes.now arguments.now heads.now order.now names.new buckets.new earlier.new (p + 1) }
+    ensures { Naming nodes.now arguments.now heads.now order.now names.new table.new (p + 1) }
 {
     let h = lists::node_in(order, p);
     if sections::is_variable(nodes, h) {
@@ -153,15 +148,16 @@ fn name_node(
         return;
     }
     let k = key(nodes, arguments, heads, names, h);
-    let cursor = find(
-        nodes, arguments, heads, order, names, buckets, earlier, p, k,
+    let found = table.find(
+        k,
+        |q| alike(nodes, arguments, heads, names, lists::node_in(order, q), h),
     );
-    if cursor != 0 {
-        put(names, h, lists::node_in(order, cursor - 1));
+    if let Some(q) = found {
+        put(names, h, lists::node_in(order, q));
         return;
     }
     put(names, h, h);
-    chain(buckets, earlier, p, k);
+    table.put(p, k);
 }
 
 // Names the nodes of an order from place `start` on; those before it are named, and stand in the table.
@@ -172,16 +168,13 @@ pub fn name_all(
     order: &[u8],
     start: usize,
     names: &mut [u8],
-    buckets: &mut [u16],
-    earlier: &mut [u16],
+    table: &mut Applications,
 )
-    requires naming { Naming nodes.now arguments.now heads.now order.now names.old buckets.old earlier.old start }
+    requires naming { Naming nodes.now arguments.now heads.now order.now names.old table.old start }
     requires start_in_bounds { start ≤ length order.now }
     ensures { NamedAlong nodes.now arguments.now heads.now order.now names.new }
 {
-    let mut p = start;
-    while p < order.len() {
-        name_node(nodes, arguments, heads, order, names, buckets, earlier, p);
-        p += 1;
+    for p in start..order.len() {
+        name_node(nodes, arguments, heads, order, names, table, p);
     }
 }

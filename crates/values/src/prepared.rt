@@ -1,14 +1,15 @@
 // What no pair changes: how many arguments of each node are looked at, the open applications, and a table of the closed ones.
-ghost use Rattle.std.specs.Prelude.{◌≡◌, ◌≤◌, ◌<◌, length, replicate};
+ghost use Rattle.std.specs.Prelude.{◌≡◌, ◌≤◌, ◌<◌, length};
 ghost use Rattle.table.specs.Limits.{max_nodes};
 ghost use Rattle.table.specs.Layout.{node_count};
 ghost use Rattle.unification.specs.Code.Sections.{Sections};
 ghost use Rattle.nodes.specs.Code.Open.{Counts, closed_head_test};
 ghost use Rattle.nodes.specs.Code.Named.{Readable, Themselves};
-ghost use Rattle.values.specs.Code.Naming.{keys};
+ghost use Rattle.values.specs.Code.Applications.{IsEmpty};
 ghost use Rattle.values.specs.Code.Prepared.{CountNoted, ClosedNoted, ListsClosed};
 ghost use Rattle.nodes.specs.Code.Formed.{Formed};
 
+use crate::applications::Applications;
 use crate::names;
 use nodes::sections;
 use table::Node;
@@ -52,19 +53,18 @@ fn note_closed(
     heads: &[u8],
     names: &[u8],
     order: &mut [u8],
-    buckets: &mut [u16],
-    earlier: &mut [u16],
+    table: &mut Applications,
     place: usize,
     i: usize,
 )
     requires readable { Readable nodes.now arguments.now heads.now names.now }
     requires i_bound { (i < node_count nodes.now) × (place < max_nodes) }
-    requires order_len { (length order.old ≡ max_nodes) × (length buckets.old ≡ keys) × (length earlier.old ≡ max_nodes) }
-    ensures { ClosedNoted nodes.now arguments.now heads.now names.now order.old buckets.old earlier.old place i order.new buckets.new earlier.new }
+    requires order_len { length order.old ≡ max_nodes }
+    ensures { ClosedNoted nodes.now arguments.now heads.now names.now order.old table.old place i order.new table.new }
 {
     let k = names::key(nodes, arguments, heads, names, Node(i as u32));
     order[place] = i as u8;
-    names::chain(buckets, earlier, place, k);
+    table.put(place, k);
 }
 
 // Puts the closed applications that are heads and have arguments in front of an order, with a table of them. Each node is named by itself.
@@ -75,26 +75,21 @@ pub fn list_closed(
     heads: &[u8],
     names: &[u8],
     order: &mut [u8],
-    buckets: &mut [u16],
-    earlier: &mut [u16],
+    table: &mut Applications,
 ) -> usize
     requires sections { Sections nodes.now arguments.now × Counts nodes.now arguments.now counts.now (node_count nodes.now) }
     requires formed { Formed nodes.now arguments.now counts.now heads.now }
     requires names_len { (length names.now ≡ node_count nodes.now) × Themselves names.now }
-    requires order_len { (length order.old ≡ max_nodes) × (buckets.old ≡ replicate keys 0) × (length earlier.old ≡ max_nodes) }
-    ensures { ListsClosed nodes.now arguments.now counts.now heads.now result order.new buckets.new earlier.new }
+    requires order_len { (length order.old ≡ max_nodes) × IsEmpty table.old }
+    ensures { ListsClosed nodes.now arguments.now counts.now heads.now result order.new table.new }
 {
     let n = sections::node_count(nodes, arguments);
     let mut count: usize = 0;
-    let mut i: usize = 0;
-    while i < n {
+    for i in 0..n {
         if is_closed_head(nodes, arguments, counts, heads, i) {
-            note_closed(
-                nodes, arguments, heads, names, order, buckets, earlier, count, i,
-            );
+            note_closed(nodes, arguments, heads, names, order, table, count, i);
             count += 1;
         }
-        i += 1;
     }
     count
 }

@@ -63,10 +63,8 @@ pub fn note_variables(nodes: &[u32], arguments: &[u32], least: &mut [u16]) -> us
 {
     let n = sections::node_count(nodes, arguments);
     let mut end: usize = 0;
-    let mut i: usize = 0;
-    while i < n {
+    for i in 0..n {
         end = note_variable(nodes, arguments, least, i, end);
-        i += 1;
     }
     end
 }
@@ -92,10 +90,8 @@ pub fn list_variables(least: &[u16], n: usize, end: usize, counts: &mut [u8]) ->
     ensures { ListsPresent least.now n counts.old result counts.new }
 {
     let mut count: usize = 0;
-    let mut x: usize = 0;
-    while x < end {
+    for x in 0..end {
         count = keep_variable(least, n, counts, count, x);
-        x += 1;
     }
     count
 }

@@ -9,10 +9,12 @@ use borrow.Author.Tests.{eqb-true, eq-eqb}
 use lib.Dec.{eqb}
 use lib.ListN.{length, take, drop, length-map, length-append}
 use lib.Seq.{length-take-le, take-take, take-add, drop_at, get_or-take}
+use Rattle.std.specs.Prelude.{Result, Ok, Err}
 use Rattle.table.specs.Layout.{word}
 use Rattle.unification.specs.Node.{nodes_from}
 use Rattle.unification.specs.Computed.Unifying.{words_of}
 use Rattle.multiset_unification.specs.Computed.Choices.{branch}
+use Rattle.entries.specs.declared.writing.Full.{Full}
 use Rattle.entries.specs.Code.Writing.{full, Writes, marked, right_entries, Least}
 use Rattle.entries.proofs.WritingLaws.{writes_none, none_fits}
 use Rattle.branches.specs.Code.Known.{left_count, right_count, left_labels, every_in}
@@ -80,7 +82,7 @@ module _ {nodes arguments known heads entry out : List ℕ} {paired at : ℕ} (g
 
   -- without left labels, a right term without a partner leaves no entry
   leaf_none : left_labels known ≡ 0 → (paired ≡ every_in known → ⊥) → (least : ℕ) →
-      Walked nodes arguments known heads entry out (left_count known) least at entry out at
+      Walked nodes arguments known heads entry out (left_count known) least at entry out (Ok at)
   leaf_none z n least = record { writes = λ ps q. rw (string_entries_lem least ps, none) (writes_none out at g.room); keeps = keeps_itself }
     where
       none : marked (left_labels known) (marks_in known entry) ≡ []
@@ -90,7 +92,7 @@ module _ {nodes arguments known heads entry out : List ℕ} {paired at : ℕ} (g
 
   -- so the code tests it: k and `every` are read from what is known
   pub leaf_unpaired : (k every : ℕ) → k ≡ left_labels known → every ≡ every_in known → eqb k 0 && not (eqb paired every) ≡ true → (least : ℕ) →
-      Walked nodes arguments known heads entry out (left_count known) least at entry out at
+      Walked nodes arguments known heads entry out (left_count known) least at entry out (Ok at)
   leaf_unpaired k every d e h = let n = labels_none k paired every h in leaf_none (sym d ∙ n.0) (λ z. n.1 (z ∙ sym e))
 
   pub leaf_paired : (k every : ℕ) → k ≡ left_labels known → every ≡ every_in known → eqb k 0 && not (eqb paired every) ≡ false →
@@ -105,7 +107,7 @@ module _ {nodes arguments known heads entry out : List ℕ} {paired at : ℕ} (g
 
     -- where the first entry does not fit, none does
     pub leaf_full : length out - at < length entry → (least : ℕ) →
-        Walked nodes arguments known heads entry out (left_count known) least at entry out full
+        Walked nodes arguments known heads entry out (left_count known) least at entry out (Err full)
     unfolding below
     leaf_full h least =
         record {
@@ -177,7 +179,7 @@ module _ {nodes arguments known heads entry out : List ℕ} {paired at : ℕ} (g
           }
 
       -- and those are written
-      leaf_written : {out' : List ℕ} {r : ℕ} → Writes
+      leaf_written : {out' : List ℕ} {r : Result ℕ Full} → Writes
           (right_entries (left_labels known) entry₁ (left_count known) (left_count known + right_count known))
           out at out' r →
           (least : ℕ) → Walked nodes arguments known heads entry out (left_count known) least at entry₁ out' r
@@ -196,6 +198,6 @@ module _ {nodes arguments known heads entry out : List ℕ} {paired at : ℕ} (g
         pub read_least : Least k entry₁ n (n + m)
         read_least = rw (d, e, f) leaf_least
 
-        pub read_written : {out' : List ℕ} {r : ℕ} → Writes (right_entries k entry₁ n (n + m)) out at out' r →
+        pub read_written : {out' : List ℕ} {r : Result ℕ Full} → Writes (right_entries k entry₁ n (n + m)) out at out' r →
             (least : ℕ) → Walked nodes arguments known heads entry out (left_count known) least at entry₁ out' r
         read_written y = leaf_written (rw (d, e, f) at y)

@@ -12,6 +12,7 @@ use borrow.Author.Tests.{eqb-true, eqb-false, ne_eqb}
 use lib.Dec.{eqb}
 use lib.ListN.{length, take, drop, set, length-set, length-drop, length-append}
 use lib.Seq.{length-take-le, drop-cons}
+use Rattle.std.specs.Prelude.{Result, Ok, Err}
 use Rattle.table.specs.Layout.{word, node_count}
 use Rattle.unification.specs.Node.{nodes_from}
 use Rattle.unification.specs.Outcome.{unified}
@@ -21,14 +22,15 @@ use Rattle.unification.specs.Code.Given.{WellFormed, Inside}
 use Rattle.unification.proofs.SectionLaws.{sections_well_formed}
 use Rattle.values.proofs.LeastLaws.{least_long}
 use Rattle.nodes.specs.Code.Formed.{Formed}
-use Rattle.nodes.specs.Code.Trail.{links, gone, Since, ComesFrom}
-use Rattle.classes.proofs.TrailLaws.{merges_trailed, merges_since, merges_back}
+use Rattle.nodes.specs.Code.Trail.{gone, ComesFrom}
+use Rattle.classes.proofs.TrailLaws.{merges_trailed, merges_back}
+use Rattle.entries.specs.declared.writing.Full.{Full}
 use Rattle.entries.specs.Code.Writing.{full, Writes, Remains, Block, repeated}
-use Rattle.entries.proofs.WritingLaws.{remains_whole, remains_next, remains_full, writes_none, writes_room, writes_block, repeat_writes}
+use Rattle.entries.proofs.WritingLaws.{remains_whole, remains_next, remains_full, writes_none, writes_long, writes_room, writes_block, repeat_writes}
 use Rattle.branches.specs.Code.Known.{left_count, right_count, left_labels, right_labels, width_in, left_in, right_in, list_in, KnownOf}
 use Rattle.branches.specs.Code.Ahead.{has, bit_at, completes_from, MayPair, PairedSet}
 use Rattle.branches.specs.Code.Branch.{JoinsPair, IsOpen, may, struck, taken, lost}
-use Rattle.branches.specs.Code.Walk.{over, if_unified, below, string_entries, Pairing, marks_in, KeepsBranch, digit_entries, digits_from, branch_entries, Walking, Walked, Stepped, SteppedFrom, Ending, Turning}
+use Rattle.branches.specs.Code.Walk.{over, if_unified, below, string_entries, Pairing, marks_in, KeepsBranch, digit_entries, digits_from, branch_entries, Walking, Walked, Stepped, SteppedFrom, Turning}
 use Rattle.branches.proofs.OverLaws.{over_none, digit_empty, digit_label, digit_pair, over_next, over_end, over_within}
 use Rattle.branches.proofs.BelowLaws.{below_long}
 use Rattle.branches.proofs.BlockLaws.{labels_repeated}
@@ -36,7 +38,7 @@ use Rattle.branches.proofs.SetLaws.{paired_more, unpaired_not}
 use Rattle.branches.proofs.KnownLaws.{left_long, right_long, left_word, right_word}
 use Rattle.branches.proofs.CompleteLaws.{never_unified, below_cannot}
 use Rattle.branches.proofs.PairLaws.{pair_inside, pair_partners, pair_answers, pair_pairing}
-use Rattle.branches.proofs.BranchLaws.{keeps_itself, keeps_again, branch_room, marks_long, digits_long, branching_kept, digits_next, branching_label, set_marks, pair_digits, pair_marks, free_mark, branching_pair, pair_back, label_back}
+use Rattle.branches.proofs.BranchLaws.{keeps_itself, keeps_again, marks_long, digits_long, branching_kept, digits_next, branching_label, set_marks, pair_digits, pair_marks, free_mark, branching_pair, pair_back, label_back}
 
 -- there is a word for each variable
 pub variables_long : {nodes arguments known : List ℕ} → KnownOf nodes arguments known →
@@ -87,21 +89,8 @@ branch_digits nodes arguments known entry i least ps h = rw (ne_eqb i (left_coun
 
 module _ {nodes arguments known can heads next entry out : List ℕ} {i least paired at : ℕ}
     (g : Walking nodes arguments known can heads next entry out i least paired at) where
-  -- every left term has its digit
-  pub all_placed : i ≡ left_count known → Ending nodes arguments known heads entry out paired at
-  all_placed e =
-      record {
-        knows = g.knows;
-        formed = g.formed;
-        pairs = g.pairs;
-        standing = g.pairing.standing;
-        branching = rw e at g.branching;
-        wide = g.wide;
-        room = g.room;
-      }
-
-  -- so that the walk has what its end has
-  pub placed_walked : i ≡ left_count known → {entry' out' : List ℕ} {r : ℕ} →
+  -- where every left term has its digit, the walk has what its end has
+  pub placed_walked : i ≡ left_count known → {entry' out' : List ℕ} {r : Result ℕ Full} →
       ((l : ℕ) → Walked nodes arguments known heads entry out (left_count known) l at entry' out' r) →
       Walked nodes arguments known heads entry out i least at entry' out' r
   placed_walked e w = rw e (w least)
@@ -109,10 +98,6 @@ module _ {nodes arguments known can heads next entry out : List ℕ} {i least pa
   -- or there is a next one
   pub going_on : (i ≡ left_count known → ⊥) → i < left_count known
   going_on n = omega (arith, n, g.branching.depth)
-
-  -- how many heads have gone can be read
-  pub mark_room : 256 < length next
-  mark_room = omega (arith, g.trailed.size)
 
   -- the nodes are well formed
   formed_nodes : WellFormed (nodes_from nodes arguments)
@@ -128,7 +113,7 @@ module _ {nodes arguments known can heads next entry out : List ℕ} {i least pa
   module _ (h : i < left_count known) where
     -- where the digit has no entry, nothing is to be done
     stepped_none : (d : ℕ) → ((ps : List (ℕ × ℕ)) → Pairing nodes arguments known heads ps → digit_entries nodes arguments known entry i ps d ≡ []) →
-        Stepped nodes arguments known heads entry out i d at entry out at
+        Stepped nodes arguments known heads entry out i d at entry out (Ok at)
     stepped_none d e = record { writes = λ ps p. rw (e ps p) (writes_none out at g.room); keeps = keeps_itself }
 
     -- where a bit is 0, the left terms after this one cannot be placed
@@ -191,7 +176,7 @@ module _ {nodes arguments known can heads next entry out : List ℕ} {i least pa
 
       -- left terms that may not take the right term have no entry with it
       pub closed_stepped : {r : Bool} → IsOpen known can i least paired r → r ≡ false →
-          Stepped nodes arguments known heads entry out i least at entry out at
+          Stepped nodes arguments known heads entry out i least at entry out (Ok at)
       closed_stepped (may x y z) e = absurd (false≢true (sym e))
       closed_stepped (struck x) e =
           stepped_none least (λ ps q. pair_empty ps (λ z u. absurd (never_unified (nodes_from nodes arguments) formed_nodes ps a b
@@ -232,7 +217,8 @@ module _ {nodes arguments known can heads next entry out : List ℕ} {i least pa
         joined_unified ps q = pair_answers g.knows a_node b_node x ps q.standing
 
         -- where it is not, there is no entry, and the classes are as before
-        pub failed_stepped : r ≡ false → Stepped nodes arguments known heads entry out i least at entry out at × ((heads' ≡ heads) × (next' ≡ next))
+        pub failed_stepped : r ≡ false →
+            Stepped nodes arguments known heads entry out i least at entry out (Ok at) × ((heads' ≡ heads) × (next' ≡ next))
         failed_stepped e =
             (stepped_none least (λ ps q. pair_empty ps (λ z u. absurd (false≢true (sym e ∙ (joined_unified ps q).1 u)))), x.failed e)
 
@@ -284,7 +270,7 @@ module _ {nodes arguments known can heads next entry out : List ℕ} {i least pa
                 ∙ x₁ ∙ x₂
 
             -- so that they are written; the mark is put back
-            pub joined_stepped : {entry' out' : List ℕ} {w : ℕ} → Walked nodes arguments known heads' entry₁ out (i + 1) 1 at entry' out' w →
+            pub joined_stepped : {entry' out' : List ℕ} {w : Result ℕ Full} → Walked nodes arguments known heads' entry₁ out (i + 1) 1 at entry' out' w →
                 {entry'' : List ℕ} → entry'' ≡ set entry' (left_count known + least - 1) 1 →
                 Stepped nodes arguments known heads entry out i least at entry'' out' w
             joined_stepped y u =
@@ -293,25 +279,8 @@ module _ {nodes arguments known can heads next entry out : List ℕ} {i least pa
                   keeps = pair_back g.knows g.branching h least p l f (rw z at y.keeps) u;
                 }
 
-            -- the place of the mark is in the entry
-            pub mark_inside : {n : ℕ} → n ≡ length entry₁ → left_count known + least ≤ n
-            mark_inside y = omega (
-              arith,
-              y,
-              ap length z,
-              length-set (set entry i least) (left_count known + least - 1) 0,
-              length-set entry i least,
-              branch_room g.knows g.branching,
-              p,
-              l,
-            )
-
           -- after the walk the classes are the same, and the joins can be undone
           module _ {heads'' next'' : List ℕ} (s : (heads'' ≡ heads') × (next'' ≡ next')) where
-            -- there are classes to go back to
-            pub joins_since : Since (length heads'') (gone next) heads'' next'' × (length next'' ≡ links)
-            joins_since = rw (s.0, s.1) (merges_since g.trailed joined_formed.partition.size x.merges)
-
             -- these are the classes before the joins
             pub joins_undone : {heads₁ next₁ : List ℕ} → ComesFrom (length heads'') (gone next) heads₁ next₁ heads'' next'' →
                 (heads₁ ≡ heads) × (next₁ ≡ next)
@@ -334,16 +303,17 @@ module _ {nodes arguments known can heads next entry out : List ℕ} {i least pa
 
       -- where no digit from it on has an entry, nothing is to be done
       from_none : ((ps : List (ℕ × ℕ)) → Pairing nodes arguments known heads ps → digits_from nodes arguments known entry i ps least ≡ []) →
-          SteppedFrom nodes arguments known heads entry out i least at entry out at
+          SteppedFrom nodes arguments known heads entry out i least at entry out (Ok at)
       from_none e = record { writes = λ ps q. rw (e ps q) (writes_none out at g.room); keeps = keeps_itself }
 
       -- there is no such label
-      pub none_stepped : right_count known + right_labels known < least → SteppedFrom nodes arguments known heads entry out i least at entry out at
+      pub none_stepped : right_count known + right_labels known < least →
+          SteppedFrom nodes arguments known heads entry out i least at entry out (Ok at)
       none_stepped q = from_none (λ ps y. over_end (λ e. digit_entries nodes arguments known entry i ps e) least
           (suc (right_count known + right_labels known)) (omega (arith, q)))
 
       -- the left terms after it cannot be placed
-      pub lost_stepped : bit_at can i paired ≡ false → SteppedFrom nodes arguments known heads entry out i least at entry out at
+      pub lost_stepped : bit_at can i paired ≡ false → SteppedFrom nodes arguments known heads entry out i least at entry out (Ok at)
       lost_stepped e =
           from_none (λ ps q.
           over_none least (suc (right_count known + right_labels known) - least) (λ d. digit_entries nodes arguments known entry i ps d)
@@ -417,58 +387,53 @@ module _ {nodes arguments known can heads next entry out : List ℕ} {i least pa
                 h,
               )
 
-          module _ {entry' out' : List ℕ} {w : ℕ} (y : Walked nodes arguments known heads entry₁ out (i + 1) 1 at entry' out' w) where
+          module _ {entry' out' : List ℕ} {r : Result ℕ Full} (y : Walked nodes arguments known heads entry₁ out (i + 1) 1 at entry' out' r) where
             -- the entries of the first label are written
-            first_written : (ps : List (ℕ × ℕ)) → Pairing nodes arguments known heads ps → Writes (label_below ps least) out at out' w
+            first_written : (ps : List (ℕ × ℕ)) → Pairing nodes arguments known heads ps → Writes (label_below ps least) out at out' r
             first_written ps q = rw (label_below_lem ps) (y.writes ps q)
 
             kept : KeepsBranch known i entry entry'
             kept = label_back g.knows g.branching h least (rw z at y.keeps)
 
-            -- one of them does not fit
-            pub label_full : length out < full → w ≡ full → SteppedFrom nodes arguments known heads entry out i least at entry' out' full
-            label_full b e =
+          -- one of them does not fit
+          pub label_full : {entry' out' : List ℕ} {f : Full} → Walked nodes arguments known heads entry₁ out (i + 1) 1 at entry' out' (Err f) →
+              SteppedFrom nodes arguments known heads entry out i least at entry' out' (Err full)
+          label_full y =
+              record {
+                writes = λ ps q. rw (labels_entries ps) (remains_full (label_below ps least)
+                    (repeated i (least + 1) (right_count known + right_labels known - least) (label_below ps least))
+                    (remains_whole (label_below ps least ++ repeated i (least + 1) (right_count known + right_labels known - least)
+                    (label_below ps least)) out at g.room) (first_written y ps q));
+                keeps = kept y;
+              }
+
+          -- all of them fit
+          module _ {entry' out' : List ℕ} {w : ℕ} (y : Walked nodes arguments known heads entry₁ out (i + 1) 1 at entry' out' (Ok w)) where
+            -- there is no other label
+            pub labels_one : least ≡ right_count known + right_labels known →
+                SteppedFrom nodes arguments known heads entry out i least at entry' out' (Ok w)
+            unfolding repeated
+            labels_one e =
+                let z₀ : right_count known + right_labels known - least ≡ 0 = omega (arith, e) in
                 record {
-                  writes = λ ps q. rw (labels_entries ps) (remains_full (label_below ps least)
-                      (repeated i (least + 1) (right_count known + right_labels known - least) (label_below ps least))
-                      (remains_whole (label_below ps least ++ repeated i (least + 1) (right_count known + right_labels known - least)
-                      (label_below ps least)) out at g.room) b out' w (first_written ps q) e);
-                  keeps = kept;
+                  writes = λ ps q. rw (labels_entries ps, z₀, append-nil (label_below ps least)) (first_written y ps q);
+                  keeps = kept y;
                 }
 
-            -- all of them fit
-            module _ (n : w ≡ full → ⊥) where
-              -- where they end
-              pub label_room : (at ≤ w) × (w ≤ length out')
-              label_room =
-                  let r = writes_room g.room (first_written g.pairs g.pairing) in
-                  let s = r.1 n in
-                  (s.0, omega (arith, r.0, s.1))
-
-              -- there is no other label
-              pub labels_one : least ≡ right_count known + right_labels known →
-                  SteppedFrom nodes arguments known heads entry out i least at entry' out' w
-              unfolding repeated
-              labels_one e =
-                  let z₀ : right_count known + right_labels known - least ≡ 0 = omega (arith, e) in
-                  record {
-                    writes = λ ps q. rw (labels_entries ps, z₀, append-nil (label_below ps least)) (first_written ps q);
-                    keeps = kept;
-                  }
-
-              -- and they are repeated for the other labels
-              pub labels_stepped : {out'' : List ℕ} {v width last : ℕ} → width ≡ width_in known → last ≡ right_count known + right_labels known →
-                  ((es : List (List ℕ)) → Block es width out' at w → Writes (repeated i (least + 1) (last - least) es) out' w out'' v) →
-                  SteppedFrom nodes arguments known heads entry out i least at entry' out'' v
-              labels_stepped {out''} {v} {width} {last} a b f₀ =
-                  let f : (es : List (List ℕ)) → Block es (width_in known) out' at w →
-                  Writes (repeated i (least + 1) (right_count known + right_labels known - least) es) out' w out'' v = rw (← a, ← b) f₀ in
-                  record {
-                    writes = λ ps q. rw (labels_entries ps) (repeat_writes (label_below ps least) i (least + 1)
-                        (right_count known + right_labels known - least) g.room (first_written ps q) n
-                        (f (label_below ps least) (writes_block (width_in known) g.room (first_written ps q) n (label_wide ps))));
-                    keeps = kept;
-                  }
+            -- and they are repeated for the other labels
+            pub labels_stepped : {out'' : List ℕ} {v : Result ℕ Full} {width last : ℕ} → width ≡ width_in known →
+                last ≡ right_count known + right_labels known →
+                ((es : List (List ℕ)) → Block es width out' at w → Writes (repeated i (least + 1) (last - least) es) out' w out'' v) →
+                SteppedFrom nodes arguments known heads entry out i least at entry' out'' v
+            labels_stepped {out''} {v} {width} {last} a b f₀ =
+                let f : (es : List (List ℕ)) → Block es (width_in known) out' at w →
+                Writes (repeated i (least + 1) (right_count known + right_labels known - least) es) out' w out'' v = rw (← a, ← b) f₀ in
+                record {
+                  writes = λ ps q. rw (labels_entries ps) (repeat_writes (label_below ps least) i (least + 1)
+                      (right_count known + right_labels known - least) g.room (first_written y ps q)
+                      (f (label_below ps least) (writes_block (width_in known) g.room (first_written y ps q) (label_wide ps))));
+                  keeps = kept y;
+                }
 
     -- before the first digit
     pub turning_first : Turning nodes arguments known heads entry out i least at least entry out at
@@ -508,8 +473,7 @@ module _ {nodes arguments known can heads next entry out : List ℕ} {i least pa
 
       module _ {heads' : List ℕ} (x : heads' ≡ heads) where
         -- digits from d on, with the digit first
-        module _ (u : d ≤ right_count known) {entry'' out'' : List ℕ} {w : ℕ}
-            (y : Stepped nodes arguments known heads' entry' out' i d at' entry'' out'' w) where
+        module _ (u : d ≤ right_count known) where
           next_remains : (ps : List (ℕ × ℕ)) → Pairing nodes arguments known heads ps →
               Remains (branch_entries nodes arguments known entry i least ps) out at
               (digit_entries nodes arguments known entry i ps d ++ digits_from nodes arguments known entry i ps (d + 1)) out' at'
@@ -518,35 +482,37 @@ module _ {nodes arguments known can heads next entry out : List ℕ} {i least pa
               (omega (arith, u)))
               at (t.remains ps q)
 
-          stepped : (ps : List (ℕ × ℕ)) → Pairing nodes arguments known heads ps →
-              Writes (digit_entries nodes arguments known entry i ps d) out' at' out'' w
-          stepped ps q = rw (digit_kept ps d) at (y.writes ps (rw x q))
+          module _ {entry'' out'' : List ℕ} where
+            stepped : {r : Result ℕ Full} → Stepped nodes arguments known heads' entry' out' i d at' entry'' out'' r → (ps : List (ℕ × ℕ)) →
+                Pairing nodes arguments known heads ps → Writes (digit_entries nodes arguments known entry i ps d) out' at' out'' r
+            stepped y ps q = rw (digit_kept ps d) at (y.writes ps (rw x q))
 
-          -- after one digit more
-          pub turning_next : (w ≡ full → ⊥) → Turning nodes arguments known heads entry out i least at (d + 1) entry'' out'' w
-          turning_next n =
-              let r = writes_room t.within (stepped g.pairs g.pairing) in
-              let s = r.1 n in
-              record {
-                first = omega (arith, t.first);
-                size = r.0 ∙ t.size;
-                within = omega (arith, r.0, s.1);
-                keeps = keeps_again t.keeps y.keeps;
-                remains = λ ps q. remains_next (digit_entries nodes arguments known entry i ps d) (next_remains ps q) out'' w (stepped ps q) n;
-              }
+            -- after one digit more
+            pub turning_next : {w : ℕ} → Stepped nodes arguments known heads' entry' out' i d at' entry'' out'' (Ok w) →
+                Turning nodes arguments known heads entry out i least at (d + 1) entry'' out'' w
+            turning_next y =
+                let n = stepped y g.pairs g.pairing in
+                let l = writes_long t.within n in
+                record {
+                  first = omega (arith, t.first);
+                  size = l ∙ t.size;
+                  within = omega (arith, l, (writes_room t.within n).1);
+                  keeps = keeps_again t.keeps y.keeps;
+                  remains = λ ps q. remains_next (digit_entries nodes arguments known entry i ps d) (next_remains ps q) (stepped y ps q);
+                }
 
-          -- where an entry does not fit
-          pub turning_full : length out < full → w ≡ full → Walked nodes arguments known heads entry out i least at entry'' out'' full
-          turning_full b e =
-              record {
-                writes = λ ps q. remains_full (digit_entries nodes arguments known entry i ps d)
-                    (digits_from nodes arguments known entry i ps (d + 1))
-                    (next_remains ps q) (omega (arith, b, t.size)) out'' w (stepped ps q) e;
-                keeps = keeps_again t.keeps y.keeps;
-              }
+            -- where an entry does not fit
+            pub turning_full : {f : Full} → Stepped nodes arguments known heads' entry' out' i d at' entry'' out'' (Err f) →
+                Walked nodes arguments known heads entry out i least at entry'' out'' (Err full)
+            turning_full y =
+                record {
+                  writes = λ ps q. remains_full (digit_entries nodes arguments known entry i ps d)
+                      (digits_from nodes arguments known entry i ps (d + 1)) (next_remains ps q) (stepped y ps q);
+                  keeps = keeps_again t.keeps y.keeps;
+                }
 
         -- after the right terms come the labels
-        pub turning_done : {entry'' out'' : List ℕ} {w : ℕ} → SteppedFrom nodes arguments known heads' entry' out' i d at' entry'' out'' w →
+        pub turning_done : {entry'' out'' : List ℕ} {w : Result ℕ Full} → SteppedFrom nodes arguments known heads' entry' out' i d at' entry'' out'' w →
             Walked nodes arguments known heads entry out i least at entry'' out'' w
         turning_done {out'' = out''} {w = w} y =
             record {

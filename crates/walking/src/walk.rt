@@ -15,7 +15,7 @@ use branches::known::{
 use branches::{branch, known};
 use classes::trail::{GONE, undo};
 use entries::writing;
-use entries::writing::FULL;
+use entries::writing::Full;
 
 // Where a walk stands: the left term whose digit is next, the least digit to try, and the set of right terms that are paired.
 #[derive(Clone, Copy)]
@@ -59,16 +59,16 @@ fn write_leaf(
     out: &mut [u32],
     paired: usize,
     at: usize,
-) -> usize
+) -> Result<usize, Full>
     requires { Ending nodes.now arguments.now known.now heads.now entry.old out.old paired at }
     ensures { (least : ℕ) → Walked nodes.now arguments.now known.now heads.now entry.old out.old (left_count known.now) least at entry.new out.new result }
 {
     let k = known::at(known, LEFT_LABELS);
     if (k == 0) & (paired != known::at(known, EVERY)) {
-        return at;
+        return Ok(at);
     }
     if out.len() - at < entry.len() {
-        return FULL;
+        return Err(Full);
     }
     put_words(nodes, arguments, known, heads, entry);
     let n = known::at(known, LEFT_COUNT);
@@ -89,7 +89,7 @@ fn walk_pair(
     out: &mut [u32],
     position: Position,
     at: usize,
-) -> usize
+) -> Result<usize, Full>
     requires walking { Walking nodes.now arguments.now known.now can.now heads.old next.old entry.old out.old position.term position.least position.paired at }
     requires term_bound { (position.term < left_count known.now) × (position.least ≤ right_count known.now) }
     ensures stepped { Stepped nodes.now arguments.now known.now heads.old entry.old out.old position.term position.least at entry.new out.new result }
@@ -99,11 +99,11 @@ fn walk_pair(
     let d = position.least;
     let paired = position.paired;
     if !branch::is_open(known, can, i, d, paired) {
-        return at;
+        return Ok(at);
     }
     let mark = next[GONE];
     if !branch::join_pair(nodes, arguments, known, heads, next, i, d) {
-        return at;
+        return Ok(at);
     }
     branch::put_pair(known, entry, i, d);
     let used = walk(
@@ -141,7 +141,7 @@ fn walk_labels(
     out: &mut [u32],
     position: Position,
     at: usize,
-) -> usize
+) -> Result<usize, Full>
     requires walking { Walking nodes.now arguments.now known.now can.now heads.old next.old entry.old out.old position.term position.least position.paired at }
     requires term_bound { (position.term < left_count known.now) × (right_count known.now < position.least) }
     ensures stepped_from { SteppedFrom nodes.now arguments.now known.now heads.old entry.old out.old position.term position.least at entry.new out.new result }
@@ -152,10 +152,10 @@ fn walk_labels(
     let paired = position.paired;
     let last = known::at(known, RIGHT_COUNT) + known::at(known, RIGHT_LABELS);
     if last < d {
-        return at;
+        return Ok(at);
     }
     if !branch::can_complete(can, i, paired) {
-        return at;
+        return Ok(at);
     }
     branch::put_digit(entry, i, d);
     let used = walk(
@@ -173,12 +173,9 @@ fn walk_labels(
             paired,
         },
         at,
-    );
-    if used == FULL {
-        return FULL;
-    }
+    )?;
     if d == last {
-        return used;
+        return Ok(used);
     }
     writing::repeat(out, known::at(known, WIDTH), at, used, i, d, last)
 }
@@ -196,7 +193,7 @@ pub fn walk(
     out: &mut [u32],
     position: Position,
     at: usize,
-) -> usize
+) -> Result<usize, Full>
     requires { Walking nodes.now arguments.now known.now can.now heads.old next.old entry.old out.old position.term position.least position.paired at }
     ensures walked { Walked nodes.now arguments.now known.now heads.old entry.old out.old position.term position.least at entry.new out.new result }
     ensures heads_unchanged { (heads.new ≡ heads.old) × (next.new ≡ next.old) }
@@ -208,8 +205,7 @@ pub fn walk(
     }
     let m = known::at(known, RIGHT_COUNT);
     let mut used = at;
-    let mut d = position.least;
-    while d <= m {
+    for d in position.least..=m {
         used = walk_pair(
             nodes,
             arguments,
@@ -225,11 +221,7 @@ pub fn walk(
                 paired,
             },
             used,
-        );
-        if used == FULL {
-            return FULL;
-        }
-        d += 1;
+        )?;
     }
     walk_labels(
         nodes,
@@ -242,7 +234,7 @@ pub fn walk(
         out,
         Position {
             term: i,
-            least: d,
+            least: position.least.max(m + 1),
             paired,
         },
         used,

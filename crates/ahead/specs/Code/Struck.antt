@@ -1,5 +1,5 @@
 -- Pairs that are struck out: they have no common value on top of whatever pairs the classes stand for.
-use Rattle.std.specs.Prelude.{ℕ, ◌+◌, ◌^◌, ◌<◌, Bool, true, false, List, ◌≡◌}
+use Rattle.std.specs.Prelude.{ℕ, ◌+◌, ◌^◌, ◌<◌, false, List, ◌≡◌}
 use Rattle.table.specs.Layout.{word}
 use Rattle.unification.specs.Node.{nodes_from}
 use Rattle.branches.specs.Code.Known.{right_count}
@@ -10,11 +10,6 @@ use Rattle.branches.specs.Code.Walk.{Standing}
 abbrev pub NeverJoins : List ℕ → List ℕ → List ℕ → ℕ → ℕ → Type 0
 NeverJoins nodes arguments heads a b =
     (ps : List (ℕ × ℕ)) → Standing nodes arguments heads ps → NeverOn (nodes_from nodes arguments) ps a b
-
--- A number to which another comes, or not.
-pub record Adds (x y : ℕ) (b : Bool) (r : ℕ) : Type 0 where
-  pub more : b ≡ true → r ≡ x + y
-  pub same : b ≡ false → r ≡ x
 
 -- Of the first n right terms the set `row` lacks only those that never join left term i.
 pub record RowTo (nodes arguments known heads : List ℕ) (i n row : ℕ) : Type 0 where

@@ -1,5 +1,5 @@
 -- The walk over left digits, depth first, as the code goes: a functional program that mirrors it (`below_listing`).
-use Rattle.std.specs.Prelude.{ℕ, zero, suc, ◌+◌, ◌-◌, ◌≤◌, ◌<◌, Bool, true, false, cond, List, [], ◌∷◌, ◌++◌, map, ◌↔◌, ◌≡◌, eqb, leb, length, take, drop, set, replicate}
+use Rattle.std.specs.Prelude.{ℕ, zero, suc, ◌+◌, ◌-◌, ◌≤◌, ◌<◌, Bool, true, false, cond, List, [], ◌∷◌, ◌++◌, map, ◌↔◌, ◌≡◌, eqb, leb, length, take, drop, set, replicate, Result}
 use Rattle.table.specs.Layout.{word, node_count}
 use Rattle.terms.specs.Substitution.{Substitution}
 use Rattle.unification.specs.Node.{Node, nodes_from}
@@ -10,6 +10,7 @@ use Rattle.unification.specs.Code.Given.{Inside}
 use Rattle.nodes.specs.Code.Trail.{Trailed}
 use Rattle.nodes.specs.Code.Formed.{Formed, Stands}
 use Rattle.multiset_unification.specs.Code.InEvery.{NoneAdmissible, InEvery}
+use Rattle.entries.specs.declared.writing.Full.{Full}
 use Rattle.entries.specs.Code.Writing.{marked, Writes, Remains}
 use Rattle.branches.specs.Code.Known.{left_count, right_count, left_labels, right_labels, width_in, left_in, right_in, KnownOf, SidesKnown, KeepsKnown}
 use Rattle.branches.specs.Code.Ahead.{Completable, MayPair, PairedSet}
@@ -105,17 +106,17 @@ pub record Walking (nodes arguments known can heads next entry out : List ℕ) (
   pub room : at ≤ length out
 
 -- The entries below the branch are written, whatever pairs the classes stand for, and the branch is as before.
-pub record Walked (nodes arguments known heads entry out : List ℕ) (i least at : ℕ) (entry' out' : List ℕ) (r : ℕ) : Type 0 where
+pub record Walked (nodes arguments known heads entry out : List ℕ) (i least at : ℕ) (entry' out' : List ℕ) (r : Result ℕ Full) : Type 0 where
   pub writes : (ps : List (ℕ × ℕ)) → Pairing nodes arguments known heads ps → Writes (branch_entries nodes arguments known entry i least ps) out at out' r
   pub keeps : KeepsBranch known i entry entry'
 
 -- Those of digit d.
-pub record Stepped (nodes arguments known heads entry out : List ℕ) (i d at : ℕ) (entry' out' : List ℕ) (r : ℕ) : Type 0 where
+pub record Stepped (nodes arguments known heads entry out : List ℕ) (i d at : ℕ) (entry' out' : List ℕ) (r : Result ℕ Full) : Type 0 where
   pub writes : (ps : List (ℕ × ℕ)) → Pairing nodes arguments known heads ps → Writes (digit_entries nodes arguments known entry i ps d) out at out' r
   pub keeps : KeepsBranch known i entry entry'
 
 -- Those of the digits from d on.
-pub record SteppedFrom (nodes arguments known heads entry out : List ℕ) (i d at : ℕ) (entry' out' : List ℕ) (r : ℕ) : Type 0 where
+pub record SteppedFrom (nodes arguments known heads entry out : List ℕ) (i d at : ℕ) (entry' out' : List ℕ) (r : Result ℕ Full) : Type 0 where
   pub writes : (ps : List (ℕ × ℕ)) → Pairing nodes arguments known heads ps → Writes (digits_from nodes arguments known entry i ps d) out at out' r
   pub keeps : KeepsBranch known i entry entry'
 

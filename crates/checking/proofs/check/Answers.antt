@@ -57,16 +57,10 @@ pub returns-then-table-lt-HEADER_WORDS : goal.returns-then-table-lt-HEADER_WORDS
 unfolding refusal conditions too_few_words
 returns-then-table-lt-HEADER_WORDS c = sym (held _ _ (lt-ltb _ _ c.if-table-lt-HEADER_WORDS.true))
 
-pub broken_pair-requires : goal.broken_pair-requires
-broken_pair-requires c = c.if-table-lt-HEADER_WORDS.false
-
 pub returns-then-broken_pair : goal.returns-then-broken_pair
 unfolding refusal conditions
 returns-then-broken_pair c = sym (passed-1 (goal.at.returns-then-broken_pair c).Else-table-lt-HEADER_WORDS ∙
     held _ _ (sym (c.broken_pair.ensures sections refl) ∙ c.if-broken_pair.true))
-
-pub over_limit-requires : goal.over_limit-requires
-over_limit-requires c = c.if-table-lt-HEADER_WORDS.false
 
 pub returns-then-over_limit : goal.returns-then-over_limit
 unfolding refusal conditions

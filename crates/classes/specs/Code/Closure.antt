@@ -7,8 +7,16 @@ use Rattle.unification.specs.Closure.{Joined, Clash}
 use Rattle.unification.specs.Computed.Classes.{class_of}
 use Rattle.unification.specs.Code.Heads.{Partition, roots, Unites}
 use Rattle.unification.specs.Code.Sections.{Sections}
+use Rattle.classes.specs.declared.closure.Strength.{Strength}
+use Rattle.classes.specs.declared.closure.Strength.TheVariants.{Variable, Open, Closed}
 use Rattle.nodes.specs.Code.Open.{Counts, ClosedHeads, KeepsClosed}
 use Rattle.nodes.specs.Code.Trail.{Trailed, Merges}
+
+-- The number of a strength.
+abbrev pub level : Strength → ℕ
+level Variable = 0
+level Open = 1
+level Closed = 2
 
 -- Nodes of one class are of one class of ds.
 abbrev pub Coarser : List ℕ → List ℕ → Type 0

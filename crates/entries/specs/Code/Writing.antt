@@ -1,28 +1,29 @@
 -- Entries as they are written into the lent words, one behind the other.
-use Rattle.std.specs.Prelude.{ℕ, zero, suc, ◌+◌, ◌-◌, ◌≤◌, ◌<◌, cond, ◌≡◌, eqb, ltb, length, take, drop, set}
+use Rattle.std.specs.Prelude.{ℕ, zero, suc, ◌+◌, ◌-◌, ◌≤◌, ◌<◌, cond, ◌≡◌, eqb, ltb, length, take, drop, set, Result, Ok, Err}
 use mathlib.Core.List.{List, [], ◌∷◌, ◌++◌, map, flatten, Memᴰ}
 use Rattle.table.specs.Layout.{word}
 use Rattle.multiset_unification.specs.Answer.{fitting}
 use Rattle.multiset_unification.specs.Computed.Choices.{branch}
+use Rattle.entries.specs.declared.writing.Full.{Full}
 
 -- Words xs in the place of as many lent words from `at` on.
 unfoldable pub put : ℕ → List ℕ → List ℕ → List ℕ
 put at xs lent = take at lent ++ xs ++ drop (at + length xs) lent
 
--- What is answered in the place of how many words are used, where an entry did not fit.
-abbrev pub full : ℕ
-full = 18446744073709551615
+-- An entry did not fit.
+abbrev pub full : Full
+full = record {}
 
--- Of entries es as many are written as fit into the lent words from `at` on; r is how many words are used then, or full.
-pub record Writes (es : List (List ℕ)) (lent : List ℕ) (at : ℕ) (lent' : List ℕ) (r : ℕ) : Type 0 where
+-- Of entries es as many are written as fit into the lent words from `at` on; r is how many words are used then, or that one did not fit.
+pub record Writes (es : List (List ℕ)) (lent : List ℕ) (at : ℕ) (lent' : List ℕ) (r : Result ℕ Full) : Type 0 where
   pub words : lent' ≡ put at (flatten (fitting (length lent - at) es)) lent
-  pub used : r ≡ cond (ltb (length lent - at) (length (flatten es))) full (at + length (flatten es))
+  pub used : r ≡ cond (ltb (length lent - at) (length (flatten es))) (Err full) (Ok (at + length (flatten es)))
 
 -- Where the entries `rest` are written from `at` on, all of es are written from at₀ on.
 pub record Remains (es : List (List ℕ)) (lent₀ : List ℕ) (at₀ : ℕ) (rest : List (List ℕ)) (lent : List ℕ) (at : ℕ) : Type 0 where
   pub size : length lent ≡ length lent₀
   pub within : at ≤ length lent
-  pub closes : (lent' : List ℕ) (r : ℕ) → Writes rest lent at lent' r → Writes es lent₀ at₀ lent' r
+  pub closes : (lent' : List ℕ) (r : Result ℕ Full) → Writes rest lent at lent' r → Writes es lent₀ at₀ lent' r
 
 -- Entries es, of so many words each, stand in the lent words from `from` up to `to`.
 pub record Block (es : List (List ℕ)) (width : ℕ) (lent : List ℕ) (from to : ℕ) : Type 0 where

@@ -1,5 +1,7 @@
 -- Pairs that every choice has, found by what is left of the sets of partners, and what unifying them comes to.
-use Rattle.std.specs.Prelude.{ℕ, ◌+◌, ◌≤◌, ◌<◌, Bool, true, false, List, ◌≡◌}
+use Rattle.std.specs.Prelude.{ℕ, ◌+◌, ◌<◌, Bool, true, false, List, ◌≡◌}
+use Rattle.std.specs.declared.option.Option.{Option}
+use Rattle.std.specs.declared.option.Option.TheVariants.{None, Some}
 use Rattle.table.specs.Layout.{word}
 use Rattle.branches.specs.Code.Known.{left_count, KeepsKnown}
 use Rattle.branches.specs.Code.Ahead.{has, Completable}
@@ -19,11 +21,15 @@ pub record OneTaker (known : List ℕ) (j : ℕ) : Type 0 where
 pub record Contested (known : List ℕ) (twice : ℕ) : Type 0 where
   pub others : (j : ℕ) → has twice j ≡ false → OneTaker known j
 
--- Left term r is the first that may take right term j; none may if it is their number.
-pub record FirstTaker (known : List ℕ) (j r : ℕ) : Type 0 where
-  pub within : r ≤ left_count known
-  pub before : (q : ℕ) → q < r → has (word known (600 + q)) j ≡ false
-  pub takes : r < left_count known → has (word known (600 + r)) j ≡ true
+-- No left term may take right term j.
+pub record NoTaker (known : List ℕ) (j : ℕ) : Type 0 where
+  pub none : (q : ℕ) → q < left_count known → has (word known (600 + q)) j ≡ false
+
+-- Left term i is the first that may take right term j.
+pub record FirstTaker (known : List ℕ) (j i : ℕ) : Type 0 where
+  pub within : i < left_count known
+  pub before : (q : ℕ) → q < i → has (word known (600 + q)) j ≡ false
+  pub takes : has (word known (600 + i)) j ≡ true
 
 -- What unifying pairs that every choice has comes to: the classes stand for them too, or no choice is admissible.
 pub record Forces (nodes arguments known : List ℕ) (r : Bool) (heads' next' : List ℕ) : Type 0 where
@@ -36,16 +42,12 @@ pub record Planned (known can : List ℕ) : Type 0 where
   pub ready : Ready known can
   pub completable : Completable known can
 
--- In place of a number of rows: there is no choice.
-abbrev pub no_choice : ℕ
-no_choice = 9
-
--- What trying the pairs of left terms comes to: how many rows have fewer pairs, or that no choice is admissible.
-pub record Settles (nodes arguments known known' heads' next' : List ℕ) (r : ℕ) : Type 0 where
+-- What trying the pairs of left terms comes to: how many rows have fewer pairs, or, where there is no number, that no choice is admissible.
+pub record Settles (nodes arguments known known' heads' next' : List ℕ) (r : Option ℕ) : Type 0 where
   pub keeps : KeepsKnown known known'
-  pub based : (r ≡ no_choice → ⊥) → Based nodes arguments known' heads' next'
-  pub same : r ≡ 0 → known' ≡ known
-  pub none : r ≡ no_choice → NoneOfKnown nodes arguments known
+  pub based : (n : ℕ) → r ≡ Some n → Based nodes arguments known' heads' next'
+  pub same : r ≡ Some 0 → known' ≡ known
+  pub none : r ≡ None → NoneOfKnown nodes arguments known
 
 -- What rounds of this have come to, before the next.
 pub record Settling (nodes arguments known₀ known can heads next : List ℕ) : Type 0 where

@@ -1,5 +1,6 @@
 -- What a call of `unify` with an accepted table answers, by the table's nodes.
-use Rattle.std.specs.Prelude.{ℕ, cond, ◌||◌, List, [], ◌∷◌, ◌≡◌, leb, ltb, length}
+use Rattle.std.specs.Prelude.{ℕ, cond, ◌||◌, List, [], ◌∷◌, ◌≡◌, leb, ltb, length, Result}
+use Rattle.table.specs.declared.Refusal.{Refusal}
 use Rattle.unification.specs.declared.Unification.{Unification}
 use Rattle.unification.specs.Node.{Node}
 use Rattle.unification.specs.Computed.Variables.{variables_of}
@@ -13,6 +14,6 @@ called ns a b lent =
     (cond (ltb lent (length (variables_of ns))) (refused 9) (ended (outcome ns ((a, b) ∷ []))))
 
 -- The answer r and the lent words after a call are what they should be.
-pub record AnswersByNodes (ns : List Node) (a b : ℕ) (out : List ℕ) (r : Unification) (out' : List ℕ) : Type 0 where
+pub record AnswersByNodes (ns : List Node) (a b : ℕ) (out : List ℕ) (r : Result Unification Refusal) (out' : List ℕ) : Type 0 where
   pub answer : told r ≡ called ns a b (length out)
   pub words : out' ≡ words_after (called ns a b (length out)) (words_of ns ((a, b) ∷ [])) out

@@ -1,10 +1,11 @@
 -- Naming the values of classes, place by place of an order, with a table of the applications named by themselves.
 use Rattle.std.specs.Prelude.{ℕ, zero, suc, ◌+◌, ◌*◌, ◌/◌, ◌%◌, ◌<◌, ◌≤◌, Bool, true, false, List, ◌⊎◌, ◌≡◌, length}
-use Rattle.table.specs.Limits.{max_nodes}
 use Rattle.table.specs.Layout.{word, kind_of, name_of, count_of, node_count, argument_of}
 use Rattle.unification.specs.Computed.Classes.{class_of}
 use Rattle.nodes.specs.Code.Named.{value_name, Readable, Alike, Applied, Named}
 use Rattle.nodes.specs.Code.Formed.{OneConstant}
+use Rattle.values.specs.declared.applications.Applications.{Applications}
+use Rattle.values.specs.Code.Applications.{keys, Chained}
 
 -- Nodes in an order, no node twice: while a node is named, no name changes of an argument of it or of a node before it.
 pub record Nameable (nodes arguments heads order : List ℕ) : Type 0 where
@@ -25,19 +26,34 @@ pub record Compounds (nodes heads order names : List ℕ) : Type 0 where
   pub itself : (i : ℕ) → i < node_count nodes → count_of nodes i ≡ 0 → word names i ≡ i
   pub constants : OneConstant nodes heads
 
--- How many keys the table has.
-abbrev pub keys : ℕ
-keys = 256
+-- The key of the symbol of node h.
+abbrev pub symbol_key : List ℕ → ℕ → ℕ
+symbol_key nodes h = (name_of nodes h * 40503 % 65536 / 256 + count_of nodes h) % keys
+
+-- A key with one argument more, by the name of its value.
+abbrev pub longer_key : ℕ → ℕ → ℕ
+longer_key key name = (key * 157 + name + 1) % keys
 
 -- The key of node h, made of its symbol and the names of its first j arguments.
 unfoldable pub key_up_to : List ℕ → List ℕ → List ℕ → List ℕ → ℕ → ℕ → ℕ
-key_up_to nodes arguments heads names h zero = (name_of nodes h * 40503 % 65536 / 256 + count_of nodes h) % keys
+key_up_to nodes arguments heads names h zero = symbol_key nodes h
 key_up_to nodes arguments heads names h (suc j) =
-    (key_up_to nodes arguments heads names h j * 157 + value_name heads names (argument_of nodes arguments h j) + 1) % keys
+    longer_key (key_up_to nodes arguments heads names h j) (value_name heads names (argument_of nodes arguments h j))
 
 -- The key of node h.
 unfoldable pub key_of : List ℕ → List ℕ → List ℕ → List ℕ → ℕ → ℕ
 key_of nodes arguments heads names h = key_up_to nodes arguments heads names h (count_of nodes h)
+
+-- Nodes g and h have one symbol, and their first k arguments have the same values.
+pub record AlikeBy (nodes arguments : List ℕ) (value : ℕ → ℕ) (g h k : ℕ) : Type 0 where
+  pub name : name_of nodes g ≡ name_of nodes h
+  pub count : count_of nodes g ≡ count_of nodes h
+  pub per_argument : (j : ℕ) → j < k → value (argument_of nodes arguments g j) ≡ value (argument_of nodes arguments h j)
+
+-- Whether they have one symbol, and all their arguments have the same values.
+pub record ComparedBy (nodes arguments : List ℕ) (value : ℕ → ℕ) (g h : ℕ) (r : Bool) : Type 0 where
+  pub alike : r ≡ true → AlikeBy nodes arguments value g h (count_of nodes g)
+  pub different : r ≡ false → AlikeBy nodes arguments value g h (count_of nodes g) → ⊥
 
 -- Whether nodes g and h are alike.
 pub record Compared (nodes arguments heads names : List ℕ) (g h : ℕ) (r : Bool) : Type 0 where
@@ -48,14 +64,6 @@ pub record Compared (nodes arguments heads names : List ℕ) (g h : ℕ) (r : Bo
 pub record Representative (nodes order names : List ℕ) (q : ℕ) : Type 0 where
   pub application : kind_of nodes (word order q) ≡ 0 → ⊥
   pub itself : word names (word order q) ≡ word order q
-
--- Of the places before p, a bucket holds one more than the last of the representatives with its key, and each of these
--- one more than the one before it; 0 stands for none.
-pub record Chained (rep : ℕ → Type 0) (key : ℕ → ℕ) (buckets earlier : List ℕ) (p : ℕ) : Type 0 where
-  pub bucket_reaches : (q : ℕ) → q < p → rep q → q < word buckets (key q)
-  pub bucket_is : (x b : ℕ) → x < keys → word buckets x ≡ suc b → (b < p) × rep b × (key b ≡ x)
-  pub earlier_reaches : (r q : ℕ) → r < q → q < p → rep r → rep q → key r ≡ key q → r < word earlier q
-  pub earlier_is : (q b : ℕ) → q < p → rep q → word earlier q ≡ suc b → (b < q) × rep b × (key b ≡ key q)
 
 -- The key of the node at place q.
 unfoldable pub key_at : List ℕ → List ℕ → List ℕ → List ℕ → List ℕ → ℕ → ℕ
@@ -77,14 +85,12 @@ pub record NamedBefore (nodes arguments heads order names : List ℕ) (p : ℕ) 
       Alike nodes arguments heads names (word order q) (word order r) → q ≡ r
 
 -- The nodes before place p have their names, and the representatives among them are in the table.
-pub record Naming (nodes arguments heads order names buckets earlier : List ℕ) (p : ℕ) : Type 0 where
+pub record Naming (nodes arguments heads order names : List ℕ) (t : Applications) (p : ℕ) : Type 0 where
   pub readable : Readable nodes arguments heads names
   pub ordered : Nameable nodes arguments heads order
   pub whole : Compounds nodes heads order names
-  pub buckets_long : length buckets ≡ keys
-  pub earlier_long : length earlier ≡ max_nodes
   pub named : NamedBefore nodes arguments heads order names p
-  pub chained : Chained (Representative nodes order names) (key_at nodes arguments heads order names) buckets earlier p
+  pub chained : Chained (Representative nodes order names) (key_at nodes arguments heads order names) t p
 
 -- Each node of the order has the name of one that stands not after it and names itself.
 pub record NamedEarlier (order names : List ℕ) : Type 0 where
@@ -96,14 +102,3 @@ pub record NamedAlong (nodes arguments heads order names : List ℕ) : Type 0 wh
   pub along : NamedEarlier order names
   pub outside : (i : ℕ) → i < node_count nodes → IsPlaced order (class_of heads i) ⊎ (value_name heads names i ≡ class_of heads i)
   pub alike : (i : ℕ) → i < node_count nodes → Applied nodes heads i → Alike nodes arguments heads names (value_name heads names i) (class_of heads i)
-
--- What is found for the node at place p: one more than the place of a representative that is alike, or 0 where there is none.
-pub record Found (nodes arguments heads order names : List ℕ) (p c : ℕ) : Type 0 where
-  pub found : (b : ℕ) → c ≡ suc b → (b < p) × Representative nodes order names b × Alike nodes arguments heads names (word order b) (word order p)
-  pub nothing : c ≡ 0 → (q : ℕ) → q < p → Representative nodes order names q → Alike nodes arguments heads names (word order q) (word order p) → ⊥
-
--- On the way along the representatives with key k: those with the key from cursor c on are not alike the node at place p.
-pub record Searching (nodes arguments heads order names : List ℕ) (p k c : ℕ) : Type 0 where
-  pub at : (b : ℕ) → c ≡ suc b → (b < p) × Representative nodes order names b × (key_at nodes arguments heads order names b ≡ k)
-  pub passed : (q : ℕ) → q < p → c ≤ q → Representative nodes order names q → key_at nodes arguments heads order names q ≡ k →
-      Alike nodes arguments heads names (word order q) (word order p) → ⊥

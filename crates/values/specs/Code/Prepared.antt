@@ -5,7 +5,9 @@ use Rattle.table.specs.Layout.{word, count_of, node_count}
 use Rattle.unification.specs.Computed.Classes.{class_of}
 use Rattle.nodes.specs.Code.Open.{IsClosed, Counts}
 use Rattle.nodes.specs.Code.Named.{Themselves}
-use Rattle.values.specs.Code.Naming.{keys, key_of, key_at, Representative, Chained}
+use Rattle.values.specs.declared.applications.Applications.{Applications}
+use Rattle.values.specs.Code.Applications.{Sizes, with_place, Chained}
+use Rattle.values.specs.Code.Naming.{key_of, key_at, Representative}
 
 -- The heads of closed applications with arguments, in rising order.
 pub record ClosedListed (nodes counts heads closed : List ℕ) : Type 0 where
@@ -16,11 +18,9 @@ pub record ClosedListed (nodes counts heads closed : List ℕ) : Type 0 where
   pub whole : (i : ℕ) → IsClosed nodes counts i → 0 < count_of nodes i → class_of heads i ≡ i → (p : ℕ) × (p < length closed) × (word closed p ≡ i)
 
 -- A table of these, by the heads of their arguments, as each names itself.
-pub record ClosedTable (nodes arguments heads closed buckets earlier : List ℕ) : Type 0 where
-  pub buckets_long : length buckets ≡ keys
-  pub earlier_long : length earlier ≡ max_nodes
+pub record ClosedTable (nodes arguments heads closed : List ℕ) (t : Applications) : Type 0 where
   pub chained : (names : List ℕ) → length names ≡ node_count nodes → Themselves names →
-      Chained (Representative nodes closed names) (key_at nodes arguments heads closed names) buckets earlier (length closed)
+      Chained (Representative nodes closed names) (key_at nodes arguments heads closed names) t (length closed)
 
 -- The words from a start on are the numbers below i with a property, in rising order.
 pub record Gathered (P : ℕ → Type 0) (start : ℕ) (prepared : List ℕ) (count i : ℕ) : Type 0 where
@@ -48,13 +48,13 @@ pub data CountNoted (counts : List ℕ) (i count opens r : ℕ) (counts' : List 
   some_looked_at : (count ≡ 0 → ⊥) → r ≡ opens + 1 → counts' ≡ set (set counts i count) (256 + opens) i → CountNoted counts i count opens r counts'
 
 -- Closed application i is put at a place of an order, and in front of those with its key.
-pub record ClosedNoted (nodes arguments heads names order buckets earlier : List ℕ) (place i : ℕ) (order' buckets' earlier' : List ℕ) : Type 0 where
+pub record ClosedNoted (nodes arguments heads names order : List ℕ) (t : Applications) (place i : ℕ) (order' : List ℕ) (t' : Applications) : Type 0 where
+  pub sizes : Sizes t
   pub placed : order' ≡ set order place i
-  pub bucket : buckets' ≡ set buckets (key_of nodes arguments heads names i) (place + 1)
-  pub chain : earlier' ≡ set earlier place (word buckets (key_of nodes arguments heads names i))
+  pub chained : t' ≡ with_place t place (key_of nodes arguments heads names i)
 
 -- The closed applications are the first r of an order, with a table.
-pub record ListsClosed (nodes arguments counts heads : List ℕ) (r : ℕ) (order buckets earlier : List ℕ) : Type 0 where
+pub record ListsClosed (nodes arguments counts heads : List ℕ) (r : ℕ) (order : List ℕ) (t : Applications) : Type 0 where
   pub few : r ≤ max_nodes
   pub listed : ClosedListed nodes counts heads (take r order)
-  pub chained : ClosedTable nodes arguments heads (take r order) buckets earlier
+  pub chained : ClosedTable nodes arguments heads (take r order) t

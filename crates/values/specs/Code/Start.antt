@@ -1,6 +1,5 @@
 -- What is begun with, node by node: each node's head is the least node with its term, found by the heads of its arguments.
 use Rattle.std.specs.Prelude.{ℕ, ◌+◌, ◌<◌, ◌≤◌, List, ◌≡◌, length, set}
-use Rattle.table.specs.Limits.{max_nodes}
 use Rattle.table.specs.Layout.{word, kind_of, node_count}
 use Rattle.terms.specs.Substitution.{Substitution}
 use Rattle.unification.specs.Unifier.{Unifies}
@@ -9,7 +8,9 @@ use Rattle.unification.specs.Code.Sections.{Sections}
 use Rattle.nodes.specs.Code.Open.{Counts}
 use Rattle.nodes.specs.Code.Circle.{HeadsFirst, CirclesBefore}
 use Rattle.nodes.specs.Code.Formed.{Formed, Stands}
-use Rattle.values.specs.Code.Naming.{keys, key_of, Chained}
+use Rattle.values.specs.declared.applications.Applications.{Applications}
+use Rattle.values.specs.Code.Applications.{Chained}
+use Rattle.values.specs.Code.Naming.{key_of}
 
 -- Node h is the least with the term of node i.
 pub record LeastOfTerm (nodes arguments : List ℕ) (i h : ℕ) : Type 0 where
@@ -29,11 +30,9 @@ pub record OwnHead (nodes heads : List ℕ) (q : ℕ) : Type 0 where
   pub itself : word heads q ≡ q
 
 -- The same with a table of the applications among them that are heads, by the heads of their arguments.
-pub record Sharing (nodes arguments heads buckets earlier : List ℕ) (i : ℕ) : Type 0 where
+pub record Sharing (nodes arguments heads : List ℕ) (t : Applications) (i : ℕ) : Type 0 where
   pub before : HeadsBefore nodes arguments heads i
-  pub buckets_long : length buckets ≡ keys
-  pub earlier_long : length earlier ≡ max_nodes
-  pub chained : Chained (OwnHead nodes heads) (key_of nodes arguments heads heads) buckets earlier i
+  pub chained : Chained (OwnHead nodes heads) (key_of nodes arguments heads heads) t i
 
 -- Node i has got head h, and stands in the circle of that.
 pub record PutHead (heads next : List ℕ) (i h : ℕ) (heads' next' : List ℕ) : Type 0 where

@@ -1,17 +1,11 @@
 -- A pair that clashes or makes a cycle never joins; otherwise the joins are undone.
 use mathlib.Core.Bool.{false≢true}
-use mathlib.Core.Path.{refl, sym, ◌∙◌}
+use mathlib.Core.Path.{◌≡◌, refl, sym, ◌∙◌}
 use native.Mathlib.Omega.{arith}
+use Rattle.unification.specs.declared.Unification.TheVariants.{Unified}
 use Rattle.classes.proofs.TrailLaws.{merges_since, merges_back}
-use Rattle.classes.proofs.ExtensionLaws.{clash_back, occurs_back}
-use Rattle.ahead.proofs.StruckLaws.{clash_never, occurs_never}
+use Rattle.ahead.proofs.StruckLaws.{failed_never}
 use Rattle.ahead.proofs.pairs.try_pair.Goals as goal
-
-pub returns-then-g-h : goal.returns-then-g-h
-returns-then-g-h c = record {
-  never_joins = (λ z. absurd (false≢true (sym z)));
-  heads_unchanged = (refl, refl);
-}
 
 pub joins-requires : goal.joins-requires
 joins-requires c =
@@ -47,24 +41,17 @@ undo-requires c =
     let x = c.extend in
     merges_since c.requires.formed.1 (x.auto.heads ∙ c.requires.formed.0.partition.size) x.ensures.merges
 
-pub returns-in-Clash : goal.returns-in-Clash
-returns-in-Clash c =
-    let x = c.extend.ensures in record {
-      never_joins = (λ z. clash_never _ _ _ c.requires.known_of.sections _ c.requires.formed.0 c.args.a.0 c.args.b.0 c.requires.a_bound.0
-          c.requires.a_bound.1 _ _ _ _ c.in-Clash.is x);
-      heads_unchanged = clash_back c.in-Clash.is x;
+pub returns-then-ne : goal.returns-then-ne
+returns-then-ne c =
+    let x = c.extend.ensures in
+    let n : c.extend.result ≡ Unified → ⊥ = λ z. false≢true (sym (rw z at c.ne.ensures) ∙ c.if-ne.true) in record {
+      never_joins = (λ z. failed_never _ _ _ c.requires.known_of.sections _ c.requires.formed.0 c.args.a.0 c.args.b.0 c.requires.a_bound.0
+          c.requires.a_bound.1 _ _ _ _ n x);
+      heads_unchanged = x.failed n;
     }
 
-pub returns-in-Occurs : goal.returns-in-Occurs
-returns-in-Occurs c =
-    let x = c.extend.ensures in record {
-      never_joins = (λ z. occurs_never _ _ _ c.requires.known_of.sections _ c.requires.formed.0 c.args.a.0 c.args.b.0 c.requires.a_bound.0
-          c.requires.a_bound.1 _ _ _ _ c.in-Occurs.is x);
-      heads_unchanged = occurs_back c.in-Occurs.is x;
-    }
-
-pub returns-in-Unified : goal.returns-in-Unified
-returns-in-Unified c =
+pub returns : goal.returns
+returns c =
     let x = c.extend in record {
       never_joins = (λ z. absurd (false≢true (sym z)));
       heads_unchanged = merges_back (x.auto.heads ∙ c.requires.formed.0.partition.size) x.ensures.merges c.undo.ensures;

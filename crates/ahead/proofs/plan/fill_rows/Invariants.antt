@@ -7,9 +7,8 @@ use Rattle.ahead.specs.Code.Plan.{CompletableFrom}
 use Rattle.ahead.proofs.plan.fill_rows.Given as goal
 
 abbrev pub invariant-loop-i : goal.invariant-loop-i
-invariant-loop-i l =
-    (l.i < left_count l.known) × CompletableFrom l.known l.can l.i ×
-    ((p : ℕ) → 4 * (left_count l.known - 1) ≤ p → word l.can p ≡ word l.initial.can p)
-
-abbrev pub decreases-loop-i : goal.decreases-loop-i
-decreases-loop-i l = l.i
+invariant-loop-i l = record {
+  within : l.i < left_count l.known;
+  completable : CompletableFrom l.known l.can l.i;
+  last : (p : ℕ) → 4 * (left_count l.known - 1) ≤ p → word l.can p ≡ word l.initial.can p;
+}

@@ -1,12 +1,9 @@
 -- Each right term adds the sets to which it can be put, and those above the row add none.
-use Prim.Native.Nat.{ℕ, ◌/◌, ◌%◌, ◌<◌}
-use mathlib.Core.Path.{◌≡◌, refl}
+use Prim.Native.Nat.{ℕ}
+use mathlib.Core.Path.{refl}
 use native.Mathlib.Omega.{arith}
-use borrow.Author.Tests.{eqb-true, ltb-true}
-use lib.Dec.{eqb}
-use Rattle.table.proofs.BoolLaws.{and_true_right}
 use Rattle.ahead.specs.Code.Plan.{SetsBefore}
-use Rattle.ahead.proofs.BitLaws.{before_first, before_0, before_1, before_2, before_3, before_4, before_5, before_6, before_7, before_end}
+use Rattle.ahead.proofs.BitLaws.{before_first, before_0, before_1, before_2, before_3, before_4, before_5, before_6, before_7, before_end, or_one, or_two}
 use Rattle.ahead.proofs.plan.sets_before.Goals as goal
 use Rattle.ahead.proofs.plan.sets_before.Goals.{After-with_sets-c, After-with_sets-e, After-with_sets-g, Start}
 
@@ -43,19 +40,13 @@ returns-then-row-lt16 c = before_end _ _ _ _ 4 _ _ c.if-row-lt16.true (four (goa
 pub returns-then-row-lt64 : goal.returns-then-row-lt64
 returns-then-row-lt64 c = before_end _ _ _ _ 6 _ _ c.if-row-lt64.true (six (goal.at.returns-then-row-lt64 c).After-with_sets-g)
 
-pub with_word-h-requires : goal.with_word-h-requires
-with_word-h-requires c =
-    λ z. let x : c.args.x % 2 ≡ 0 = eqb-true _ _ (and_true_right (eqb (c.args.row / 64 % 2) 1) _ z) in omega (arith, x)
+pub bounds-can-t-2 : goal.bounds-can-t-2
+bounds-can-t-2 c = omega (arith, or_one c.args.x c.requires.1)
 
-pub with_word-requires : goal.with_word-requires
-with_word-requires c =
-    λ z. let x : c.args.x < 2 = ltb-true _ _ (and_true_right (eqb (c.args.row / 128 % 2) 1) _ z) in omega (arith, x)
+pub bounds-can-t-3 : goal.bounds-can-t-3
+bounds-can-t-3 c = omega (arith, or_two c.args.x c.requires.1)
 
 pub returns : goal.returns
 returns c =
-    let seventh = before_6 _ _ _ _ _ _ _ _
-    c.requires.1
-    (six (goal.at.returns c).After-with_sets-g) c.with_word-h.ensures refl in
-    before_7 _ _ _ _ _ _ _ _
-    c.requires.1 seventh
-    c.with_word.ensures refl
+    let seventh = before_6 _ _ _ _ _ _ _ _ c.requires.1 (six (goal.at.returns c).After-with_sets-g) c.with_sets-h.ensures refl in
+    before_7 _ _ _ _ _ _ _ _ c.requires.1 seventh c.with_sets.ensures refl

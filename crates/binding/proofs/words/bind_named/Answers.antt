@@ -1,6 +1,6 @@
 -- The open applications that are heads are put in order, and named behind the closed ones.
 use Prim.Native.Nat.{ℕ, ◌-◌}
-use mathlib.Core.Path.{◌≡◌, refl, ◌∙◌}
+use mathlib.Core.Path.{◌≡◌, ◌∙◌}
 use native.Mathlib.Omega.{arith}
 use lib.ListN.{length, drop, replicate, length-append, length-replicate}
 use Rattle.table.specs.Limits.{max_nodes}
@@ -40,7 +40,7 @@ name_open-requires c =
       formed = p.formed.0;
       ordered = o;
       names_len = (p.names_len.0, p.names_len.1);
-      order_len = (m, refl, m);
+      order_len = (m, c.new-table.ensures);
     }
 
 pub find_words-requires : goal.find_words-requires

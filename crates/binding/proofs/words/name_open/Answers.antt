@@ -49,7 +49,7 @@ name_all-requires c =
     let e = order_put c.args.placed.now d.new.order b.new.to d.result _ l d.ensures.few refl b.ensures in
     let m = e.1 in
     let n = prefix_naming _ _ p.sections.0 _ _ p.sections.1 p.formed _ _ d.ensures.listed p.ordered _ e.0 _ p.names_len.0 p.names_len.1
-    _ _ d.ensures.chained in
+    _ d.ensures.chained in
     let r = rw m at n in record { naming = r.0; start_in_bounds = r.1 }
 
 pub returns : goal.returns

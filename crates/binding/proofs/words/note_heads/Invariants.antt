@@ -1,11 +1,8 @@
 -- The nodes from place k on are noted at their heads.
-use Prim.Native.Nat.{◌≤◌}
+use Prim.Native.Nat.{◌-◌}
 use lib.ListN.{length}
 use Rattle.binding.specs.Code.Binding.{HeadsFrom}
 use Rattle.binding.proofs.words.note_heads.Given as goal
 
-abbrev pub invariant-loop-k : goal.invariant-loop-k
-invariant-loop-k l = (l.k ≤ length l.list) × HeadsFrom l.heads l.list l.by l.k
-
-abbrev pub decreases-loop-k : goal.decreases-loop-k
-decreases-loop-k l = l.k
+abbrev pub invariant-loop-z : goal.invariant-loop-z
+invariant-loop-z l = HeadsFrom l.heads l.list l.by (length l.list - length l.yielded)

@@ -3,7 +3,7 @@ use Prim.Native.Nat.{◌-◌}
 use mathlib.Core.Path.{sym, ap, ◌∙◌}
 use native.Mathlib.Omega.{arith}
 use Rattle.unification.specs.Computed.Classes.{class_of}
-use Rattle.branches.proofs.PairLaws.{joined_already, joined_unified, joined_clash, joined_occurs}
+use Rattle.branches.proofs.PairLaws.{joined_already, joined}
 use Rattle.branches.proofs.branch.join_pair.Goals as goal
 
 pub bounds-heads-a : goal.bounds-heads-a
@@ -41,23 +41,10 @@ extend-requires c =
       a_bound = (omega (arith, n, c.node_in-a.ensures), omega (arith, m, c.node_in-b.ensures));
     }
 
-pub returns-in-Unified : goal.returns-in-Unified
-returns-in-Unified c =
+pub returns : goal.returns
+returns c =
     rw (
+      c.eq.ensures,
       sym c.node_in-a.ensures.0,
       sym c.node_in-b.ensures.0,
-    ) (joined_unified c.extend.ensures c.in-Unified.is)
-
-pub returns-in-Clash : goal.returns-in-Clash
-returns-in-Clash c =
-    rw (
-      sym c.node_in-a.ensures.0,
-      sym c.node_in-b.ensures.0,
-    ) (joined_clash c.extend.ensures c.in-Clash.is)
-
-pub returns-in-Occurs : goal.returns-in-Occurs
-returns-in-Occurs c =
-    rw (
-      sym c.node_in-a.ensures.0,
-      sym c.node_in-b.ensures.0,
-    ) (joined_occurs c.extend.ensures c.in-Occurs.is)
+    ) (joined _ c.extend.ensures)

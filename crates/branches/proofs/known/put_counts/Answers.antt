@@ -1,19 +1,9 @@
 -- The numbers are stored one after the other. By the definition of what is stored.
 use Prim.Native.Nat.{ℕ, ◌+◌}
 use mathlib.Core.Path.{ap}
-use borrow.Author.Rules.{rules}
 use lib.ListN.{set}
 use Rattle.branches.specs.Code.Known.{counted}
 use Rattle.branches.proofs.known.put_counts.Goals as goal
-
-pub bounds-known-581 : goal.bounds-known-581
-bounds-known-581 c = search rules depth 9
-
-pub bounds-known-582 : goal.bounds-known-582
-bounds-known-582 c = search rules depth 9
-
-pub bounds-known-583 : goal.bounds-known-583
-bounds-known-583 c = search rules depth 9
 
 pub returns : goal.returns
 unfolding counted

@@ -7,7 +7,7 @@ use Rattle.checking.proofs.nodes.wrong_arguments.Goals as goal
 
 pub loop-i-init : goal.loop-i-init
 unfolding some_below
-loop-i-init c = (search rules, refl)
+loop-i-init c = refl
 
 pub wrong_run-requires : goal.wrong_run-requires
 wrong_run-requires c = record {
@@ -21,11 +21,10 @@ returns-then-wrong_run c =
     sym (some_here _ c.loop-i.i _ (search rules) (sym c.wrong_run.ensures ∙ c.if-wrong_run.true))
 
 pub loop-i-preserved : goal.loop-i-preserved
-loop-i-preserved c =
-    (search rules, some_next _ _ c.loop-i.invariant.1 (sym c.wrong_run.ensures ∙ c.if-wrong_run.false))
+loop-i-preserved c = some_next _ _ c.loop-i.invariant (sym c.wrong_run.ensures ∙ c.if-wrong_run.false)
 
 pub returns : goal.returns
 unfolding wrong_argument
 returns c =
     let l = c.loop-i in
-    sym (some_end _ l.i _ (search rules) (search rules) l.invariant.1)
+    sym (some_end _ l.i _ (search rules) (search rules) l.invariant)

@@ -1,5 +1,4 @@
 -- No node so far has a wrong argument.
-use Prim.Native.Nat.{◌≤◌, ◌-◌}
 use mathlib.Core.Path.{◌≡◌}
 use mathlib.Core.Bool.{false}
 use Rattle.table.specs.Some.{some_below}
@@ -7,7 +6,4 @@ use Rattle.table.specs.Conditions.{run_is_wrong}
 use Rattle.checking.proofs.nodes.wrong_arguments.Given as goal
 
 abbrev pub invariant-loop-i : goal.invariant-loop-i
-invariant-loop-i l = (l.i ≤ l.n) × (some_below l.i (run_is_wrong l.nodes l.arguments) ≡ false)
-
-abbrev pub decreases-loop-i : goal.decreases-loop-i
-decreases-loop-i l = l.n - l.i
+invariant-loop-i l = some_below l.i (run_is_wrong l.nodes l.arguments) ≡ false

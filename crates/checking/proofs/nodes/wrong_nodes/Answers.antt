@@ -1,4 +1,4 @@
-use mathlib.Core.Path.{◌≡◌, refl, ◌∙◌}
+use mathlib.Core.Path.{◌≡◌, refl}
 use mathlib.Core.Bool.{true}
 use native.Mathlib.Omega.{arith}
 use borrow.Author.Rules.{rules}
@@ -18,13 +18,13 @@ tested c =
       the_name = c.name.ensures;
       the_first = c.first.ensures;
       the_count = c.count-count.ensures;
-      the_sum = c.loop-i.invariant.1;
+      the_sum = c.loop-i.invariant.0;
       tested = c.right_node.ensures;
     }
 
 pub loop-i-init : goal.loop-i-init
 unfolding some_below counts_before
-loop-i-init c = (search rules, refl, search rules, refl)
+loop-i-init c = (refl, search rules, refl)
 
 pub returns-then-not-right_node : goal.returns-then-not-right_node
 returns-then-not-right_node c = node_wrong (tested (goal.at.returns-then-not-right_node c).After-right_node) (search rules) c.if-not-right_node.true _
@@ -36,8 +36,8 @@ pub loop-i-preserved : goal.loop-i-preserved
 loop-i-preserved c =
     let s = tested (goal.at.loop-i-preserved c).After-right_node in
     let q : c.right_node.result ≡ true = c.if-not-right_node.false in
-    (search rules, earlier_next s, omega (arith, count_small s q), node_right s q c.loop-i.invariant.3)
+    (earlier_next s, omega (arith, count_small s q), node_right s q c.loop-i.invariant.2)
 
 pub returns : goal.returns
 returns c =
-    nodes_end _ _ c.loop-i.i _ (c.index.ensures.0 ∙ c.loop-i.invariant.1) (search rules) (search rules) c.loop-i.invariant.3
+    nodes_end _ _ c.loop-i.i _ c.loop-i.invariant.0 (search rules) (search rules) c.loop-i.invariant.2

@@ -1,29 +1,14 @@
-use mathlib.Core.Path.{refl, ◌∙◌}
+-- An argument of the node's run that is not smaller than it is met, or none is.
+use mathlib.Core.Path.{◌∙◌}
 use borrow.Author.Rules.{rules}
-use Rattle.table.specs.Some.{some_below}
-use Rattle.checking.proofs.LoopLaws.{argument_wrong, argument_right, arguments_end}
+use borrow.Author.Tests.{tests}
+use lib.Dec.{leb}
+use Rattle.std.proofs.lemmas.Iterator.{YieldsList-from_slice}
+use Rattle.std.proofs.lemmas.Iterator.Search.{any_from_yields_List}
+use Rattle.checking.proofs.LoopLaws.{run_tested}
 use Rattle.checking.proofs.nodes.wrong_run.Goals as goal
-
-pub loop-j-init : goal.loop-j-init
-unfolding some_below
-loop-j-init c =
-    (c.index-first.ensures.0 ∙ c.first.ensures, c.index-count.ensures.0 ∙ c.count.ensures, search rules, refl)
-
-pub returns-then-argument-node : goal.returns-then-argument-node
-returns-then-argument-node c =
-    let l = c.loop-j in
-    argument_wrong _ _ _ _ _ l.j l.invariant.0 l.invariant.1 c.loop-j-test.true _ c.node_at-argument.ensures c.if-argument-node.true
-
-pub loop-j-preserved : goal.loop-j-preserved
-loop-j-preserved c =
-    let l = c.loop-j in (
-      l.invariant.0,
-      l.invariant.1,
-      search rules,
-      argument_right _ _ _ _ _ l.j l.invariant.0 l.invariant.1 _ c.node_at-argument.ensures c.if-argument-node.false l.invariant.3,
-    )
 
 pub returns : goal.returns
 returns c =
-    let l = c.loop-j in
-    arguments_end _ _ _ _ _ l.j l.invariant.0 l.invariant.1 l.invariant.2 c.loop-j-test.false l.invariant.3
+    any_from_yields_List (leb c.args.node.0) _ _ _ c.any.ensures.ran (YieldsList-from_slice _ c.iter.ensures.rest) (λ x b q k. search (rules, tests))
+    ∙ rw (c.first-first.ensures, c.count-count.ensures) (run_tested c.args.nodes.now c.args.arguments.now c.args.node.0 c.requires.node_in_bounds)

@@ -1,5 +1,4 @@
 -- No label so far is equal to label i.
-use Prim.Native.Nat.{◌≤◌, ◌-◌}
 use mathlib.Core.Path.{◌≡◌}
 use mathlib.Core.Bool.{false}
 use mathlib.Core.List.{◌++◌}
@@ -8,7 +7,4 @@ use Rattle.table.specs.Conditions.{labels_are_equal}
 use Rattle.checking.proofs.sides.repeated_label.Given as goal
 
 abbrev pub invariant-loop-j : goal.invariant-loop-j
-invariant-loop-j l = (l.j ≤ l.i) × (some_below l.j (labels_are_equal (l.left ++ l.right) l.i) ≡ false)
-
-abbrev pub decreases-loop-j : goal.decreases-loop-j
-decreases-loop-j l = l.i - l.j
+invariant-loop-j l = some_below l.j (labels_are_equal (l.left ++ l.right) l.i) ≡ false

@@ -2,7 +2,6 @@ use mathlib.Core.Path.{◌≡◌, refl, sym, ◌∙◌}
 use mathlib.Core.Bool.{◌||◌}
 use mathlib.Core.List.{◌++◌}
 use native.Mathlib.Omega.{arith}
-use borrow.Author.Rules.{rules}
 use lib.Dec.{eqb, ltb}
 use lib.ListN.{length-append}
 use Rattle.table.specs.Limits.{max_label}
@@ -20,7 +19,7 @@ tested c = label_tested _ _ _ c.label-label.ensures _ c.repeated_label.ensures
 
 pub loop-i-init : goal.loop-i-init
 unfolding some_below
-loop-i-init c = (simp length-append, search rules, refl)
+loop-i-init c = (simp length-append, refl)
 
 pub returns-then-label-repeated_label : goal.returns-then-label-repeated_label
 unfolding wrong_label
@@ -32,8 +31,7 @@ pub loop-i-preserved : goal.loop-i-preserved
 loop-i-preserved c =
     let l = c.loop-i in (
       l.invariant.0,
-      search rules,
-      some_next _ _ l.invariant.2
+      some_next _ _ l.invariant.1
           (sym (tested (goal.at.loop-i-preserved c).After-repeated_label) ∙ c.if-label-repeated_label.false),
     )
 
@@ -41,4 +39,4 @@ pub returns : goal.returns
 unfolding wrong_label
 returns c =
     let l = c.loop-i in
-    sym (some_end _ l.i _ (omega (arith, l.invariant.0)) (omega (arith, l.invariant.0)) l.invariant.2)
+    sym (some_end _ l.i _ (omega (arith, l.invariant.0)) (omega (arith, l.invariant.0)) l.invariant.1)

@@ -2,7 +2,6 @@ use Prim.Native.Nat.{ℕ, ◌<◌}
 use mathlib.Core.Bool.{true, ◌&&◌}
 use mathlib.Core.Path.{◌≡◌, refl, ap, ◌∙◌}
 use native.Mathlib.Omega.{arith}
-use borrow.Author.Rules.{rules}
 use lib.Dec.{eqb}
 use Rattle.table.specs.Layout.{kind_of, count_of, node_count, argument_of}
 use Rattle.unification.specs.Computed.Classes.{class_of}
@@ -105,7 +104,11 @@ ready t c =
     let here = goal.at.At-loop-k t c in
     let m = meets t here.Else-g-h in
     let a = alike t here.Else-one_symbol-both_closed in
-    joinable_on m a _ _ (applications_united m a _ _ c.unite-2.ensures) c.loop-k.k _ _ c.loop-k.invariant.4
+    joinable_on m a _ _ (applications_united m a _ _ c.unite-2.ensures) c.loop-k.k _ _ c.loop-k.invariant
+
+-- the first head has so many arguments
+first-count : (t : ℕ) (c : Turning t) → c.arity-count.result ≡ count_of c.args.nodes.now (first_head t (goal.at.At-loop-k t c).Else-g-h)
+first-count t c = c.arity-count.ensures.0 ∙ ap (count_of c.args.nodes.now) c.node-first.ensures.0
 
 -- the first head's argument
 first-argument : (t : ℕ) (c : Taken t) → c.argument-x.result.0
@@ -218,30 +221,24 @@ pub loop-k-init : goal.loop-k-init
 loop-k-init t c =
     let here = goal.at.loop-k-init t c in
     let m = meets t here.Else-g-h in
-    let u = applications_united m (alike t here.Else-one_symbol-both_closed) _ _ c.unite-2.ensures in (
-      c.arity-count.ensures.0 ∙ ap (count_of c.args.nodes.now) c.node-first.ensures.0,
-      search rules,
-      refl,
-      refl,
-      arguments_none _ _ _ _ _ _ _ _ _ _ _ _ u,
-    )
+    let u = applications_united m (alike t here.Else-one_symbol-both_closed) _ _ c.unite-2.ensures in
+    arguments_none _ _ _ _ _ _ _ _ _ _ _ _ u
 
 pub argument-x-requires : goal.argument-x-requires
 argument-x-requires t c =
     let m = meets t (goal.at.argument-x-requires t c).Else-g-h in
-    let l = c.loop-k.invariant.0 in
     let e = c.node-first.ensures.0 in
     let p = (meeting_inside m).0 in
-    let k = ap (count_of c.args.nodes.now) e in record {
+    let n = c.arity-count.ensures.0 in record {
       sections = m.joinable.sections;
-      node_bound = (omega (arith, e, p), omega (arith, l, k, c.loop-k-test.true));
+      node_bound = (omega (arith, e, p), omega (arith, n, c.loop-k-test.true));
     }
 
 pub argument-y-requires : goal.argument-y-requires
 argument-y-requires t c =
     let here = goal.at.argument-y-requires t c in
     let m = meets t here.Else-g-h in
-    let l = c.loop-k.invariant.0 in
+    let l = first-count t here.At-loop-k in
     let e = c.node-second.ensures.0 in
     let p = (meeting_inside m).1 in
     let k = ap (count_of c.args.nodes.now) e in
@@ -264,7 +261,7 @@ join-requires t c =
     let a = c.join_at_once.ensures in
     let o = c.if-not-join_at_once.true in
     let u = applications_united (meets t here.Else-g-h) (alike t here.Else-one_symbol-both_closed) _ _ c.unite-2.ensures in
-    let f = c.loop-k.invariant.4.fewer in
+    let f = c.loop-k.invariant.fewer in
     let r = u.fewer in
     let n = roots_left a o in (
       omega (arith, f, r, n, c.decreases),
@@ -278,9 +275,9 @@ returns-then-not-join t c =
     let l = c.loop-k in
     let a = alike t here.Else-one_symbol-both_closed in
     let u = applications_united m a _ _ c.unite-2.ensures in
-    let e = l.invariant.0 in
+    let e = first-count t here.At-loop-k in
     let w = joins_left c.join_at_once.ensures c.if-not-join_at_once.true c.join.ensures in
-    join_stopped m a _ _ u l.k _ _ l.invariant.4 (omega (
+    join_stopped m a _ _ u l.k _ _ l.invariant (omega (
       arith,
       e,
       c.loop-k-test.true,
@@ -308,15 +305,8 @@ pub loop-k-preserved : goal.loop-k-preserved
 loop-k-preserved t c =
     let here = goal.at.loop-k-preserved t c in
     let l = c.loop-k in
-    let w = pair_joined t c in
-    let e = joins_long (ready t here.At-loop-k) w in (
-      l.invariant.0,
-      search rules,
-      e.0 ∙ l.invariant.2,
-      e.1 ∙ l.invariant.3,
-      arguments_next _ _ _ _ _ _ _ l.k _ _ l.invariant.4 _ _ true _ _ (first-argument t here.After-argument-y)
-          (second-argument t here.After-argument-y) w refl,
-    )
+    arguments_next _ _ _ _ _ _ _ l.k _ _ l.invariant _ _ true _ _ (first-argument t here.After-argument-y)
+    (second-argument t here.After-argument-y) (pair_joined t c) refl
 
 pub returns : goal.returns
 returns t c =
@@ -324,6 +314,6 @@ returns t c =
     let m = meets t here.Else-g-h in
     let s = alike t here.Else-one_symbol-both_closed in
     let l = c.loop-k in
-    let e = l.invariant.0 in
-    let k = l.invariant.1 in
-    join_applications m s _ _ (applications_united m s _ _ c.unite-2.ensures) l.k _ _ l.invariant.4 (omega (arith, e, k, c.loop-k-test.false))
+    let e = first-count t here.At-loop-k in
+    let k = l.auto.k-end in
+    join_applications m s _ _ (applications_united m s _ _ c.unite-2.ensures) l.k _ _ l.invariant (omega (arith, e, k, c.loop-k-test.false))

@@ -1,15 +1,16 @@
 -- One way for each return.
-use Rattle.classes.specs.Code.Ordering.{led_no, led_first, led_same, led_several}
+use mathlib.Core.Path.{sym, ap, ◌∙◌}
+use borrow.Author.Tests.{eqb-true}
+use Rattle.table.specs.declared.Node.{Node}
+use Rattle.classes.specs.Code.Ordering.{led_no, led_first, led_same}
 use Rattle.classes.proofs.order.found_with.Goals as goal
 
-pub returns-then-counts-i-eq0 : goal.returns-then-counts-i-eq0
-returns-then-counts-i-eq0 c = led_no c.if-counts-i-eq0.true
+pub returns-then-counts-g-eq0 : goal.returns-then-counts-g-eq0
+returns-then-counts-g-eq0 c = led_no c.if-counts-g-eq0.true
 
-pub returns-then-found-eq-NONE : goal.returns-then-found-eq-NONE
-returns-then-found-eq-NONE c = led_first c.if-found-eq-NONE.true
+pub returns-in-None : goal.returns-in-None
+returns-in-None c = led_first c.in-None.is
 
-pub returns-then-found-i : goal.returns-then-found-i
-returns-then-found-i c = led_same c.if-found-i.true
-
-pub returns : goal.returns
-returns c = led_several
+pub returns-in-Some : goal.returns-in-Some
+returns-in-Some c =
+    led_same _ c.in-Some.is (ap (λ (x : Node). x.0) (sym c.in-Some.f-is) ∙ eqb-true _ _ (sym c.eq.ensures ∙ c.if-eq.true))

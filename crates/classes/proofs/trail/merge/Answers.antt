@@ -1,13 +1,9 @@
 use Prim.Native.Nat.{ℕ}
 use mathlib.Core.List.{List}
-use mathlib.Core.Path.{refl, ap, ◌∙◌}
+use mathlib.Core.Path.{ap, ◌∙◌}
 use Rattle.nodes.specs.Code.Trail.{noted_gone}
-use Rattle.nodes.proofs.CircleLaws.{circling}
 use Rattle.classes.proofs.TrailLaws.{relabels_renames, note_ready}
 use Rattle.classes.proofs.trail.merge.Goals as goal
-
-pub relabel-requires : goal.relabel-requires
-relabel-requires c = (circling c.requires.0, refl)
 
 pub note-requires : goal.note-requires
 note-requires c =

@@ -4,6 +4,6 @@ use Rattle.entries.proofs.writing.copy_with.Goals as goal
 
 pub returns : goal.returns
 returns c =
-    let w = c.copy_within.ensures in
+    let w = c.copy_behind.ensures in
     λ es b. moved_digit c.args.at c.args.count b c.requires.3 w c.args.p c.args.d
     (c.put_digits.ensures es (moved_block c.args.at c.args.count b c.requires.3 w))

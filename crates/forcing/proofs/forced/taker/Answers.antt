@@ -1,22 +1,16 @@
+-- The first row that has the right term, by the first item of the rows that passes the test.
+use Prim.Native.Nat.{◌/◌, ◌%◌, ◌^◌, ◌+◌, ◌-◌}
+use mathlib.Core.Path.{◌≡◌}
 use native.Mathlib.Omega.{arith}
 use borrow.Author.Rules.{rules}
-use Rattle.forcing.proofs.TakerLaws.{takes_first, takes_next, takes_here, takes_none}
+use borrow.Author.Tests.{tests}
+use Rattle.std.proofs.lemmas.Iterator.{IsFirst-from_position, YieldsList-from_slice}
+use Rattle.forcing.proofs.TakerLaws.{first_taker}
 use Rattle.forcing.proofs.forced.taker.Goals as goal
-
-pub loop-i-init : goal.loop-i-init
-loop-i-init c = (omega arith, takes_first _ _)
-
-pub returns-then-row-j-eq1 : goal.returns-then-row-j-eq1
-returns-then-row-j-eq1 c =
-    let n = c.at-n.ensures.0 in
-    let h = c.loop-i-test.true in
-    takes_here c.at-row.ensures.0 c.loop-i.invariant.1 (omega (arith, n, h)) c.if-row-j-eq1.true
-
-pub loop-i-preserved : goal.loop-i-preserved
-loop-i-preserved c = (search rules, takes_next c.at-row.ensures.0 c.loop-i.invariant.1 c.if-row-j-eq1.false)
 
 pub returns : goal.returns
 returns c =
-    let n = c.at-n.ensures.0 in
-    let l = c.loop-i.invariant in
-    takes_none (omega (arith, n, l.0)) l.1
+    let j = c.args.j in
+    first_taker c.args.known.now j (600 + c.at-n.result - 600) _ (omega arith) (omega arith)
+    (IsFirst-from_position _ _ _ (λ x. x / 2 ^ j % 2 ≡ 1) (λ x. x / 2 ^ j % 2 ≡ 1 → ⊥) c.position.ensures.ran
+    (YieldsList-from_slice _ c.iter.ensures.rest) (λ x q k. search (rules, tests)) (λ x q k. search (rules, tests)))

@@ -1,33 +1,18 @@
 -- Each way out has its law: every pair left, the bits filled, or all of it settled.
-use native.Mathlib.Omega.{arith}
 use Rattle.branches.proofs.KnownLaws.{known_kept}
-use Rattle.forcing.proofs.SettledLaws.{struck_based, looks_whole, looks_based, looks_cannot, looks_since, planning, planned}
+use Rattle.ahead.proofs.AheadLaws.{planning}
+use Rattle.forcing.proofs.SettledLaws.{struck_based, looks_whole, looks_based, looks_cannot, looks_since, planned}
 use Rattle.forcing.proofs.settled.look_ahead.Goals as goal
-
-pub bounds-known-578 : goal.bounds-known-578
-bounds-known-578 c = omega (arith, c.requires.known_of.size)
-
-pub bounds-known-579 : goal.bounds-known-579
-bounds-known-579 c = omega (arith, c.requires.known_of.size)
-
-pub leave-requires : goal.leave-requires
-leave-requires c = c.requires.known_of
 
 pub returns-then-known : goal.returns-then-known
 returns-then-known c =
     let p = c.requires in
     looks_whole p.known_of p.can_value p.formed.0 p.formed.1 p.standing c.leave.ensures
 
-pub strike-joins-requires : goal.strike-joins-requires
-strike-joins-requires c =
-    let p = c.requires in
-    (p.known_of, p.formed.0)
-
 pub plan_first-requires : goal.plan_first-requires
 plan_first-requires c =
     let p = c.requires in
-    let s = c.strike-joins.ensures.keeps_known in
-    ((planning p.known_of s p.can_value c.if-known.false).0, p.can_value)
+    ((planning p.known_of c.strike-joins.ensures.keeps_known p.can_value c.if-known.false).0, p.can_value)
 
 pub returns-then-not-plan_first : goal.returns-then-not-plan_first
 returns-then-not-plan_first c =

@@ -2,7 +2,7 @@
 use mathlib.Core.Path.{sym, ap, ◌∙◌}
 use native.Mathlib.Omega.{arith}
 use borrow.Author.Rules.{rules}
-use Rattle.multiset_unification.specs.Answer.{told}
+use Rattle.multiset_unification.specs.Answer.{told_listing}
 use Rattle.list.proofs.LengthLaws.{title_fits}
 use Rattle.list.proofs.PrintLaws.{refused_printed, full_printable, full_printed, finished_printable, finished_printed}
 use Rattle.list.proofs.print.print_listing.Goals as goal
@@ -14,35 +14,35 @@ write_title-requires c =
 
 pub write_entries-requires : goal.write_entries-requires
 write_entries-requires c =
-    let l = c.list-answer in (
+    let l = c.list in (
       omega arith,
       full_printable _ _ _ _ _ c.requires.0 l.ensures.out_after c.entry_words-width.ensures
-          (sym (ap told c.in-Full.is) ∙ l.ensures.result_value),
+          (sym (ap told_listing c.in-Ok-Full.field-0-is) ∙ c.in-Ok-Full.ensures.result_value),
       c.requires.1,
     )
 
-pub write_entries-requires-in-Finished : goal.write_entries-requires-in-Finished
-write_entries-requires-in-Finished c =
-    let l = c.list-answer in (
+pub write_entries-requires-in-Ok-Finished : goal.write_entries-requires-in-Ok-Finished
+write_entries-requires-in-Ok-Finished c =
+    let l = c.list in (
       omega arith,
       finished_printable _ _ _ _ _ c.requires.0 l.ensures.out_after c.entry_words-width.ensures
-          (sym (ap told c.in-Finished.is) ∙ l.ensures.result_value),
+          (sym (ap told_listing c.in-Ok-Finished.field-0-is) ∙ c.in-Ok-Finished.ensures.result_value),
       c.requires.1,
     )
 
-pub returns-in-Refused : goal.returns-in-Refused
-returns-in-Refused c =
-    let l = c.list-answer in
-    refused_printed _ _ _ _ c.requires.0 (sym (ap told c.in-Refused.is) ∙ l.ensures.result_value) c.number.ensures c.write_title.ensures
+pub returns-in-Err : goal.returns-in-Err
+returns-in-Err c =
+    let l = c.list in
+    refused_printed _ _ _ _ c.requires.0 c.in-Err.ensures.result_value c.number.ensures c.write_title.ensures
 
-pub returns-in-Full : goal.returns-in-Full
-returns-in-Full c =
-    let l = c.list-answer in
-    full_printed _ _ _ _ _ c.requires.0 l.ensures.out_after c.entry_words-width.ensures (sym (ap told c.in-Full.is) ∙ l.ensures.result_value)
+pub returns-in-Ok-Full : goal.returns-in-Ok-Full
+returns-in-Ok-Full c =
+    let l = c.list in
+    full_printed _ _ _ _ _ c.requires.0 l.ensures.out_after c.entry_words-width.ensures (sym (ap told_listing c.in-Ok-Full.field-0-is) ∙ c.in-Ok-Full.ensures.result_value)
     c.write_entries.ensures
 
-pub returns-in-Finished : goal.returns-in-Finished
-returns-in-Finished c =
-    let l = c.list-answer in
-    finished_printed _ _ _ _ _ c.requires.0 l.ensures.out_after c.entry_words-width.ensures (sym (ap told c.in-Finished.is) ∙ l.ensures.result_value)
-    c.write_entries-in-Finished.ensures
+pub returns-in-Ok-Finished : goal.returns-in-Ok-Finished
+returns-in-Ok-Finished c =
+    let l = c.list in
+    finished_printed _ _ _ _ _ c.requires.0 l.ensures.out_after c.entry_words-width.ensures (sym (ap told_listing c.in-Ok-Finished.field-0-is) ∙ c.in-Ok-Finished.ensures.result_value)
+    c.write_entries-in-Ok-Finished.ensures

@@ -55,29 +55,12 @@ returns-then-not-sides_may c =
     let p = parts (goal.at.returns-then-not-sides_may c).After-section-l in
     parts_listed p (never_listed (parts_listable p) (c.sides_may.ensures c.if-not-sides_may.true) _)
 
-pub node_at-requires : goal.node_at-requires
-node_at-requires c =
-    let u = c.is_single.ensures c.if-is_single.true in
-    omega (arith, u.0)
+pub list_single-requires-clause-sections : goal.list_single-requires-clause-sections
+list_single-requires-clause-sections c =
+    (parts_listable (parts (goal.at.list_single-requires-clause-sections c).After-section-l)).sections
 
-pub node_at-requires-then-is_single : goal.node_at-requires-then-is_single
-node_at-requires-then-is_single c =
-    let u = c.is_single.ensures c.if-is_single.true in
-    omega (arith, u.1)
-
-pub list_single-requires : goal.list_single-requires
-list_single-requires c =
-    let p = parts (goal.at.list_single-requires c).After-section-l in
-    let g = parts_listable p in
-    let u = c.is_single.ensures c.if-is_single.true in
-    let x = g.left_nodes 0 (omega (arith, u.0)) in
-    let y = g.right_nodes 0 (omega (arith, u.1)) in
-    let d = c.node_at.ensures in
-    let e = c.node_at-then-is_single.ensures in record {
-      sections = g.sections;
-      a_bound = (omega (arith, x, d), omega (arith, y, e), u.4);
-      arguments_len_bound = parts_few p;
-    }
+pub list_single-requires-clause-arguments_len_bound : goal.list_single-requires-clause-arguments_len_bound
+list_single-requires-clause-arguments_len_bound c = parts_few (parts (goal.at.list_single-requires-clause-arguments_len_bound c).After-section-l)
 
 pub returns-then-is_single : goal.returns-then-is_single
 returns-then-is_single c =

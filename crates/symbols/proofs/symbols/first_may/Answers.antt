@@ -1,16 +1,15 @@
+-- Each term of a side is a node.
+use Prim.Native.Nat.{◌<◌}
 use native.Mathlib.Omega.{arith}
-use Rattle.symbols.proofs.SymbolLaws.{none_next}
+use borrow.Author.Rules.{rules}
+use Rattle.std.proofs.lemmas.Grind.{get_or_default_zero}
+use Rattle.std.proofs.lemmas.Iterator.{YieldsList-from_slice}
+use Rattle.std.proofs.lemmas.Iterator.Adapters.{serves_from_places}
+use Rattle.table.specs.Layout.{node_count}
 use Rattle.symbols.proofs.symbols.first_may.Goals as goal
 
-pub may-requires : goal.may-requires
-may-requires c =
-    let n = c.requires.sections.1.node c.loop-j.j c.loop-j-test.true in record {
-      sections = c.requires.sections.0;
-      a_bound = (c.requires.a_bound, omega (arith, n, c.node_at.ensures));
-    }
-
-pub loop-j-preserved : goal.loop-j-preserved
-loop-j-preserved c =
-    let l = c.loop-j.invariant in
-    let t = c.loop-j-test.true in
-    (omega (arith, t), none_next l.1 c.node_at.ensures (c.may.ensures c.if-may.false))
+pub position-requires-clause-callable : goal.position-requires-clause-callable
+position-requires-clause-callable c =
+    serves_from_places (YieldsList-from_slice c.args.others.now c.iter.ensures.rest) (search rules)
+    (λ x k l e. let n = c.requires.sections.1.node k l in let d = get_or_default_zero c.args.others.now k x.now l in
+    let m : x.now < node_count c.args.nodes.now = omega (arith, e, d, n) in search rules)

@@ -6,7 +6,4 @@ use Rattle.text.specs.Code.Writing.{Wrote, parts}
 use Rattle.text.proofs.lines.write_lines.Given as goal
 
 abbrev pub invariant-loop-i : goal.invariant-loop-i
-invariant-loop-i l = (l.i ≤ l.count) × (l.from ≡ l.width * l.i) × Wrote l.initial.out l.at (lines (parts l.width l.i l.words)) l.out l.next
-
-abbrev pub decreases-loop-i : goal.decreases-loop-i
-decreases-loop-i l = l.count - l.i
+invariant-loop-i l = (l.from ≡ l.width * l.i) × Wrote l.initial.out l.at (lines (parts l.width l.i l.words)) l.out l.next

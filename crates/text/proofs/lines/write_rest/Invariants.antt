@@ -7,6 +7,3 @@ use Rattle.text.proofs.lines.write_rest.Given as goal
 
 abbrev pub invariant-loop-i : goal.invariant-loop-i
 invariant-loop-i l = Writing l.initial.out l.at (after_word (drop 1 l.words)) l.out l.next (after_word (drop l.i l.words))
-
-abbrev pub decreases-loop-i : goal.decreases-loop-i
-decreases-loop-i l = length l.words - l.i

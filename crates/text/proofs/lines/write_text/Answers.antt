@@ -5,16 +5,16 @@ use Rattle.text.proofs.WritingLaws.{writing_begins, writing_goes_on, writing_end
 use Rattle.text.proofs.lines.write_text.Goals as goal
 
 pub loop-i-init : goal.loop-i-init
-loop-i-init c = (search rules, writing_begins)
+loop-i-init c = writing_begins
 
 pub write_byte-next-requires : goal.write_byte-next-requires
-write_byte-next-requires c = byte_fits _ _ c.loop-i.invariant.1 c.loop-i-test.true c.requires
+write_byte-next-requires c = byte_fits _ _ c.loop-i.invariant c.loop-i-test.true c.requires
 
 pub loop-i-preserved : goal.loop-i-preserved
-loop-i-preserved c = (search rules, writing_goes_on c.loop-i.invariant.1 (text_next _ _ c.loop-i-test.true) c.write_byte-next.ensures)
+loop-i-preserved c = writing_goes_on c.loop-i.invariant (text_next _ _ c.loop-i-test.true) c.write_byte-next.ensures
 
 pub shape_of-out : goal.shape_of-out
-shape_of-out c = c.loop-i.invariant.1.wrote.kept
+shape_of-out c = c.loop-i.invariant.wrote.kept
 
 pub returns : goal.returns
-returns c = writing_ends c.loop-i.invariant.1 (drop_of_length-le _ c.loop-i-test.false)
+returns c = writing_ends c.loop-i.invariant (drop_of_length-le _ c.loop-i-test.false)

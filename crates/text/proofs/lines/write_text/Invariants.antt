@@ -5,7 +5,4 @@ use Rattle.text.specs.Code.Writing.{Writing}
 use Rattle.text.proofs.lines.write_text.Given as goal
 
 abbrev pub invariant-loop-i : goal.invariant-loop-i
-invariant-loop-i l = (l.i ≤ length l.text) × Writing l.initial.out l.at l.text l.out l.next (drop l.i l.text)
-
-abbrev pub decreases-loop-i : goal.decreases-loop-i
-decreases-loop-i l = length l.text - l.i
+invariant-loop-i l = Writing l.initial.out l.at l.text l.out l.next (drop l.i l.text)

@@ -1,6 +1,11 @@
 -- Each answer is given where it should be.
+use mathlib.Core.Bool.{false≢true}
+use mathlib.Core.Path.{sym, ◌∙◌}
 use native.Mathlib.Omega.{arith}
-use Rattle.unify.proofs.CallingLaws.{answers_few, answers_clash, answers_occurs, answers_unified, list_given, opens_given}
+use borrow.Author.Rules.{rules}
+use denote.Enum.Bare.{same_true}
+use Rattle.unification.specs.contracts.Unification.{the_type}
+use Rattle.unify.proofs.CallingLaws.{answers_few, answers_failed, answers_unified, list_given, opens_given}
 use Rattle.unify.proofs.call.unify_with_room.Goals as goal
 
 pub returns-then-out-v : goal.returns-then-out-v
@@ -8,8 +13,8 @@ returns-then-out-v c =
     let g = c.begin_shared-begun.ensures in
     answers_few _ _ c.requires.sections _ _ c.requires.a_bound _ _ _ _ g.begins_shared c.if-out-v.true
 
-pub extend-requires : goal.extend-requires
-extend-requires c =
+pub extend-unification-requires : goal.extend-unification-requires
+extend-unification-requires c =
     let g = c.begin_shared-begun.ensures in record {
       sections = (c.requires.sections, g.counts);
       formed = (g.begins_shared.formed _ g.counts, g.trailed);
@@ -21,8 +26,8 @@ slice_bounds-bind-end c =
     let g = c.begin_shared-begun.ensures in
     omega (arith, g.opens_lt_max_nodes, g.by_index.1, c.requires.heads_len.2)
 
-pub slice_bounds-bind-end-in-Unified : goal.slice_bounds-bind-end-in-Unified
-slice_bounds-bind-end-in-Unified c =
+pub slice_bounds-bind-end-then-eq : goal.slice_bounds-bind-end-then-eq
+slice_bounds-bind-end-then-eq c =
     let g = c.begin_shared-begun.ensures in
     omega (arith, g.begins_shared.lists.within, g.by_index.1, c.requires.heads_len.2)
 
@@ -30,32 +35,25 @@ pub bind-requires : goal.bind-requires
 bind-requires c =
     let b = c.begin_shared-begun in
     let g = b.ensures in
-    let x = c.extend.ensures in
-    let e = c.in-Unified.is in
+    let x = c.extend-unification.ensures in
+    let e = same_true the_type (search rules) _ _ (sym c.eq.ensures ∙ c.if-eq.true) in
     let opens = opens_given _ b.new.counts b.result.opens g.open_listed in record {
       sections = (c.requires.sections, g.counts);
       formed = (x.formed e g.begins_shared.pairs g.begins_shared.stands, opens);
       list_value = list_given _ _ b.new.counts b.result.variables _ g.begins_shared.lists c.if-out-v.false;
     }
 
-pub returns-in-Clash : goal.returns-in-Clash
-returns-in-Clash c =
+pub returns-then-eq : goal.returns-then-eq
+returns-then-eq c =
     let g = c.begin_shared-begun.ensures in
     let f = c.if-out-v.false in
-    let x = c.extend.ensures in
-    answers_clash _ _ c.requires.sections _ _ c.requires.a_bound _ _ _ _ g.begins_shared f _ _ _ _ _ x c.in-Clash.is
+    let e = same_true the_type (search rules) _ _ (sym c.eq.ensures ∙ c.if-eq.true) in
+    answers_unified _ _ c.requires.sections _ _ c.requires.a_bound _ _ _ _ g.begins_shared f _ _ _ _ _ c.extend-unification.ensures e
+    c.bind.ensures
 
-pub returns-in-Occurs : goal.returns-in-Occurs
-returns-in-Occurs c =
+pub returns-else-eq : goal.returns-else-eq
+returns-else-eq c =
     let g = c.begin_shared-begun.ensures in
     let f = c.if-out-v.false in
-    let x = c.extend.ensures in
-    answers_occurs _ _ c.requires.sections _ _ c.requires.a_bound _ _ _ _ g.begins_shared f _ _ _ _ _ x c.in-Occurs.is
-
-pub returns-in-Unified : goal.returns-in-Unified
-returns-in-Unified c =
-    let g = c.begin_shared-begun.ensures in
-    let f = c.if-out-v.false in
-    let x = c.extend.ensures in
-    let e = c.in-Unified.is in
-    answers_unified _ _ c.requires.sections _ _ c.requires.a_bound _ _ _ _ g.begins_shared f _ _ _ _ _ x e _ c.bind.ensures
+    answers_failed _ _ c.requires.sections _ _ c.requires.a_bound _ _ _ _ g.begins_shared f _ _ _ _ _ c.extend-unification.ensures
+    (λ z. false≢true (sym c.if-eq.false ∙ rw z at c.eq.ensures))

@@ -11,7 +11,7 @@ pub share_nodes-counted-requires : goal.share_nodes-counted-requires
 share_nodes-counted-requires c =
     let p = c.requires in
     let n = c.node_count-n in record {
-      sharing = (sharing_none _ _ _ p.sections p.heads_len.0, none_noted _ _ n.ensures.0);
+      sharing = (sharing_none _ _ _ _ p.sections p.heads_len.0 c.new-table.ensures, none_noted _ _ n.ensures.0);
       circles_before = (circles_none _ _ p.heads_len.1, omega (arith, p.heads_len.2));
     }
 

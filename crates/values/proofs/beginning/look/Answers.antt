@@ -1,6 +1,5 @@
 use mathlib.Core.Path.{◌∙◌}
 use native.Mathlib.Omega.{arith}
-use borrow.Author.Rules.{rules}
 use Rattle.values.proofs.AlikeLaws.{key_start, key_next, key_end}
 use Rattle.values.proofs.CountLaws.{closed_none, closed_next, counted_none, counted_some}
 use Rattle.values.proofs.SharingLaws.{argument_head}
@@ -8,38 +7,35 @@ use Rattle.values.proofs.beginning.look.Goals as goal
 
 pub loop-j-init : goal.loop-j-init
 loop-j-init c =
-    let e = c.arity-n.ensures.0 in
-    (e, search rules, search rules, key_start _ _ _ _ _ _ _ (c.index.ensures.0 ∙ c.name.ensures) e, closed_none _ _ _ _)
+    let k = c.symbol_key-key.ensures in
+    ((key_start _ _ _ _ _ _ k.0, k.1), closed_none _ _ _ _)
 
 pub loop-j-preserved : goal.loop-j-preserved
 loop-j-preserved c =
     let l = c.loop-j in
     let a = c.argument-a in
     let e = c.node_in-h.ensures.0 ∙ argument_head _ _ _ _ c.requires.heads_before.0 _ l.j _ a.ensures.0 a.ensures.1 in
-    let k = key_next _ _ _ _ _ l.key l.j _ _ l.invariant.3.0 c.index-in-loop-j.ensures.0 e in
+    let k = c.longer_key-key.ensures in
     let i = c.requires.heads_before.1 in
     let d = c.is_closed-closed.ensures in (
-      l.invariant.0,
-      l.invariant.1,
-      search rules,
-      k,
-      closed_next _ _ _ _ l.j _ l.closed _ (omega (arith, a.ensures.1, i)) a.ensures.0 d l.invariant.4,
+      (key_next _ _ _ _ _ l.key l.j _ _ l.invariant.0.0 e k.0, k.1),
+      closed_next _ _ _ _ l.j _ l.closed _ (omega (arith, a.ensures.1, i)) a.ensures.0 d l.invariant.1,
     )
 
 pub returns-then-closed : goal.returns-then-closed
 returns-then-closed c =
     let l = c.loop-j in
     let m = c.loop-j-test.false in
-    let k = key_end _ _ _ _ _ l.key l.j _ l.invariant.3.0 l.invariant.0 l.invariant.2 m in record {
-      key_value = (k, l.invariant.3.1);
-      counted_at = counted_none _ _ _ _ l.j _ l.closed l.invariant.0 l.invariant.2 m l.invariant.4 c.if-closed.true;
+    let k = key_end _ _ _ _ _ l.key l.j _ l.invariant.0.0 c.arity-n.ensures.0 l.auto.j-end m in record {
+      key_value = (k, l.invariant.0.1);
+      counted_at = counted_none _ _ _ _ l.j _ l.closed c.arity-n.ensures.0 l.auto.j-end m l.invariant.1 c.if-closed.true;
     }
 
 pub returns : goal.returns
 returns c =
     let l = c.loop-j in
     let m = c.loop-j-test.false in
-    let k = key_end _ _ _ _ _ l.key l.j _ l.invariant.3.0 l.invariant.0 l.invariant.2 m in record {
-      key_value = (k, l.invariant.3.1);
-      counted_at = counted_some _ _ _ _ l.j _ l.closed l.invariant.0 l.invariant.2 m l.invariant.4 c.if-closed.false;
+    let k = key_end _ _ _ _ _ l.key l.j _ l.invariant.0.0 c.arity-n.ensures.0 l.auto.j-end m in record {
+      key_value = (k, l.invariant.0.1);
+      counted_at = counted_some _ _ _ _ l.j _ l.closed c.arity-n.ensures.0 l.auto.j-end m l.invariant.1 c.if-closed.false;
     }

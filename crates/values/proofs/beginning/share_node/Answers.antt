@@ -18,7 +18,7 @@ pub returns-then-is_variable : goal.returns-then-is_variable
 returns-then-is_variable c =
     let v = c.share_variable-end.ensures in
     let k = eqb-true _ _ (sym c.is_variable.ensures ∙ c.if-is_variable.true) in record {
-      sharing_2 = sharing_skip _ _ _ _ _ _ _ c.requires.sharing.0 v.heads_before_2.0 v.by_index k;
+      sharing_2 = sharing_skip _ _ _ _ _ _ c.requires.sharing.0 v.heads_before_2.0 v.by_index k;
       least_before_2 = (v.least_before_2, v.heads_before_2.1);
       open_before_2 = open_variable _ _ _ _ _ c.requires.sharing.0.before.sections c.requires.open_before.0 c.requires.sharing.1
           c.requires.open_before.1 k c.note_count-opens.ensures;

@@ -1,5 +1,4 @@
 use native.Mathlib.Omega.{arith}
-use borrow.Author.Rules.{rules}
 use Rattle.values.proofs.PreparedLaws.{open_none}
 use Rattle.values.proofs.BeginLaws.{open_here, open_on, shared_all}
 use Rattle.values.proofs.beginning.share_nodes.Goals as goal
@@ -9,8 +8,6 @@ node_count-n-requires c = c.requires.sharing.0.before.sections
 
 pub loop-i-init : goal.loop-i-init
 loop-i-init c = (
-  c.node_count-n.ensures.0,
-  search rules,
   c.requires.sharing.0,
   c.requires.sharing.1,
   c.requires.circles_before.0,
@@ -20,26 +17,24 @@ loop-i-init c = (
 pub share_node-counted-requires : goal.share_node-counted-requires
 share_node-counted-requires c =
     let l = c.loop-i in record {
-      sharing = (l.invariant.2, omega (arith, l.invariant.0, c.loop-i-test.true));
-      least_before = (l.invariant.3, l.invariant.4);
-      open_before = (open_here l.invariant.5, omega (arith, l.invariant.5.size, c.requires.circles_before.1));
+      sharing = (l.invariant.0, omega (arith, c.node_count-n.ensures.0, c.loop-i-test.true));
+      least_before = (l.invariant.1, l.invariant.2);
+      open_before = (open_here l.invariant.3, omega (arith, l.invariant.3.size, c.requires.circles_before.1));
     }
 
 pub loop-i-preserved : goal.loop-i-preserved
 loop-i-preserved c =
     let l = c.loop-i in
     let e = c.share_node-counted.ensures in (
-      l.invariant.0,
-      omega (arith, c.loop-i-test.true),
       e.sharing_2,
       e.least_before_2.0,
       e.least_before_2.1,
-      open_on l.invariant.5 e.open_before_2,
+      open_on l.invariant.3 e.open_before_2,
     )
 
 pub returns : goal.returns
 returns c =
     let l = c.loop-i in
-    let p = shared_all _ _ _ _ _ _ _ _ _ _ _ l.i _ l.invariant.0 l.invariant.1 c.loop-i-test.false l.invariant.2 l.invariant.3 l.invariant.4
-    l.invariant.5 in
+    let p = shared_all _ _ _ _ _ _ _ _ _ _ l.i _ c.node_count-n.ensures.0 l.auto.i-end c.loop-i-test.false l.invariant.0 l.invariant.1 l.invariant.2
+    l.invariant.3 in
     record { heads_before = p.0; least_before = p.1.0; open_before = p.1.1 }

@@ -1,7 +1,4 @@
 -- The nodes before i have their heads, are in circles and are counted.
-use Prim.Native.Nat.{◌≤◌, ◌-◌}
-use mathlib.Core.Path.{◌≡◌}
-use Rattle.table.specs.Layout.{node_count}
 use Rattle.nodes.specs.Code.Circle.{CirclesBefore}
 use Rattle.values.specs.Code.Present.{LeastBefore}
 use Rattle.values.specs.Code.Prepared.{OpenBefore}
@@ -10,9 +7,5 @@ use Rattle.values.proofs.beginning.share_nodes.Given as goal
 
 abbrev pub invariant-loop-i : goal.invariant-loop-i
 invariant-loop-i l =
-    (l.n ≡ node_count l.nodes) × (l.i ≤ l.n) × Sharing l.nodes l.arguments l.heads l.buckets l.earlier l.i ×
-    LeastBefore l.nodes l.least l.i l.counted.end ×
+    Sharing l.nodes l.arguments l.heads l.table l.i × LeastBefore l.nodes l.least l.i l.counted.end ×
     CirclesBefore l.heads l.next l.i × OpenBefore l.nodes l.arguments l.initial.counts l.counts l.counted.opens l.i
-
-abbrev pub decreases-loop-i : goal.decreases-loop-i
-decreases-loop-i l = l.n - l.i

@@ -1,6 +1,6 @@
 -- Each way round hands the branch on with one left term less to go, so the measure falls. Each way through the code is a law of the
 -- definition that mirrors it.
-use Prim.Native.Nat.{suc, ◌+◌, ◌*◌, ◌-◌}
+use Prim.Native.Nat.{◌≤◌, ◌+◌, ◌*◌, ◌-◌, max}
 use mathlib.Core.Path.{◌≡◌}
 use Rattle.table.specs.Layout.{word}
 use Rattle.branches.specs.Code.Known.{right_count}
@@ -18,9 +18,5 @@ decreases-walk_pair l = 2 * (word l.known.now 578 - l.position.term)
 
 abbrev pub invariant-walk-loop-d : goal.invariant-walk-loop-d
 invariant-walk-loop-d l =
-    (l.m ≡ right_count l.known) × (l.heads ≡ l.initial.heads) × (l.next ≡ l.initial.next) ×
+    (l.m ≡ right_count l.known) × (l.d ≤ max l.initial.d (l.m + 1)) × (l.heads ≡ l.initial.heads) × (l.next ≡ l.initial.next) ×
     Turning l.nodes l.arguments l.known l.initial.heads l.initial.entry l.initial.out l.i l.initial.d l.at l.d l.entry l.out l.used
-
-abbrev pub decreases-walk-loop-d : goal.decreases-walk-loop-d
-decreases-walk-loop-d l =
-    suc l.m - l.d

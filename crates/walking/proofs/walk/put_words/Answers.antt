@@ -7,14 +7,15 @@ pub returns-then-words-end : goal.returns-then-words-end
 returns-then-words-end c =
     bound_none c.requires.known_of.0 c.requires.len _ _ c.at.ensures.0 c.at-2.ensures.0 c.if-words-end.true
 
-pub bind-requires : goal.bind-requires
-bind-requires c =
-    let k = c.requires.known_of.0 in
-    let l = list_part k _ c.at-list_end.ensures.0 in record {
-      sections = (k.sections, k.counts);
-      formed = (c.requires.known_of.1, opens_part k _ c.at-opens_end.ensures.0);
-      list_value = (l, omega (arith, k.width, c.requires.len, c.at-list_end.ensures.0, c.at-2.ensures.0, c.at.ensures.0));
-    }
+pub bind-requires-clause-formed : goal.bind-requires-clause-formed
+bind-requires-clause-formed c = (c.requires.known_of.1, opens_part c.requires.known_of.0 _ c.at-opens_end.ensures.0)
+
+pub bind-requires-clause-list_value : goal.bind-requires-clause-list_value
+bind-requires-clause-list_value c =
+    let k = c.requires.known_of.0 in (
+      list_part k _ c.at-list_end.ensures.0,
+      omega (arith, k.width, c.requires.len, c.at-list_end.ensures.0, c.at-2.ensures.0, c.at.ensures.0),
+    )
 
 pub returns : goal.returns
 returns c =

@@ -14,19 +14,14 @@ returns-then-out-at c =
     leaf_full g (leaf_paired g _ _ c.at-k.ensures.0 c.at.ensures.0 c.if-k-paired.false)
     c.if-out-at.true
 
-pub write_rights-requires : goal.write_rights-requires
-write_rights-requires c =
+pub write_rights-requires-clause-nonzero : goal.write_rights-requires-clause-nonzero
+write_rights-requires-clause-nonzero c =
     let g = c.requires in
     let d = c.at-k.ensures.0 in
-    let w = leaf_paired g _ _ d c.at.ensures.0
-    c.if-k-paired.false in
+    let w = leaf_paired g _ _ d c.at.ensures.0 c.if-k-paired.false in
     let p = c.put_words in
     let q = p.auto.entry in
-    let e = c.at-n.ensures.0 in
-    let f = c.at-2.ensures.0 in record {
-      k_le_max_labels = omega (arith, g.knows.left_labels_lem, g.knows.width, g.branching.size, g.room, d, e, f, q, c.if-out-at.false);
-      nonzero = (omega (arith, g.wide, g.branching.size, q), read_least g w p.ensures q _ _ _ d e f);
-    }
+    (omega (arith, g.wide, g.branching.size, q), read_least g w p.ensures q _ _ _ d c.at-n.ensures.0 c.at-2.ensures.0)
 
 pub returns : goal.returns
 returns c =
