@@ -1,10 +1,10 @@
 // Looking ahead: the pairs of terms that may be, and a bit for each left term and each set of paired right terms. Closed terms that differ
 // and different symbols are struck out first; where that leaves no choice, nothing is unified.
-ghost use Rattle.std.specs.Prelude.{◌≡◌, false, List, ℕ, ◌<◌, length, replicate};
+ghost use Rattle.std.specs.Prelude.{◌≡◌, false, List, ℕ, ◌<◌, cond, eqb, length, replicate};
 ghost use Rattle.table.specs.Layout.{node_count};
 ghost use Rattle.nodes.specs.Code.Trail.{Trailed};
 ghost use Rattle.nodes.specs.Code.Formed.{Formed};
-ghost use Rattle.branches.specs.Code.Known.{KnownOf, KeepsKnown};
+ghost use Rattle.branches.specs.Code.Known.{left_labels, KnownOf, KeepsKnown};
 ghost use Rattle.branches.specs.Code.Walk.{Standing, LooksAhead};
 ghost use Rattle.ahead.specs.Code.Whole.{NotFit, WholeRows};
 
@@ -51,6 +51,7 @@ pub fn leave(nodes: &[u32], arguments: &[u32], known: &mut [u8])
 // The first left term whose pairs are tried: where there are left labels, the second.
 pub fn first_tried(known: &[u8]) -> usize
     requires { 580 < length known.now }
+    ensures { result ≡ cond (eqb (left_labels known.now) 0) 0 1 }
 {
     if known[LEFT_LABELS] == 0 { 0 } else { 1 }
 }

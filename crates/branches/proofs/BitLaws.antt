@@ -1,4 +1,4 @@
--- Bits of sets of right terms: a set with a term more is a set.
+-- Bits of sets of right terms: a power of two is small, and a set with a term more is a set.
 -- By cases of the eight places. Assumes nothing.
 use Prim.Native.Nat.{ℕ, zero, suc, ◌+◌, ◌-◌, ◌*◌, ◌/◌, ◌%◌, ◌^◌, ◌≤◌, ◌<◌}
 use mathlib.Core.Bool.{Bool, true, false}
@@ -6,9 +6,14 @@ use mathlib.Core.List.{List}
 use mathlib.Core.Path.{◌≡◌, sym, ap, ◌∙◌}
 use native.Mathlib.Omega.{arith}
 use borrow.Author.Tests.{eq-eqb, ne_eqb}
+use lib.Pow.{pow_mono}
 use Rattle.table.specs.Layout.{word}
 use Rattle.branches.specs.Code.Ahead.{has, bit_at}
 use Rattle.branches.specs.Code.Branch.{IsOpen, may, struck, taken, lost}
+
+-- a power of two is small
+pub power_small : (k : ℕ) → k ≤ 7 → 2 ^ k ≤ 128
+power_small k h = pow_mono {i = k} {j = 7} h
 
 -- what holds at eight places
 eight : (P : ℕ → Type 0) → P 0 → P 1 → P 2 → P 3 → P 4 → P 5 → P 6 → P 7 → (k : ℕ) → k ≤ 7 → P k

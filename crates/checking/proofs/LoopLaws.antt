@@ -95,18 +95,28 @@ nodes_end ns args i earlier e a b f =
     let s : earlier ≡ counts_before ns (node_count ns) = e ∙ ap (counts_before ns) (let q : i ≡ node_count ns = omega arith in q) in
     rw (some_end (node_is_wrong ns) i (node_count ns) a b f, s)
 
--- Refusal 5, at node i, from a test of the elements of its run.
-pub run_tested : (ns args : List ℕ) (i : ℕ) → first_of ns i + count_of ns i ≤ length args →
-    list_any (leb i) (take ((first_of ns i + count_of ns i) - first_of ns i) (drop (first_of ns i) args)) ≡ run_is_wrong ns args i
-unfolding run_is_wrong argument_is_wrong
-run_tested ns args i h =
-    let z : (first_of ns i + count_of ns i) - first_of ns i ≡ count_of ns i = omega arith in
-    let d = length-drop (first_of ns i) args in
-    let n = length-take-le (count_of ns i) (drop (first_of ns i) args) (omega (arith, d, h)) in
-    let run = take (count_of ns i) (drop (first_of ns i) args) in
-    let at : (j : ℕ) → j < length run → leb i (word run j) ≡ argument_is_wrong ns args i j =
-    λ j l. ap (leb i) (get_or-take (count_of ns i) (drop (first_of ns i) args) j 0 (omega (arith, l, n)) ∙ get_or-drop (first_of ns i) args j 0) in
-    rw z (some_any (leb i) (argument_is_wrong ns args i) run at ∙ ap (λ (k : ℕ). some_below k (argument_is_wrong ns args i)) n)
+-- Refusal 5, at node i: the run of its arguments, as it lies in the section.
+module _ (ns args : List ℕ) (i : ℕ) (h : first_of ns i + count_of ns i ≤ length args) where
+  abbrev pub run_of : List ℕ
+  run_of = take ((first_of ns i + count_of ns i) - first_of ns i) (drop (first_of ns i) args)
+
+  pub run_long : length run_of ≡ count_of ns i
+  run_long =
+      let d = length-drop (first_of ns i) args in
+      length-take-le ((first_of ns i + count_of ns i) - first_of ns i) (drop (first_of ns i) args) (omega (arith, d, h)) ∙ omega arith
+
+  pub run_at : (j : ℕ) → j < length run_of → leb i (word run_of j) ≡ argument_is_wrong ns args i j
+  unfolding argument_is_wrong
+  run_at j l =
+      let n = run_long in
+      let run = (first_of ns i + count_of ns i) - first_of ns i in
+      let in_run = get_or-take run (drop (first_of ns i) args) j 0 (omega (arith, l, n)) in
+      ap (leb i) (in_run ∙ get_or-drop (first_of ns i) args j 0)
+
+  -- from a test of its elements
+  pub run_tested : list_any (leb i) run_of ≡ run_is_wrong ns args i
+  unfolding run_is_wrong
+  run_tested = some_any (leb i) (argument_is_wrong ns args i) run_of run_at ∙ ap (λ (k : ℕ). some_below k (argument_is_wrong ns args i)) run_long
 
 -- Refusal 7, at label i, with whether it is repeated.
 module _ (ls : List ℕ) (i x : ℕ) (e : x ≡ word ls i) (r : Bool) (tested : r ≡ some_below i (labels_are_equal ls i)) where

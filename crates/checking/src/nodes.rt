@@ -65,9 +65,12 @@ fn wrong_run(nodes: &[u32], arguments: &[u32], node: Node) -> bool
 {
     let first = layout::first(nodes, node) as usize;
     let count = layout::count(nodes, node) as usize;
-    arguments[first..first + count]
-        .iter()
-        .any(|argument| Node(*argument) >= node)
+    for argument in &arguments[first..first + count] {
+        if *argument >= node.0 {
+            return true;
+        }
+    }
+    false
 }
 
 // An argument is not smaller than its node.

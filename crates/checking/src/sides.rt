@@ -11,7 +11,12 @@ use table::limits::MAX_LABEL;
 pub fn wrong_terms(terms: &[u32], n: u32) -> bool
     ensures { result ≡ wrong_term n terms.now }
 {
-    terms.iter().any(|term| *term >= n)
+    for term in terms {
+        if *term >= n {
+            return true;
+        }
+    }
+    false
 }
 
 // Label i is equal to an earlier one.

@@ -18,7 +18,7 @@ use Rattle.unification.proofs.ListLaws.{map_same}
 use Rattle.multiset_unification.specs.Computed.Choices.{branch}
 use Rattle.entries.specs.declared.writing.Full.{Full}
 use Rattle.entries.specs.Code.Writing.{put, full, Writes, Block, repeated, marked, marks_from, right_entries, Least}
-use Rattle.entries.proofs.WritingLaws.{entry_fits, writes_block, writes_full, repeat_writes}
+use Rattle.entries.proofs.WritingLaws.{entry_fits, none_fits, writes_block, writes_full, repeat_writes}
 
 -- the marks from a place on are its word and those after it
 marks_cons : (e : List ℕ) (p end : ℕ) → p < end → end ≤ length e → marks_from e p end ≡ get_or e p 0 ∷ marks_from e (p + 1) end
@@ -225,6 +225,11 @@ rights_kept k e p end h l f i =
     let b = length-take-le (end - p) (drop p e) (omega (arith, length-drop p e, l)) in
     rw (← r.2) (with_words e p end r.0 h l (a ∙ b))
 
+-- those of n left digits and m right ones
+pub right_words : (k : ℕ) (e : List ℕ) (n m : ℕ) → n + m ≤ length e → (f : List ℕ) → Memᴰ f (right_entries k e n (n + m)) →
+    (length f ≡ length e) × (drop (n + m) f ≡ drop (n + m) e)
+right_words k e n m l f i = rights_kept k e n (n + m) (omega arith) l f i
+
 -- at the end of the places the entry is written
 pub rights_first : (k : ℕ) (e : List ℕ) (end : ℕ) (lent : List ℕ) (at : ℕ) {lent' : List ℕ} → at + length e ≤ length lent → lent' ≡ put at e lent →
     Writes (right_entries k e end end) lent at lent' (Ok (at + length e))
@@ -234,6 +239,20 @@ rights_first k e end lent at h q = rw (rights_end k e end end refl) (entry_fits 
 pub rights_few : (k : ℕ) (e : List ℕ) (p end : ℕ) (lent : List ℕ) (at : ℕ) {lent' : List ℕ} → k < 2 → p ≤ end → end ≤ length e → Least k e p end →
     at + length e ≤ length lent → lent' ≡ put at e lent → Writes (right_entries k e p end) lent at lent' (Ok (at + length e))
 rights_few k e p end lent at b h l g m q = rw (rights_one k e p end b h l g) (entry_fits e lent at (omega (arith, m)) q)
+
+-- where the entry does not fit, none of them does
+pub rights_over : (k : ℕ) (e : List ℕ) (p end : ℕ) (lent : List ℕ) (at : ℕ) → p ≤ end → end ≤ length e → Least k e p end →
+    length lent - at < length e → Writes (right_entries k e p end) lent at lent (Err full)
+rights_over k e p end lent at h l g o =
+    let s = rights_rest k e p end g l end h (omega arith) in
+    let z : 0 < length (right_entries k e p end) = omega (
+      arith,
+      ap length s.1,
+      ap length (rights_end k e end end refl),
+      length-append
+          (right_entries k e end end) s.0,
+    ) in
+    none_fits (right_entries k e p end) lent at z (λ f i. let n = rights_kept k e p end h l f i in omega (arith, o, n.0))
 
 module _ (k : ℕ) (e : List ℕ) (p q end : ℕ) (h : p < q) (m : q ≤ end) (l : end ≤ length e) {lent : List ℕ} {at : ℕ} {lent₁ : List ℕ} {r₁ : ℕ}
     (w : Writes (right_entries k e q end) lent at lent₁ (Ok r₁)) where

@@ -18,36 +18,43 @@ const MOST_WORDS: usize = 2048;
 // The most words that are lent.
 const MOST_LENT: usize = 2048;
 
-// The word that digits spell. (What is beyond 32 bits is dropped.)
-fn parse_word(digits: &[u8]) -> u32 {
-    digits.iter().fold(0u32, |word, digit| {
-        word.wrapping_mul(10)
-            .wrapping_add(u32::from(digit.wrapping_sub(b'0')))
-    })
+// A word with one digit more. (What is beyond 32 bits is dropped.)
+fn with_digit(word: u32, digit: u8) -> u32 {
+    word.wrapping_mul(10)
+        .wrapping_add(u32::from(digit.wrapping_sub(b'0')))
+}
+
+// Puts a word at a place, if there is room for it.
+fn put_word(words: &mut [u32], i: usize, word: u32) {
+    if let Some(place) = words.get_mut(i) {
+        *place = word;
+    }
 }
 
 // Puts the words that a text spells, with anything but digits between them, into lent words, and answers how many there are. Those without room are only counted.
 fn parse_words(text: &[u8], words: &mut [u32]) -> usize {
     let mut count: usize = 0;
-    let spelt = text
-        .split(|byte| !byte.is_ascii_digit())
-        .filter(|digits| !digits.is_empty());
-    for digits in spelt {
-        if let Some(word) = words.get_mut(count) {
-            *word = parse_word(digits);
+    let mut spelt = None;
+    for byte in text {
+        if byte.is_ascii_digit() {
+            spelt = Some(with_digit(spelt.unwrap_or(0), *byte));
+        } else if let Some(word) = spelt.take() {
+            put_word(words, count, word);
+            count = count.saturating_add(1);
         }
+    }
+    if let Some(word) = spelt {
+        put_word(words, count, word);
         count = count.saturating_add(1);
     }
     count
 }
 
-// Words to lend, with numbers that are no nodes, all different.
-fn words_to_lend() -> [u32; MOST_LENT] {
-    let mut words = [0u32; MOST_LENT];
+// Fills the words that are lent with numbers that are no nodes, all different.
+fn fill(words: &mut [u32; MOST_LENT]) {
     for (i, word) in words.iter_mut().enumerate() {
         *word = 9000 + i as u32;
     }
-    words
 }
 
 fn print_refusal(out: &mut impl Write, refusal: Refusal) -> io::Result<()> {
@@ -56,9 +63,10 @@ fn print_refusal(out: &mut impl Write, refusal: Refusal) -> io::Result<()> {
 
 fn print_checked(out: &mut impl Write, checked: Result<(), Refusal>) -> io::Result<()> {
     match checked {
-        Ok(()) => write!(out, ": accepted"),
-        Err(refusal) => print_refusal(out, refusal),
+        Ok(()) => write!(out, ": accepted")?,
+        Err(refusal) => print_refusal(out, refusal)?,
     }
+    writeln!(out)
 }
 
 fn print_unification(
@@ -88,7 +96,7 @@ fn print_lent(out: &mut impl Write, lent: &[u32]) -> io::Result<()> {
     for word in lent {
         write!(out, " {word}")?;
     }
-    Ok(())
+    writeln!(out)
 }
 
 // Unifies two nodes of a table, and prints the answer and the lent words after it. The name has the nodes' numbers and how many words are lent.
@@ -96,10 +104,13 @@ fn answer_unification(out: &mut impl Write, name: &[u8], table: &[u32]) -> io::R
     let mut given = [0u32; 3];
     parse_words(name, &mut given);
     let [a, b, count] = given;
-    let mut words = words_to_lend();
-    let Some(lent) = words.get_mut(..count as usize) else {
-        return write!(out, ": too many lent");
-    };
+    let count = count as usize;
+    if count > MOST_LENT {
+        return out.write_all(b": too many lent\n");
+    }
+    let mut words = [0u32; MOST_LENT];
+    fill(&mut words);
+    let lent = &mut words[..count];
     print_unification(out, unify::unify(table, Node(a), Node(b), lent))?;
     print_lent(out, lent)
 }
@@ -109,10 +120,13 @@ fn answer_listing(out: &mut impl Write, name: &[u8], table: &[u32]) -> io::Resul
     let mut given = [0u32; 1];
     parse_words(name, &mut given);
     let [count] = given;
-    let mut words = words_to_lend();
-    let Some(lent) = words.get_mut(..count as usize) else {
-        return write!(out, ": too many lent");
-    };
+    let count = count as usize;
+    if count > MOST_LENT {
+        return out.write_all(b": too many lent\n");
+    }
+    let mut words = [0u32; MOST_LENT];
+    fill(&mut words);
+    let lent = &mut words[..count];
     print_listing(out, listing::list(table, lent))?;
     print_lent(out, lent)
 }
@@ -136,10 +150,9 @@ fn run_line(out: &mut impl Write, line: &[u8]) -> io::Result<()> {
     let mut words = [0u32; MOST_WORDS];
     let count = parse_words(table, &mut words);
     match words.get(..count) {
-        Some(table) => answer(out, name, table)?,
-        None => write!(out, ": too many words")?,
+        Some(table) => answer(out, name, table),
+        None => out.write_all(b": too many words\n"),
     }
-    writeln!(out)
 }
 
 fn run(out: &mut impl Write, input: &[u8]) -> io::Result<()> {

@@ -43,19 +43,20 @@ fn unify_with_room(
     let opens_end = OPENS + begun.opens;
     let list_end = LIST + v;
     let unification = extend(nodes, arguments, counts, heads, next, a, b);
-    if unification == Unification::Unified {
-        let known = &counts[..];
-        bind(
-            nodes,
-            arguments,
-            known,
-            &known[OPENS..opens_end],
-            &known[LIST..list_end],
-            heads,
-            out,
-        );
+    if unification != Unification::Unified {
+        return Ok(unification);
     }
-    Ok(unification)
+    let known = &counts[..];
+    bind(
+        nodes,
+        arguments,
+        known,
+        &known[OPENS..opens_end],
+        &known[LIST..list_end],
+        heads,
+        out,
+    );
+    Ok(Unification::Unified)
 }
 
 // Unifies two nodes of the sections of an accepted table.

@@ -31,11 +31,10 @@ impl Applications {
         requires { (place < max_nodes) × (key < keys) }
         ensures { self.new ≡ with_place self.old place key }
     {
-        self.earlier[place] = self.latest[key];
-        self.latest[key] = Some(place as u8);
+        self.earlier[place] = self.latest[key].replace(place as u8);
     }
 
-    // The last place with a key that passes a test.
+    // A place with a key that passes a test: the places are tried from the last that was put in.
     pub fn find<F: Fn(usize) -> bool>(&self, key: usize, passes: F) -> Option<usize>
         requires key_bound { key < keys }
         requires falls { Falls self.now key }

@@ -7,17 +7,18 @@ ghost use Rattle.nodes.specs.Code.Named.{value_name, Readable, Themselves};
 ghost use Rattle.values.specs.Code.Applications.{keys};
 ghost use Rattle.values.specs.Code.Naming.{symbol_key, longer_key, key_of, ComparedBy, Compared, Naming, NamedAlong};
 
-use crate::applications::{Applications, KEYS};
+use crate::applications::Applications;
+pub use crate::applications::KEYS;
 use nodes::{lists, sections};
 use table::layout::index;
 use table::{Node, layout};
 
 // 2^16 over the golden ratio: the upper eight of the 16 bits of a name's product with it spread names that lie at equal distances.
-const NAME_FACTOR: usize = 40503;
+pub const NAME_FACTOR: usize = 40503;
 
 // 2^8 over the golden ratio, about: the place of an argument counts in the key. One more than it is not a multiple of 4, so that terms
 // with the same argument twice have many keys.
-const ARGUMENT_FACTOR: usize = 157;
+pub const ARGUMENT_FACTOR: usize = 157;
 
 // The name of the value of argument j of a node.
 fn argument_name(

@@ -1,16 +1,25 @@
 -- A term that is no node is met, or none is.
-use mathlib.Core.Path.{refl, ◌∙◌}
+use mathlib.Core.Path.{refl, sym}
 use borrow.Author.Rules.{rules}
-use borrow.Author.Tests.{tests}
-use lib.Dec.{leb}
-use Rattle.std.proofs.lemmas.Iterator.{YieldsList-from_slice}
-use Rattle.std.proofs.lemmas.Iterator.Search.{any_from_yields_List}
+use borrow.Author.Tests.{le-leb, lt-leb}
+use native.Mathlib.Omega.{arith}
+use Rattle.table.specs.Some.{some_below}
 use Rattle.table.specs.Conditions.{term_is_wrong, wrong_term}
-use Rattle.table.proofs.SomeLaws.{some_any}
+use Rattle.table.proofs.SomeLaws.{some_here, some_next, some_end}
 use Rattle.checking.proofs.sides.wrong_terms.Goals as goal
 
-pub returns : goal.returns
+pub loop-term-init : goal.loop-term-init
+unfolding some_below
+loop-term-init c = refl
+
+pub returns-then-term-n : goal.returns-then-term-n
 unfolding wrong_term term_is_wrong
-returns c =
-    any_from_yields_List (leb c.args.n) _ _ _ c.any.ensures.ran (YieldsList-from_slice c.args.terms.now cc) (λ x b q k. search (rules, tests))
-    ∙ some_any _ _ _ (λ i h. refl)
+returns-then-term-n c = sym (some_here _ c.loop-term.term-index _ c.loop-term-test.true (le-leb _ _ c.if-term-n.true))
+
+pub loop-term-preserved : goal.loop-term-preserved
+unfolding term_is_wrong
+loop-term-preserved c = some_next _ _ c.loop-term.invariant (lt-leb _ _ c.if-term-n.false)
+
+pub returns : goal.returns
+unfolding wrong_term
+returns c = sym (some_end _ c.loop-term.term-index _ (search rules) (search rules) c.loop-term.invariant)
