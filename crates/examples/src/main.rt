@@ -24,11 +24,12 @@ fn with_digit(word: u32, digit: u8) -> u32 {
         .wrapping_add(u32::from(digit.wrapping_sub(b'0')))
 }
 
-// Puts a word at a place, if there is room for it.
-fn put_word(words: &mut [u32], i: usize, word: u32) {
+// Puts a word at a place, if there is room for it, and answers the next place.
+fn put_word(words: &mut [u32], i: usize, word: u32) -> usize {
     if let Some(place) = words.get_mut(i) {
         *place = word;
     }
+    i.saturating_add(1)
 }
 
 // Puts the words that a text spells, with anything but digits between them, into lent words, and answers how many there are. Those without room are only counted.
@@ -39,15 +40,13 @@ fn parse_words(text: &[u8], words: &mut [u32]) -> usize {
         if byte.is_ascii_digit() {
             spelt = Some(with_digit(spelt.unwrap_or(0), *byte));
         } else if let Some(word) = spelt.take() {
-            put_word(words, count, word);
-            count = count.saturating_add(1);
+            count = put_word(words, count, word);
         }
     }
-    if let Some(word) = spelt {
-        put_word(words, count, word);
-        count = count.saturating_add(1);
+    match spelt {
+        Some(word) => put_word(words, count, word),
+        None => count,
     }
-    count
 }
 
 // Fills the words that are lent with numbers that are no nodes, all different.

@@ -2,7 +2,6 @@
 use mathlib.Core.Path.{refl, sym}
 use borrow.Author.Rules.{rules}
 use borrow.Author.Tests.{le-leb, lt-leb}
-use native.Mathlib.Omega.{arith}
 use Rattle.table.specs.Some.{some_below}
 use Rattle.table.specs.Conditions.{term_is_wrong, wrong_term}
 use Rattle.table.proofs.SomeLaws.{some_here, some_next, some_end}
